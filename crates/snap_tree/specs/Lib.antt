@@ -1,0 +1,4 @@
+pub mod Trees
+pub mod Codes
+pub mod Grown
+pub mod Words
