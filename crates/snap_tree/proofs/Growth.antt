@@ -1,9 +1,8 @@
 -- Rows and the trees that they make.
-use Rattle.std.proofs.Common.{◌≡◌, ℕ, suc, ◌+◌, List, [], ◌∷◌, ◌++◌, Bool, true, false, Option, Some, None, unwrap_or, option_map, if◌then◌else◌, refl, sym, ◌∙◌, ap, arith, append_assoc}
-use Rattle.std.proofs.lemmas.List.{append-nil}
+use Rattle.std.proofs.Common.{◌≡◌, List, [], ◌∷◌, ◌++◌, Bool, true, false, Option, Some, None, unwrap_or, option_map, if◌then◌else◌, refl, sym, ◌∙◌, ap, append_assoc}
 use Rattle.std.specs.Option.{option_or}
 use Rattle.snap_tree.specs.declared.row.Row.{Row}
-use Rattle.snap_tree.specs.Trees.{Trees, empty, tree, rows_of, count, sizes_of, beside}
+use Rattle.snap_tree.specs.Trees.{Trees, empty, tree, rows_of, beside}
 use Rattle.snap_tree.specs.Grown.{names, taken, left, grown, under, planted}
 
 pub rows_of-beside : (a b : Trees) → rows_of (beside a b) ≡ rows_of a ++ rows_of b
@@ -28,10 +27,10 @@ pub taken-beside-left : (r : Row) (t : Trees) → beside (taken r t) (left r t) 
 taken-beside-left r empty = refl
 taken-beside-left r (tree x kids after) = taken-beside-left_by r x kids after (names x r) refl (taken-beside-left r after)
 
-pub rows_of-grown : (rows : List Row) → rows_of (grown rows) ≡ rows
-rows_of-grown [] = refl
-rows_of-grown (r ∷ rows) =
-    ap (λ (rs : List Row). r ∷ rs) (sym (rows_of-beside (taken r (grown rows)) (left r (grown rows))) ∙ ap rows_of (taken-beside-left r (grown rows)) ∙ rows_of-grown rows)
+pub rows_of_grown : (rows : List Row) → rows_of (grown rows) ≡ rows
+rows_of_grown [] = refl
+rows_of_grown (r ∷ rows) =
+    ap (λ (rs : List Row). r ∷ rs) (sym (rows_of-beside (taken r (grown rows)) (left r (grown rows))) ∙ ap rows_of (taken-beside-left r (grown rows)) ∙ rows_of_grown rows)
 
 -- ---- planting
 
@@ -57,10 +56,10 @@ pub record SameRoot (x : Row) (t : Trees) : Type 0 where
 same_root : (r x : Row) (k s : Trees) → SameRoot x (planted r (tree x k s))
 same_root r x k empty = by_open (under r k) (names r x)
   where
-  by_open : (o : Option Trees) (b : Bool) → SameRoot x (unwrap_or (option_or (option_map (λ k'. tree x k' empty) o) (if b then Some (tree x (beside k (leaf r)) empty) else None)) (tree x k (leaf r)))
-  by_open (Some t) b = record { kids = t; after = empty; is = refl }
-  by_open None true = record { kids = beside k (leaf r); after = empty; is = refl }
-  by_open None false = record { kids = k; after = leaf r; is = refl }
+    by_open : (o : Option Trees) (b : Bool) → SameRoot x (unwrap_or (option_or (option_map (λ k'. tree x k' empty) o) (if b then Some (tree x (beside k (leaf r)) empty) else None)) (tree x k (leaf r)))
+    by_open (Some t) b = record { kids = t; after = empty; is = refl }
+    by_open None true = record { kids = beside k (leaf r); after = empty; is = refl }
+    by_open None false = record { kids = k; after = leaf r; is = refl }
 same_root r x k (tree y b a) = record { kids = k; after = planted r (tree y b a); is = planted-more r x y k b a }
 
 -- a row that the first root doesn't name takes nothing
@@ -126,4 +125,4 @@ grown-push [] r = refl
 grown-push (x ∷ rows) r = ap (takes x) (grown-push rows r) ∙ takes-planted r x (grown rows)
 
 pub rows_of-planted : (rows : List Row) (r : Row) → rows_of (planted r (grown rows)) ≡ rows ++ r ∷ []
-rows_of-planted rows r = ap rows_of (sym (grown-push rows r)) ∙ rows_of-grown (rows ++ r ∷ [])
+rows_of-planted rows r = ap rows_of (sym (grown-push rows r)) ∙ rows_of_grown (rows ++ r ∷ [])

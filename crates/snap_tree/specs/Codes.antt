@@ -1,7 +1,7 @@
 -- How a page is stored as numbers and lists, by which a proof tells pages apart.
 use Rattle.std.specs.Prelude.{◌≡◌, ℕ, zero, suc, List, [], ◌∷◌, ◌++◌, Bool, Option, Some, None, refl}
 use Rattle.std.specs.Coded.{Coded, code_by, coded×, coded⊎, coded_ℕ, coded_bool, coded_list, coded_option}
-use Rattle.std.proofs.Common.{inl, inr, ◌⊎◌, ap, ◌∙◌, append_assoc}
+use Rattle.std.proofs.Common.{inl, inr, ◌⊎◌, ap, ◌∙◌}
 use Rattle.snap_tree.specs.declared.row.NodeId.{NodeId}
 use Rattle.snap_tree.specs.declared.row.Space.{Space}
 use Rattle.snap_tree.specs.declared.row.Space.TheVariants.{Html, Svg, Other}

@@ -1,5 +1,5 @@
 -- The trees that rows make: each row goes under its parent.
-use Rattle.std.specs.Prelude.{◌==◌, ℕ, List, [], ◌∷◌, Bool, false, if◌then◌else◌, Option, Some, None, unwrap_or, option_map}
+use Rattle.std.specs.Prelude.{◌==◌, List, [], ◌∷◌, Bool, false, if◌then◌else◌, Option, Some, None, unwrap_or, option_map}
 use Rattle.std.specs.Option.{option_or}
 use Rattle.snap_tree.specs.declared.row.NodeId.{NodeId}
 use Rattle.snap_tree.specs.declared.row.Row.{Row}
@@ -35,7 +35,7 @@ abbrev pub under : Row → Trees → Option Trees
 under r empty = None
 under r (tree x kids empty) =
     option_or (option_map (λ k. tree x k empty) (under r kids))
-        (if names r x then Some (tree x (beside kids (tree r empty empty)) empty) else None)
+    (if names r x then Some (tree x (beside kids (tree r empty empty)) empty) else None)
 under r (tree x kids (tree y below after)) = option_map (tree x kids) (under r (tree y below after))
 
 -- the trees with one more row: under its parent, or as a root where it names none that is open

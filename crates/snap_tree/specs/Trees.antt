@@ -1,5 +1,5 @@
 -- Trees that stand side by side, and their rows in document order.
-use Rattle.std.specs.Prelude.{◌≡◌, ℕ, zero, suc, ◌+◌, List, [], ◌∷◌, ◌++◌, Option, Some, None, refl}
+use Rattle.std.specs.Prelude.{ℕ, suc, ◌+◌, List, [], ◌∷◌, ◌++◌}
 use Rattle.snap_tree.specs.declared.row.Row.{Row}
 
 -- trees that stand side by side: none, or a node with the trees below it and the trees after it

@@ -25,6 +25,13 @@ impl<T> List<T> {
         List { items }
     }
 
+    /// The items as a vector, in their order.
+    pub fn into_vec(self) -> Vec<T>
+        ensures { result.items ≡ self }
+    {
+        self.items
+    }
+
     /// The items as a slice.
     pub fn as_slice(&self) -> &[T]
         ensures { result.now ≡ self.now }

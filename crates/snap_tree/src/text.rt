@@ -1,5 +1,5 @@
 ghost use Rattle.std.specs.Prelude.{◌≡◌, ◌==◌, [], length, IfOk};
-ghost use Rattle.std.specs.String.{string_bytes, string_len};
+ghost use Rattle.std.specs.String.{string_bytes};
 
 use crate::memory::OutOfMemory;
 use std::alloc::Global;
@@ -37,6 +37,13 @@ impl Text {
         Ok(Text {
             string: String::from_str(alloc, text)?,
         })
+    }
+
+    /// The text that a string holds. It takes no memory.
+    pub fn from_string(string: String) -> Self
+        ensures { result ≡ string_bytes string }
+    {
+        Text { string }
     }
 
     /// The text as Rust's `str`.
