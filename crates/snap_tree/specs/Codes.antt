@@ -89,7 +89,7 @@ read-marks empty ts = refl
 read-marks (tree r kids after) ts =
     ap (put (Some r)) (read-append (marks kids) (marks after) ts ∙ ap (read (marks kids)) (read-marks after ts) ∙ read-marks kids (after ∷ ts))
 
-abbrev coded_trees : Coded Trees
+abbrev pub coded_trees : Coded Trees
 coded_trees = code_by (List (Option Row)) (coded_list (coded_option coded_row)) marks (λ ms. first (read ms [])) (λ t. ap first (read-marks t []))
 
 abbrev pub coded_document : Coded Document

@@ -1,5 +1,5 @@
 -- Words of a text. White space is Unicode's White_Space, and a text is its bytes in UTF-8.
-use Rattle.std.specs.Prelude.{ℕ, List, [], ◌∷◌, ◌++◌, map, Bool, if◌then◌else◌, encode_utf8}
+use Rattle.std.specs.Prelude.{◌≡◌, ◌<◌, ℕ, List, [], ◌∷◌, ◌++◌, map, Bool, if◌then◌else◌, encode_utf8, encode_utf8_all, length}
 use Rattle.std.specs.List.{list_all}
 use Rattle.std.specs.Char.{is_whitespace, to_ascii_lowercase}
 use Rattle.std.specs.Str.{chars}
@@ -22,6 +22,12 @@ cut word (c ∷ cs) = if is_whitespace c then ended word ++ cut [] cs else cut (
 abbrev pub words : List ℕ → List (List ℕ)
 words text = cut [] (chars text)
 
+-- the text's words are this one and those of the rest
+pub record IsFirstWord (text word rest : List ℕ) : Type 0 where
+  pub is : words text ≡ word ∷ words rest
+  pub not_empty : 0 < length word
+  pub shorter : length rest < length text
+
 -- words with one space between
 abbrev pub spaced : List (List ℕ) → List ℕ
 spaced [] = []
@@ -35,3 +41,16 @@ tidy text = spaced (words text)
 -- ASCII letters in lower case
 abbrev pub folded : List ℕ → List ℕ
 folded text = map to_ascii_lowercase text
+
+-- the characters before the first white space, and those from there on
+abbrev pub front : List ℕ → List ℕ
+front [] = []
+front (c ∷ cs) = if is_whitespace c then [] else c ∷ front cs
+
+abbrev pub back : List ℕ → List ℕ
+back [] = []
+back (c ∷ cs) = if is_whitespace c then c ∷ cs else back cs
+
+-- how many bytes stand before the first white space
+abbrev pub front_len : List ℕ → ℕ
+front_len text = length (encode_utf8_all (front (chars text)))

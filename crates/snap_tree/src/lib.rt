@@ -1,14 +1,18 @@
 //! Page snapshots as trees.
 #![tactic(auto)]
 
+mod branches;
 mod list;
 mod memory;
 mod row;
 mod text;
 mod tree;
+mod words;
 
+pub use branches::{Branch, Branches};
 pub use list::List;
 pub use memory::OutOfMemory;
 pub use row::{Attr, Body, Facts, NodeId, Raw, Row, Space};
 pub use text::Text;
 pub use tree::Tree;
+pub use words::{blank, next_word, tidy};

@@ -1,0 +1,64 @@
+ghost use Rattle.std.specs.Prelude.{◌≡◌, MatchOption};
+ghost use Rattle.snap_tree.specs.Trees.{empty, tree, sizes_of};
+ghost use Rattle.snap_tree.specs.Grown.{grown};
+
+use crate::row::Row;
+use std::marker::Model;
+
+/// Trees that stand side by side, lent from a page. Contracts see them as `Trees`.
+///
+/// Go over them by `while let Some(branch) = rest.first() { .. rest = branch.after; }`, and down by
+/// `branch.kids`.
+#[derive(Drop)]
+pub struct Branches<'a> {
+    rows: &'a [Row],
+    sizes: &'a [usize],
+}
+
+impl<'a> Model for Branches<'a> {
+    ghost use Rattle.std.specs.Prelude.{◌≡◌};
+    ghost use Rattle.snap_tree.specs.Trees.{Trees, sizes_of};
+    ghost use Rattle.snap_tree.specs.Grown.{grown};
+    ghost use Rattle.snap_tree.specs.Codes.{coded_trees};
+
+    ghost Value = { Trees };
+
+    ghost coded = { coded_trees };
+
+    ghost view = { λ b. grown b.rows.now };
+
+    ghost invariant = { λ b. b.sizes.now ≡ sizes_of (grown b.rows.now) };
+}
+
+/// The first of some trees: its root, the trees below that, and the trees after it.
+#[derive(Drop)]
+pub struct Branch<'a> {
+    pub row: &'a Row,
+    pub kids: Branches<'a>,
+    pub after: Branches<'a>,
+}
+
+impl<'a> Branches<'a> {
+    /// The trees that rows make, given the size of each subtree in document order.
+    pub(crate) fn over(rows: &'a [Row], sizes: &'a [usize]) -> Self
+        requires { sizes.now ≡ sizes_of (grown rows.now) }
+        ensures { result ≡ grown rows.now }
+    {
+        Branches { rows, sizes }
+    }
+
+    /// The first tree, or None where there is none.
+    pub fn first(&self) -> Option<Branch<'a>>
+        ensures { MatchOption result (self.now ≡ empty)
+            (λ branch. self.now ≡ tree branch.row.now branch.kids branch.after) }
+    {
+        let (row, rows) = self.rows.split_first()?;
+        let (size, sizes) = self.sizes.split_first()?;
+        let below = *size - 1;
+        let (kid_rows, later_rows) = rows.split_at(below);
+        let (kid_sizes, later_sizes) = sizes.split_at(below);
+        let kids = Branches::over(kid_rows, kid_sizes);
+        let after = Branches::over(later_rows, later_sizes);
+        Some(Branch { row, kids, after })
+    }
+}
