@@ -2,3 +2,5 @@ pub mod Trees
 pub mod Codes
 pub mod Grown
 pub mod Words
+pub mod Rows
+pub mod Faults

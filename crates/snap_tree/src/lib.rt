@@ -2,6 +2,8 @@
 #![tactic(auto)]
 
 mod branches;
+mod fault;
+mod limits;
 mod list;
 mod memory;
 mod row;
@@ -10,9 +12,10 @@ mod tree;
 mod words;
 
 pub use branches::{Branch, Branches};
+pub use fault::{BuildFault, TreeFault};
 pub use list::List;
 pub use memory::OutOfMemory;
-pub use row::{Attr, Body, Facts, NodeId, Raw, Row, Space};
+pub use row::{Attr, Body, Facts, NodeId, Raw, Row, Space, same_folded};
 pub use text::Text;
 pub use tree::Tree;
 pub use words::{blank, next_word, tidy};

@@ -1,3 +1,8 @@
+ghost use Rattle.std.specs.Prelude.{◌≡◌};
+ghost use Rattle.std.specs.Option.{option_copied};
+ghost use Rattle.std.specs.List.{find};
+ghost use Rattle.snap_tree.specs.Rows.{is_text, is_html, attrs_of, attribute, same_folded};
+
 use crate::list::List;
 use crate::text::Text;
 
@@ -56,4 +61,63 @@ pub struct Row {
 pub struct Raw {
     pub address: Text,
     pub rows: List<Row>,
+}
+
+impl Row {
+    /// Whether the node is a text.
+    pub fn is_text(&self) -> bool
+        ensures { result ≡ is_text self.now }
+    {
+        matches!(&self.body, Body::Words { .. })
+    }
+
+    /// Whether the node is an HTML element of this tag, which compares ASCII case-insensitively.
+    pub fn is_html(&self, tag: &str) -> bool
+        ensures { result ≡ is_html tag.now self.now }
+    {
+        match &self.body {
+            Body::Element {
+                space: Space::Html,
+                tag: own,
+                ..
+            } => same_folded(own.as_str(), tag),
+            _ => false,
+        }
+    }
+
+    /// The element's attributes in their order; none for a text.
+    pub fn attrs(&self) -> &[Attr]
+        ensures { result.now ≡ attrs_of self.now }
+    {
+        match &self.body {
+            Body::Element { attrs, .. } => attrs.as_slice(),
+            Body::Words { .. } => &[],
+        }
+    }
+
+    /// The value of the element's first attribute of this name, which compares ASCII
+    /// case-insensitively; None where there is no such attribute.
+    pub fn attribute(&self, name: &str) -> Option<&Text>
+        ensures { option_copied result ≡ attribute name.now self.now }
+    {
+        match find(self.attrs(), name) {
+            Some(attr) => Some(&attr.value),
+            None => None,
+        }
+    }
+}
+
+fn find<'a>(attrs: &'a [Attr], name: &str) -> Option<&'a Attr>
+    ensures { option_copied result ≡ find (λ a. same_folded a.name name.now) attrs.now }
+{
+    attrs
+        .iter()
+        .find(|attr| same_folded(attr.name.as_str(), name))
+}
+
+/// Whether two texts are equal but for the case of ASCII letters.
+pub fn same_folded(a: &str, b: &str) -> bool
+    ensures { result ≡ same_folded a.now b.now }
+{
+    a.eq_ignore_ascii_case(b)
 }

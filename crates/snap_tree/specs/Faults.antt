@@ -1,0 +1,69 @@
+-- The faults of rows in their one order, and the trees that have none.
+use Rattle.std.specs.Prelude.{◌==◌, ℕ, List, [], ◌∷◌, ◌++◌, length, Bool, false, nat_le, nat_lt, if◌then◌else◌, Option, Some, None, is_some}
+use Rattle.std.specs.Option.{option_or}
+use Rattle.std.specs.List.{list_any}
+use Rattle.snap_tree.specs.declared.row.Row.{Row}
+use Rattle.snap_tree.specs.declared.fault.TreeFault.{TreeFault}
+use Rattle.snap_tree.specs.declared.fault.TreeFault.TheVariants.{Empty, TooMany, DoubleNumber, ParentUnknownOrNotOpen, TooDeep, TextHasKids, RootNotElement}
+use Rattle.snap_tree.specs.Trees.{Trees, empty, tree}
+use Rattle.snap_tree.specs.Grown.{names, grown}
+use Rattle.snap_tree.specs.Rows.{has_number, is_text, own_fault}
+
+abbrev pub most_nodes : ℕ
+most_nodes = 10000
+
+abbrev pub most_depth : ℕ
+most_depth = 128
+
+-- the nodes that are open for one more row, the deepest first: the last root, its last child, and so on
+abbrev pub open_rows : Trees → List Row
+open_rows empty = []
+open_rows (tree x kids empty) = open_rows kids ++ x ∷ []
+open_rows (tree x kids (tree y below after)) = open_rows (tree y below after)
+
+-- of these, the one that the row names and those above it
+abbrev pub from_parent : Row → List Row → List Row
+from_parent r [] = []
+from_parent r (x ∷ xs) = if names r x then x ∷ xs else from_parent r xs
+
+-- the ancestors that a row gets where it comes next, its parent first
+abbrev pub ancestors : Row → Trees → List Row
+ancestors r t = from_parent r (open_rows t)
+
+-- its place: the first row has no parent, and each later one has an open parent
+abbrev pub is_misplaced : List Row → Row → List Row → Bool
+is_misplaced [] r above = is_some r.parent
+is_misplaced (x ∷ earlier) r above = length above == 0
+
+abbrev pub is_first_text : List Row → Row → Bool
+is_first_text [] r = is_text r
+is_first_text (x ∷ earlier) r = false
+
+abbrev pub is_below_text : List Row → Bool
+is_below_text [] = false
+is_below_text (parent ∷ above) = is_text parent
+
+-- the first fault of a row that comes after others, given the ancestors that it gets
+unfoldable pub placed_fault : List Row → Row → List Row → Option TreeFault
+placed_fault earlier r above =
+    if list_any (has_number r.id) earlier then Some (DoubleNumber r.id)
+    else (if is_misplaced earlier r above then Some (ParentUnknownOrNotOpen r.id)
+    else (if is_first_text earlier r then Some (RootNotElement r.id)
+    else (if is_below_text above then Some (TextHasKids r.id)
+    else (if nat_le most_depth (length above) then Some (TooDeep r.id)
+    else own_fault r))))
+
+abbrev pub row_fault : List Row → Row → Option TreeFault
+row_fault earlier r = placed_fault earlier r (ancestors r (grown earlier))
+
+-- the first fault of rows that come after others
+abbrev pub rows_fault : List Row → List Row → Option TreeFault
+rows_fault earlier [] = None
+rows_fault earlier (r ∷ rows) = option_or (row_fault earlier r) (rows_fault (earlier ++ r ∷ []) rows)
+
+-- the first fault of a page's rows
+unfoldable pub tree_fault : List Row → Option TreeFault
+tree_fault rows =
+    if length rows == 0 then Some Empty
+    else (if nat_lt most_nodes (length rows) then Some TooMany
+    else rows_fault [] rows)
