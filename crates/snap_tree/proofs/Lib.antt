@@ -1,3 +1,5 @@
 pub mod Growth
 pub mod Cuts
 pub mod Wording
+pub mod Opening
+pub mod Entering

@@ -1,5 +1,5 @@
 -- The faults of rows in their one order, and the trees that have none.
-use Rattle.std.specs.Prelude.{◌==◌, ℕ, List, [], ◌∷◌, ◌++◌, length, Bool, false, nat_le, nat_lt, if◌then◌else◌, Option, Some, None, is_some}
+use Rattle.std.specs.Prelude.{◌==◌, ◌&&◌, ℕ, List, [], ◌∷◌, ◌++◌, length, Bool, true, false, nat_le, nat_lt, if◌then◌else◌, Option, Some, None, is_some}
 use Rattle.std.specs.Option.{option_or}
 use Rattle.std.specs.List.{list_any}
 use Rattle.snap_tree.specs.declared.row.Row.{Row}
@@ -30,31 +30,37 @@ from_parent r (x ∷ xs) = if names r x then x ∷ xs else from_parent r xs
 abbrev pub ancestors : Row → Trees → List Row
 ancestors r t = from_parent r (open_rows t)
 
--- its place: the first row has no parent, and each later one has an open parent
-abbrev pub is_misplaced : List Row → Row → List Row → Bool
-is_misplaced [] r above = is_some r.parent
-is_misplaced (x ∷ earlier) r above = length above == 0
+-- no row comes before
+abbrev pub is_first : List Row → Bool
+is_first [] = true
+is_first (x ∷ earlier) = false
 
-abbrev pub is_first_text : List Row → Row → Bool
-is_first_text [] r = is_text r
-is_first_text (x ∷ earlier) r = false
+-- the row is out of place: the first row has no parent, and each later one has an open parent
+abbrev pub is_misplaced : Bool → Row → ℕ → Bool
+is_misplaced true r depth = is_some r.parent
+is_misplaced false r depth = depth == 0
 
 abbrev pub is_below_text : List Row → Bool
 is_below_text [] = false
 is_below_text (parent ∷ above) = is_text parent
 
--- the first fault of a row that comes after others, given the ancestors that it gets
-unfoldable pub placed_fault : List Row → Row → List Row → Option TreeFault
-placed_fault earlier r above =
-    if list_any (has_number r.id) earlier then Some (DoubleNumber r.id)
-    else (if is_misplaced earlier r above then Some (ParentUnknownOrNotOpen r.id)
-    else (if is_first_text earlier r then Some (RootNotElement r.id)
-    else (if is_below_text above then Some (TextHasKids r.id)
-    else (if nat_le most_depth (length above) then Some (TooDeep r.id)
-    else own_fault r))))
+-- the first fault of a row whose number is new: whether it is the first row, how many ancestors it
+-- gets, and whether its parent is a text
+unfoldable pub place_fault : Bool → Row → ℕ → Bool → Option TreeFault
+place_fault first r above below_text =
+    if is_misplaced first r above then Some (ParentUnknownOrNotOpen r.id)
+    else (if first && is_text r then Some (RootNotElement r.id)
+    else (if below_text then Some (TextHasKids r.id)
+    else (if nat_le most_depth above then Some (TooDeep r.id)
+    else own_fault r)))
 
+-- the first fault of a row that comes after others
 abbrev pub row_fault : List Row → Row → Option TreeFault
-row_fault earlier r = placed_fault earlier r (ancestors r (grown earlier))
+row_fault earlier r =
+    let above = ancestors r (grown earlier)
+    in
+    if list_any (has_number r.id) earlier then Some (DoubleNumber r.id)
+    else place_fault (is_first earlier) r (length above) (is_below_text above)
 
 -- the first fault of rows that come after others
 abbrev pub rows_fault : List Row → List Row → Option TreeFault

@@ -4,3 +4,5 @@ pub mod Grown
 pub mod Words
 pub mod Rows
 pub mod Faults
+pub mod Places
+pub mod Opened

@@ -1,6 +1,8 @@
 ghost use Rattle.std.specs.Prelude.{◌≡◌};
+ghost use Rattle.snap_tree.specs.declared.fault.BuildFault.TheVariants.{OutOfMemory};
 
 use crate::row::NodeId;
+use std::alloc::{AllocError, AllocFailed};
 
 /// What breaks a tree, with the node where there is one.
 #[derive(Clone, Copy, Debug, PartialEq, Eq, Hash)]
@@ -37,4 +39,20 @@ pub enum TreeFault {
 pub enum BuildFault {
     Tree(TreeFault),
     OutOfMemory,
+}
+
+impl From<AllocError> for BuildFault {
+    ghost from_gives = { λ _ f. f ≡ OutOfMemory };
+
+    fn from(_error: AllocError) -> Self {
+        BuildFault::OutOfMemory
+    }
+}
+
+impl<T: Drop> From<AllocFailed<T>> for BuildFault {
+    ghost from_gives = { λ _ f. f ≡ OutOfMemory };
+
+    fn from(_error: AllocFailed<T>) -> Self {
+        BuildFault::OutOfMemory
+    }
 }

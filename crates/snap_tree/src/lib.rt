@@ -2,6 +2,7 @@
 #![tactic(auto)]
 
 mod branches;
+mod build;
 mod fault;
 mod limits;
 mod list;
