@@ -3,3 +3,5 @@ pub mod Cuts
 pub mod Wording
 pub mod Opening
 pub mod Entering
+pub mod Sized
+pub mod Found

@@ -6,3 +6,7 @@ pub mod Rows
 pub mod Faults
 pub mod Places
 pub mod Opened
+pub mod Sizing
+pub mod Groups
+pub mod Indexed
+pub mod Lookups

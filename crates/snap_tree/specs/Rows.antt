@@ -34,7 +34,7 @@ is_html_space Other = false
 
 -- an HTML element of this tag
 abbrev pub is_html_body : List ℕ → Body → Bool
-is_html_body name (Element space tag attrs) = is_html_space space && same_folded tag name
+is_html_body name (Element space tag attrs) = is_html_space space && same_folded name tag
 is_html_body name (Words text) = false
 
 abbrev pub is_html : List ℕ → Row → Bool

@@ -1,12 +1,11 @@
 ghost use Rattle.std.specs.Prelude.{◌≡◌, [], ◌∷◌, ◌++◌, reverse, IfOk, IfErr, OnOk};
-ghost use Rattle.snap_tree.specs.Grown.{is_number};
 ghost use Rattle.snap_tree.specs.Faults.{place_fault, row_fault, rows_fault};
 ghost use Rattle.snap_tree.specs.Places.{IsPlaces};
 ghost use Rattle.snap_tree.specs.Opened.{from_opened, is_below, HasEntered, Breaks};
 
 use crate::fault::{BuildFault, TreeFault};
 use crate::limits::own_fault;
-use crate::row::{NodeId, Row};
+use crate::row::{NodeId, Row, is_number};
 use std::alloc::Global;
 use std::collections::BTreeMap;
 
@@ -23,21 +22,12 @@ struct Opened {
     is_text: bool,
 }
 
-fn names(row: &Row, id: NodeId) -> bool
-    ensures { result ≡ is_number row.now.parent id }
-{
-    match row.parent {
-        Some(parent) => parent.0 == id.0,
-        None => false,
-    }
-}
-
 // Closes the nodes below the row's parent, or all where the parent isn't open.
 fn close_to_parent(path: &mut Vec<Opened>, row: &Row)
     ensures { reverse path.new.items ≡ from_opened row.now (reverse path.old.items) }
 {
     while let Some(last) = path.last() {
-        if names(row, last.id) {
+        if is_number(row.parent, last.id) {
             return;
         }
         path.pop();
@@ -107,7 +97,7 @@ fn enter(
 }
 
 // The place of each number, or the first fault of the rows.
-fn places_of(alloc: Global, rows: &[Row]) -> Result<BTreeMap<u32, usize>, BuildFault>
+pub(crate) fn places_of(alloc: Global, rows: &[Row]) -> Result<BTreeMap<u32, usize>, BuildFault>
     ensures places { IfOk result (λ places. IsPlaces places rows.now) }
     ensures sound { OnOk result (rows_fault [] rows.now ≡ None) }
     ensures fault { IfErr result (λ f. Breaks f (rows_fault [] rows.now)) }

@@ -1,6 +1,7 @@
 ghost use Rattle.std.specs.Prelude.{◌≡◌};
 ghost use Rattle.snap_tree.specs.declared.fault.BuildFault.TheVariants.{OutOfMemory};
 
+use crate::memory;
 use crate::row::NodeId;
 use std::alloc::{AllocError, AllocFailed};
 
@@ -53,6 +54,14 @@ impl<T: Drop> From<AllocFailed<T>> for BuildFault {
     ghost from_gives = { λ _ f. f ≡ OutOfMemory };
 
     fn from(_error: AllocFailed<T>) -> Self {
+        BuildFault::OutOfMemory
+    }
+}
+
+impl From<memory::OutOfMemory> for BuildFault {
+    ghost from_gives = { λ _ f. f ≡ OutOfMemory };
+
+    fn from(_error: memory::OutOfMemory) -> Self {
         BuildFault::OutOfMemory
     }
 }

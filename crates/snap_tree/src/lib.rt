@@ -4,10 +4,12 @@
 mod branches;
 mod build;
 mod fault;
+mod groups;
 mod limits;
 mod list;
 mod memory;
 mod row;
+mod sizes;
 mod text;
 mod tree;
 mod words;

@@ -1,6 +1,7 @@
 ghost use Rattle.std.specs.Prelude.{◌≡◌};
 ghost use Rattle.std.specs.Option.{option_copied};
 ghost use Rattle.std.specs.List.{find};
+ghost use Rattle.snap_tree.specs.Grown.{is_number};
 ghost use Rattle.snap_tree.specs.Rows.{is_text, is_html, attrs_of, attribute, same_folded};
 
 use crate::list::List;
@@ -80,7 +81,7 @@ impl Row {
                 space: Space::Html,
                 tag: own,
                 ..
-            } => same_folded(own.as_str(), tag),
+            } => same_folded(tag, own.as_str()),
             _ => false,
         }
     }
@@ -113,6 +114,16 @@ fn find<'a>(attrs: &'a [Attr], name: &str) -> Option<&'a Attr>
     attrs
         .iter()
         .find(|attr| same_folded(attr.name.as_str(), name))
+}
+
+/// Whether the parent is there and has this number.
+pub(crate) fn is_number(parent: Option<NodeId>, id: NodeId) -> bool
+    ensures { result ≡ is_number parent id }
+{
+    match parent {
+        Some(parent) => parent.0 == id.0,
+        None => false,
+    }
 }
 
 /// Whether two texts are equal but for the case of ASCII letters.

@@ -1,9 +1,23 @@
-ghost use Rattle.std.specs.Prelude.{◌≡◌};
+ghost use Rattle.std.specs.Prelude.{◌≡◌, None, IfOk, IfErr, OnOk};
+ghost use Rattle.std.specs.Option.{option_copied};
 ghost use Rattle.snap_tree.specs.Trees.{rows_of};
 ghost use Rattle.snap_tree.specs.Grown.{grown};
+ghost use Rattle.snap_tree.specs.Faults.{tree_fault};
+ghost use Rattle.snap_tree.specs.Places.{IsPlaces};
+ghost use Rattle.snap_tree.specs.Opened.{Breaks};
+ghost use Rattle.snap_tree.specs.Lookups.{node, tagged};
 
-use crate::row::Row;
+use crate::branches::Branches;
+use crate::build::{MOST_NODES, places_of};
+use crate::fault::{BuildFault, TreeFault};
+use crate::groups::{Groups, Key, folded, group, groups_of};
+use crate::list::List;
+use crate::memory::OutOfMemory;
+use crate::row::{NodeId, Raw, Row};
+use crate::sizes::sizes_of;
 use crate::text::Text;
+use std::alloc::Global;
+use std::collections::BTreeMap;
 use std::marker::Model;
 
 /// A page: its address, and the tree of its nodes. Contracts see it as a `Document`.
@@ -11,6 +25,9 @@ use std::marker::Model;
 pub struct Tree {
     address: Text,
     rows: Vec<Row>,
+    sizes: Vec<usize>,
+    places: BTreeMap<u32, usize>,
+    tags: Groups,
 }
 
 impl Model for Tree {
@@ -22,11 +39,53 @@ impl Model for Tree {
     ghost coded = { coded_document };
 
     ghost use Rattle.snap_tree.specs.Grown.{grown};
+    ghost use Rattle.snap_tree.specs.Indexed.{IsIndexed};
 
     ghost view = { λ t. record { address = t.address; trees = grown t.rows.items } };
+
+    ghost invariant = { λ t. IsIndexed t.rows.items t.sizes.items t.places t.tags };
+}
+
+// The place of each number of rows that make a tree, or their first fault.
+#[tactic(auto, unfolding(crate::specs::Faults::tree_fault))]
+fn sound_places(alloc: Global, rows: &[Row]) -> Result<BTreeMap<u32, usize>, BuildFault>
+    ensures places { IfOk result (λ places. IsPlaces places rows.now) }
+    ensures sound { OnOk result (tree_fault rows.now ≡ None) }
+    ensures fault { IfErr result (λ f. Breaks f (tree_fault rows.now)) }
+{
+    if rows.is_empty() {
+        return Err(BuildFault::Tree(TreeFault::Empty));
+    }
+    if rows.len() > MOST_NODES {
+        return Err(BuildFault::Tree(TreeFault::TooMany));
+    }
+    places_of(alloc, rows)
 }
 
 impl Tree {
+    /// The tree whose rows in document order are the given ones.
+    ///
+    /// It is refused exactly where the rows have a fault, with the first one in the order of
+    /// `TreeFault`'s table: first of all the number of rows, then each row by itself in list order.
+    pub fn build(alloc: Global, raw: Raw) -> Result<Self, BuildFault>
+        ensures tree { IfOk result (λ t. t ≡ record { address = raw.address; trees = grown raw.rows }) }
+        ensures sound { OnOk result (tree_fault raw.rows ≡ None) }
+        ensures fault { IfErr result (λ f. Breaks f (tree_fault raw.rows)) }
+    {
+        let Raw { address, rows } = raw;
+        let rows = rows.into_vec();
+        let places = sound_places(alloc, rows.as_slice())?;
+        let sizes = sizes_of(alloc, rows.as_slice())?;
+        let tags = groups_of(alloc, Key::Tag, rows.as_slice())?;
+        Ok(Tree {
+            address,
+            rows,
+            sizes,
+            places,
+            tags,
+        })
+    }
+
     /// The page's address, as it was sent.
     pub fn address(&self) -> &Text
         ensures { result.now ≡ self.now.address }
@@ -39,7 +98,34 @@ impl Tree {
     pub fn rows(&self) -> &[Row]
         ensures rows { result.now ≡ rows_of self.now.trees }
         ensures regrown { grown (rows_of self.now.trees) ≡ self.now.trees }
+        ensures sound { tree_fault (rows_of self.now.trees) ≡ None }
     {
         self.rows.as_slice()
+    }
+
+    /// The trees of the page, to go over and down.
+    pub fn branches(&self) -> Branches<'_>
+        ensures { result ≡ self.now.trees }
+    {
+        Branches::over(self.rows.as_slice(), self.sizes.as_slice())
+    }
+
+    /// The row of a number; None exactly where the tree doesn't hold the number.
+    pub fn node(&self, n: NodeId) -> Option<&Row>
+        ensures { option_copied result ≡ node self.now.trees n }
+    {
+        match self.places.get(&n.0) {
+            Some(place) => Some(&self.rows[*place]),
+            None => None,
+        }
+    }
+
+    /// The HTML elements of a tag, in document order. Tags compare ASCII case-insensitively.
+    pub fn tagged(&self, alloc: Global, tag: &Text) -> Result<List<NodeId>, OutOfMemory>
+        ensures { IfOk result (λ nodes. nodes ≡ tagged self.now.trees tag.now) }
+    {
+        let key = folded(alloc, tag.as_str())?;
+        let nodes = group(&self.tags, key.as_str());
+        Ok(List::from_vec(Vec::from_slice(alloc, nodes)?))
     }
 }
