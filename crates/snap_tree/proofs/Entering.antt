@@ -17,7 +17,7 @@ use Rattle.snap_tree.specs.Rows.{has_number}
 use Rattle.snap_tree.specs.Faults.{open_rows, ancestors, is_below_text, is_misplaced, is_first, place_fault, row_fault}
 use Rattle.snap_tree.specs.Places.{place_from, IsPlaces}
 use Rattle.snap_tree.specs.Opened.{opened, from_opened, is_below, HasEntered}
-use Rattle.snap_tree.proofs.Growth.{grown-push}
+use Rattle.snap_tree.proofs.Growth.{grown_push}
 use Rattle.snap_tree.proofs.Opening.{from_opened-map, under_opens, Went}
 
 -- ---- places
@@ -81,7 +81,7 @@ opens_in r t (Some new) e h p =
 pub opens_next : (earlier : List Row) (r : Row) → is_misplaced (is_first earlier) r (length (ancestors r (grown earlier))) ≡ false → open_rows (grown (earlier ++ r ∷ [])) ≡ r ∷ ancestors r (grown earlier)
 opens_next [] r h = refl
 opens_next (x ∷ earlier) r h =
-    ap open_rows (grown-push (x ∷ earlier) r) ∙ opens_in r (grown (x ∷ earlier)) (under r (grown (x ∷ earlier))) refl (under_opens r (grown (x ∷ earlier))) h
+    ap open_rows (grown_push (x ∷ earlier) r) ∙ opens_in r (grown (x ∷ earlier)) (under r (grown (x ∷ earlier))) refl (under_opens r (grown (x ∷ earlier))) h
 
 -- ---- the state after the row
 

@@ -120,9 +120,9 @@ takes-planted r x empty = takes_leaf x r (names r x) refl
 takes-planted r x (tree y k s) = takes-planted_by r x y k s (names y x) refl (takes-planted r x s)
 
 -- growing from the last row to the first puts each row under its parent
-pub grown-push : (rows : List Row) (r : Row) → grown (rows ++ r ∷ []) ≡ planted r (grown rows)
-grown-push [] r = refl
-grown-push (x ∷ rows) r = ap (takes x) (grown-push rows r) ∙ takes-planted r x (grown rows)
+pub grown_push : (rows : List Row) (r : Row) → grown (rows ++ r ∷ []) ≡ planted r (grown rows)
+grown_push [] r = refl
+grown_push (x ∷ rows) r = ap (takes x) (grown_push rows r) ∙ takes-planted r x (grown rows)
 
 pub rows_of-planted : (rows : List Row) (r : Row) → rows_of (planted r (grown rows)) ≡ rows ++ r ∷ []
-rows_of-planted rows r = ap rows_of (sym (grown-push rows r)) ∙ rows_of_grown (rows ++ r ∷ [])
+rows_of-planted rows r = ap rows_of (sym (grown_push rows r)) ∙ rows_of_grown (rows ++ r ∷ [])

@@ -5,3 +5,4 @@ pub mod Opening
 pub mod Entering
 pub mod Sized
 pub mod Found
+pub mod Wellness

@@ -28,7 +28,7 @@ from_opened-map r (x ∷ xs) = by_name (names r x) refl (from_opened-map r xs)
 
 -- ---- the open nodes once a row is planted
 
-from_parent-found : (r z : Row) (xs ys zs : List Row) → from_parent r xs ≡ z ∷ zs → from_parent r (xs ++ ys) ≡ (z ∷ zs) ++ ys
+pub from_parent-found : (r z : Row) (xs ys zs : List Row) → from_parent r xs ≡ z ∷ zs → from_parent r (xs ++ ys) ≡ (z ∷ zs) ++ ys
 from_parent-found r z [] ys zs h = cc
 from_parent-found r z (x ∷ xs) ys zs h = by_name (names r x) refl h (from_parent-found r z xs ys zs)
   where
@@ -36,7 +36,7 @@ from_parent-found r z (x ∷ xs) ys zs h = by_name (names r x) refl h (from_pare
     by_name true e h k = let h' : x ∷ xs ≡ z ∷ zs = rw e at h in rw e (ap (λ rows. rows ++ ys) h')
     by_name false e h k = let h' : from_parent r xs ≡ z ∷ zs = rw e at h in rw e (k h')
 
-from_parent-none : (r : Row) (xs ys : List Row) → from_parent r xs ≡ [] → from_parent r (xs ++ ys) ≡ from_parent r ys
+pub from_parent-none : (r : Row) (xs ys : List Row) → from_parent r xs ≡ [] → from_parent r (xs ++ ys) ≡ from_parent r ys
 from_parent-none r [] ys h = refl
 from_parent-none r (x ∷ xs) ys h = by_name (names r x) refl h (from_parent-none r xs ys)
   where

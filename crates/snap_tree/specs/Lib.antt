@@ -10,3 +10,5 @@ pub mod Sizing
 pub mod Groups
 pub mod Indexed
 pub mod Lookups
+pub mod Well
+pub mod Spots

@@ -5,6 +5,7 @@ mod branches;
 mod build;
 mod fault;
 mod groups;
+mod laws;
 mod limits;
 mod list;
 mod memory;
@@ -16,6 +17,7 @@ mod words;
 
 pub use branches::{Branch, Branches};
 pub use fault::{BuildFault, TreeFault};
+pub use laws::laws_of_growth;
 pub use list::List;
 pub use memory::OutOfMemory;
 pub use row::{Attr, Body, Facts, NodeId, Raw, Row, Space, same_folded};

@@ -3,6 +3,7 @@ ghost use Rattle.std.specs.Option.{option_copied};
 ghost use Rattle.snap_tree.specs.Trees.{rows_of};
 ghost use Rattle.snap_tree.specs.Grown.{grown};
 ghost use Rattle.snap_tree.specs.Faults.{tree_fault};
+ghost use Rattle.snap_tree.specs.Well.{IsWell};
 ghost use Rattle.snap_tree.specs.Places.{IsPlaces};
 ghost use Rattle.snap_tree.specs.Opened.{Breaks};
 ghost use Rattle.snap_tree.specs.Lookups.{node, tagged};
@@ -67,8 +68,10 @@ impl Tree {
     ///
     /// It is refused exactly where the rows have a fault, with the first one in the order of
     /// `TreeFault`'s table: first of all the number of rows, then each row by itself in list order.
+    #[tactic(auto, using(crate::proofs::Wellness::well_from_sound))]
     pub fn build(alloc: Global, raw: Raw) -> Result<Self, BuildFault>
         ensures tree { IfOk result (λ t. t ≡ record { address = raw.address; trees = grown raw.rows }) }
+        ensures well { IfOk result (λ t. IsWell t.trees) }
         ensures sound { OnOk result (tree_fault raw.rows ≡ None) }
         ensures fault { IfErr result (λ f. Breaks f (tree_fault raw.rows)) }
     {
@@ -94,11 +97,12 @@ impl Tree {
     }
 
     /// The rows in document order.
-    #[tactic(auto, using(crate::proofs::Growth::rows_of_grown))]
+    #[tactic(auto, using(crate::proofs::Growth::rows_of_grown, crate::proofs::Wellness::well_from_sound))]
     pub fn rows(&self) -> &[Row]
         ensures rows { result.now ≡ rows_of self.now.trees }
         ensures regrown { grown (rows_of self.now.trees) ≡ self.now.trees }
         ensures sound { tree_fault (rows_of self.now.trees) ≡ None }
+        ensures well { IsWell self.now.trees }
     {
         self.rows.as_slice()
     }
