@@ -159,10 +159,17 @@ function silvervoleSnapshot(address) {
     || (CSS.supports('selector(::details-content)')
       && window.getComputedStyle(details, '::details-content').contentVisibility === 'visible');
 
+  const summaryOf = (details) => {
+    for (let kid = firstChild(details); kid; kid = nextSibling(kid)) {
+      if (nodeType(kid) === 1 && localName(kid) === 'summary' && spaceOf(kid) === 'html') return kid;
+    }
+    return null;
+  };
+
   // What an element means for its children: whether they are drawn at all, and
   // the one child that is drawn although the others are not.
   const childrenOf = (element, ns, tag, rendered, css, within) => {
-    const place = { drawn: rendered, only: null, host: null, visible: css.visibility === 'visible',
+    const place = { tag, drawn: rendered, only: null, host: null, visible: css.visibility === 'visible',
       inSelect: within.inSelect || (ns === 'html' && tag === 'select'),
       inCanvas: within.inCanvas || (ns === 'html' && tag === 'canvas' && rendered) };
     if (!rendered) return place;
@@ -170,12 +177,7 @@ function silvervoleSnapshot(address) {
     else if (ns === 'html' && tag === 'object') place.drawn = showsContents(element);
     else if (ns === 'html' && tag === 'details' && !detailsShow(element)) {
       place.drawn = false;
-      for (let kid = firstChild(element); kid; kid = nextSibling(kid)) {
-        if (nodeType(kid) === 1 && localName(kid) === 'summary' && spaceOf(kid) === 'html') {
-          place.only = kid;
-          break;
-        }
-      }
+      place.only = summaryOf(element);
     }
     if (css.contentVisibility === 'hidden' && !UNCONTAINED.test(css.display)) {
       place.drawn = false;
@@ -237,7 +239,7 @@ function silvervoleSnapshot(address) {
     }
     const row = `{"n":${n},"p":${parent === 0 ? 'null' : parent}`;
     if (type !== 1) {
-      const text = bounded(characters(node), () => `the text of node ${n}, in node ${parent},`);
+      const text = bounded(characters(node), () => `the text of node ${n}, in node ${parent} (${within.tag}),`);
       const rendered = within.drawn && (within.host === null || slotShown(slotOfText(node), within.host));
       records.push({ row: `${row},"text":${quote(text)}`, node, n, parent, element: false,
         rendered, visible: rendered && within.visible, focusable: false, tabbable: false });
@@ -388,6 +390,11 @@ function silvervoleSnapshot(address) {
           const checked = record.group.find((button) => inputChecked(button.node));
           record.tabbable = record === (checked || record.group[0]);
         }
+      } else if (record.element && record.ns === 'html' && record.tag === 'details' && record.visible
+        && summaryOf(record.node) === null && !(tabIndexOf(record.node) < 0) && !isInert(record.node)) {
+        // A browser gives details without a summary one of its own, which
+        // scripts cannot reach but the Tab key can.
+        record.tabbable = true;
       }
       if (record.tabbable || holdsStop.has(record.n)) holdsStop.add(record.parent);
     }
@@ -398,7 +405,7 @@ function silvervoleSnapshot(address) {
   const url = writtenAddress();
   const root = documentElement();
   if (root === null) stop('SnapshotBrowser', 'the document has no root element');
-  visit(root, 0, 1, { drawn: true, only: null, host: null, visible: true, inSelect: false, inCanvas: false });
+  visit(root, 0, 1, { tag: '', drawn: true, only: null, host: null, visible: true, inSelect: false, inCanvas: false });
   placeAreas();
   probeFocus();
   markStops();
