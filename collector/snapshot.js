@@ -142,7 +142,7 @@ function silvervoleSnapshot(address) {
   const UNCONTAINED = /^(inline|contents|ruby.*|table|inline-table|table-(?!caption).*)$/;
 
   const showsContents = (objectElement) => {
-    const range = document.createRange();
+    const range = Document.prototype.createRange.call(document);
     range.selectNodeContents(objectElement);
     return range.getClientRects().length > 0;
   };
@@ -370,9 +370,12 @@ function silvervoleSnapshot(address) {
         if (!groups.has(form)) groups.set(form, new Map());
         const byName = groups.get(form);
         // A button without a name is a group of its own.
-        record.group = name === '' ? [] : byName.get(name) || [];
-        if (name !== '') byName.set(name, record.group);
-        if (record.focusable && !(tabIndexOf(record.node) < 0)) record.group.push(record);
+        record.group = (name !== '' && byName.get(name)) || { first: null, checked: null };
+        byName.set(name, record.group);
+        if (record.focusable && !(tabIndexOf(record.node) < 0)) {
+          record.group.first = record.group.first || record;
+          if (inputChecked(record.node)) record.group.checked = record;
+        }
       }
     }
     const holdsStop = new Set();
@@ -387,8 +390,7 @@ function silvervoleSnapshot(address) {
           || (record.ns === 'html' && isContentEditable(record.node))) record.tabbable = true;
         else record.tabbable = !holdsStop.has(record.n);
         if (record.tabbable && record.group) {
-          const checked = record.group.find((button) => inputChecked(button.node));
-          record.tabbable = record === (checked || record.group[0]);
+          record.tabbable = record === (record.group.checked || record.group.first);
         }
       } else if (record.element && record.ns === 'html' && record.tag === 'details' && record.visible
         && summaryOf(record.node) === null && !(tabIndexOf(record.node) < 0) && !isInert(record.node)) {
