@@ -330,9 +330,10 @@ function silvervoleSnapshot(address) {
         // focus: it stands for what is drawn on the canvas.
         if (!record.element || !(record.visible || record.inCanvas)) continue;
         const element = record.node;
-        if (element === resting || isFrame(record)) {
+        if (element === resting || element === documentElement() || isFrame(record)) {
           // Asking a frame would move the focus into another document; the
-          // resting element is named as active without having the focus.
+          // resting element is named as active without having the focus; and
+          // asked on the root, some browsers give the focus to the viewport.
           record.focusable = !isInert(element) && (isFrame(record) || tabIndexOf(element) !== null
             || (record.ns === 'html' && isContentEditable(element)));
           continue;
