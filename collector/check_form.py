@@ -1,0 +1,218 @@
+#!/usr/bin/python3
+"""Says whether a snapshot is well formed: its JSON, its rows and its tree.
+
+    collector/check_form.py FILE..
+
+It shares no code with the collector or with the desk, so that each can be held
+against it. Only the address is looked at less closely than the desk does.
+"""
+import json
+import re
+import sys
+
+NODES, DEPTH, ATTRS, TEXT, WEIGHT, BYTES = 10_000, 128, 64, 65_536, 100_000, 8_388_608
+GREATEST_NUMBER = 4_294_967_295
+# The characters of Unicode's White_Space; Python's str.split takes four more.
+WHITE = re.compile("[\t-\r \x85\xa0\u1680\u2000-\u200a\u2028\u2029\u202f\u205f\u3000]+")
+LABELABLE = {"button", "meter", "output", "progress", "select", "textarea"}
+
+
+class Fault(Exception):
+    pass
+
+
+def folded(text):
+    return re.sub("[A-Z]", lambda found: found.group().lower(), text)
+
+
+def size(text):
+    return len(text.encode("utf-8"))
+
+
+def is_text(value):
+    # Half a surrogate pair, which JSON can spell, is no text.
+    return isinstance(value, str) and not re.search("[\ud800-\udfff]", value)
+
+
+def is_number(value):
+    return isinstance(value, int) and not isinstance(value, bool) and 1 <= value <= GREATEST_NUMBER
+
+
+def no_constant(name):
+    raise Fault(f"the JSON holds {name}")
+
+
+def read(data):
+    """The address and the rows, each with n, p, tag or text, ns, attrs and f."""
+    if len(data) > BYTES:
+        raise Fault(f"{len(data)} bytes")
+    try:
+        top = json.loads(data.decode("utf-8"), parse_constant=no_constant)
+    except ValueError as error:
+        raise Fault(f"no JSON: {error}")
+    if not isinstance(top, dict):
+        raise Fault("no object")
+    if not is_text(top.get("url")):
+        raise Fault("url is no text")
+    if not isinstance(top.get("nodes"), list):
+        raise Fault("nodes is no list")
+    url = top["url"]
+    if size(url) > TEXT or not re.fullmatch(r"https?://[^\s/?#]+(/\S*|\?\S*|#\S*)?", url, re.IGNORECASE):
+        raise Fault("url is no address of http or https")
+    rows = []
+    for place, given in enumerate(top["nodes"], 1):
+        def bad(field):
+            raise Fault(f"row {place}: {field}")
+        if not isinstance(given, dict):
+            bad("no object")
+        if not is_number(given.get("n")):
+            bad("n")
+        if "p" not in given or not (given["p"] is None or is_number(given["p"])):
+            bad("p")
+        if ("tag" in given) == ("text" in given):
+            bad("tag and text")
+        if "tag" in given:
+            if not is_text(given["tag"]) or given["tag"] == "":
+                bad("tag")
+            if given.get("ns", "html") not in ("html", "svg", "other"):
+                bad("ns")
+            attrs = given.get("attrs", [])
+            if not isinstance(attrs, list) or not all(
+                    isinstance(pair, list) and len(pair) == 2 and all(map(is_text, pair)) and pair[0] != ""
+                    for pair in attrs):
+                bad("attrs")
+        elif not is_text(given["text"]):
+            bad("text")
+        letters = given.get("f", "rv")
+        if not isinstance(letters, str) or len(set(letters)) != len(letters) or not set(letters) <= set("rvft"):
+            bad("f")
+        rows.append({"n": given["n"], "p": given["p"], "tag": given.get("tag"), "text": given.get("text"),
+                     "ns": given.get("ns", "html"), "attrs": given.get("attrs", []), "f": letters})
+    return url, rows
+
+
+def attr(row, name):
+    """The value of an attribute, or None."""
+    for key, value in row["attrs"]:
+        if folded(key) == name:
+            return value
+    return None
+
+
+def tokens(value):
+    return [part for part in WHITE.split(value or "") if part]
+
+
+def check_tree(rows):
+    if not rows:
+        raise Fault("no row")
+    if len(rows) > NODES:
+        raise Fault(f"{len(rows)} rows")
+    by_number, depth, open_rows = {}, {}, []
+    for place, row in enumerate(rows):
+        n, p = row["n"], row["p"]
+
+        def bad(what):
+            raise Fault(f"node {n}: {what}")
+        if n in by_number:
+            bad("its number stands twice")
+        if place == 0:
+            if p is not None:
+                bad("the first row has a parent")
+            if row["text"] is not None:
+                bad("the root is a text")
+        else:
+            # The open rows are the row before and its ancestors.
+            while open_rows and open_rows[-1] != p:
+                open_rows.pop()
+            if not open_rows:
+                bad("its parent is neither the row before nor an ancestor of it")
+            if by_number[p]["text"] is not None:
+                bad("its parent is a text")
+        depth[n] = 1 if place == 0 else depth[p] + 1
+        if depth[n] > DEPTH:
+            bad(f"depth {depth[n]}")
+        if len(row["attrs"]) > ATTRS:
+            bad(f"{len(row['attrs'])} attributes")
+        for text in [row["text"] or "", row["tag"] or ""] + [part for pair in row["attrs"] for part in pair]:
+            if size(text) > TEXT:
+                bad(f"a text of {size(text)} bytes")
+        names = [folded(name) for name, _ in row["attrs"]]
+        if len(set(names)) != len(names):
+            bad("an attribute stands twice")
+        by_number[n] = row
+        open_rows.append(n)
+    weight = reference_weight(rows, by_number)
+    if weight > WEIGHT:
+        raise Fault(f"the reference weight is {weight}")
+    return weight
+
+
+def reference_weight(rows, by_number):
+    """How much text the page's references reach, counted once for each reference."""
+    subtree = {}
+    for row in reversed(rows):
+        length = size(row["text"] or "") + sum(size(value) for _, value in row["attrs"])
+        subtree[row["n"]] = subtree.get(row["n"], 0) + 1 + length // 64
+        if row["p"] is not None:
+            subtree[row["p"]] = subtree.get(row["p"], 0) + subtree[row["n"]]
+    first_with_id = {}
+    labels_by_for = {}
+    for row in rows:
+        if row["tag"] is None:
+            continue
+        if attr(row, "id"):
+            first_with_id.setdefault(attr(row, "id"), row["n"])
+        if is_html(row, "label") and attr(row, "for") is not None:
+            labels_by_for.setdefault(attr(row, "for"), []).append(row["n"])
+    total = 0
+    labelled_inside = set()
+    for row in rows:
+        if row["tag"] is None:
+            continue
+        for name in ("aria-labelledby", "aria-owns"):
+            total += sum(subtree[first_with_id[token]] for token in tokens(attr(row, name)) if token in first_with_id)
+        if not is_labelable(row):
+            continue
+        identity = attr(row, "id")
+        if identity and first_with_id[identity] == row["n"]:
+            total += sum(subtree[label] for label in labels_by_for.get(identity, ()))
+        label = by_number[row["p"]] if row["p"] is not None else None
+        while label is not None and not is_html(label, "label"):
+            label = by_number[label["p"]] if label["p"] is not None else None
+        if label is not None and label["n"] not in labelled_inside:
+            # Rows come in document order, so this is the label's first labelable.
+            labelled_inside.add(label["n"])
+            if attr(label, "for") is None:
+                total += subtree[label["n"]]
+    return total
+
+
+def is_html(row, tag):
+    return row["ns"] == "html" and row["tag"] is not None and folded(row["tag"]) == tag
+
+
+def is_labelable(row):
+    if row["ns"] != "html" or row["tag"] is None:
+        return False
+    tag = folded(row["tag"])
+    return tag in LABELABLE or (tag == "input" and folded(attr(row, "type") or "") != "hidden")
+
+
+def check(data):
+    """The rows of a well-formed snapshot; raises Fault for any other."""
+    _, rows = read(data)
+    check_tree(rows)
+    return rows
+
+
+if __name__ == "__main__":
+    status = 0
+    for path in sys.argv[1:]:
+        try:
+            with open(path, "rb") as file:
+                print(f"{path}: well formed, {len(check(file.read()))} nodes")
+        except Fault as fault:
+            print(f"{path}: {fault}")
+            status = 1
+    sys.exit(status)
