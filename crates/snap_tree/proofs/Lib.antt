@@ -6,3 +6,5 @@ pub mod Entering
 pub mod Sized
 pub mod Found
 pub mod Wellness
+pub mod Spotting
+pub mod Climbing

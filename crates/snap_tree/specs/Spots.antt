@@ -1,9 +1,11 @@
 -- A node in its tree: its row, what is below it, and what is above it.
-use Rattle.std.specs.Prelude.{List, [], ◌∷◌, map, if◌then◌else◌, Option, Some, None, option_and_then}
+use Rattle.std.specs.Prelude.{◌≡◌, List, [], ◌∷◌, map, if◌then◌else◌, false, Option, Some, None, option_and_then}
 use Rattle.std.specs.Option.{option_or, option_map_or}
 use Rattle.snap_tree.specs.declared.row.NodeId.{NodeId}
 use Rattle.snap_tree.specs.declared.row.Row.{Row}
 use Rattle.snap_tree.specs.Trees.{Trees, empty, tree}
+use Rattle.std.specs.List.{list_any}
+use Rattle.snap_tree.specs.Grown.{names}
 use Rattle.snap_tree.specs.Rows.{has_number}
 use Rattle.snap_tree.specs.Well.{number_of}
 
@@ -35,3 +37,18 @@ parent t n = option_and_then (λ s. number_of s.above) (spot t n)
 -- the numbers of a node's children in order; none for a stranger
 abbrev pub kids : Trees → NodeId → List NodeId
 kids t n = option_map_or (λ s. map (λ r. r.id) (roots s.below)) (spot t n) []
+
+-- the spot is of this row, with these nodes above it
+abbrev pub IsSpotOf : Row → List Row → Option Spot → Type 0
+IsSpotOf r above None = ⊥
+IsSpotOf r above (Some s) = (s.row ≡ r) × (s.above ≡ above)
+
+-- the first of the nodes above stands in the tree, with the others above it
+abbrev pub ClimbsBy : List Row → Trees → Type 0
+ClimbsBy [] t = Unit {0}
+ClimbsBy (p ∷ above) t = IsSpotOf p above (spot t p.id)
+
+-- none of the rows is named by the first root
+abbrev pub NamesNone : Trees → List Row → Type 0
+NamesNone empty rows = Unit {0}
+NamesNone (tree r kids after) rows = list_any (names r) rows ≡ false

@@ -47,6 +47,12 @@ impl<'a> Branches<'a> {
         Branches { rows, sizes }
     }
 
+    pub(crate) fn none() -> Self
+        ensures { result ≡ empty }
+    {
+        Branches::over(&[], &[])
+    }
+
     /// The first tree, or None where there is none.
     pub fn first(&self) -> Option<Branch<'a>>
         ensures { MatchOption result (self.now ≡ empty)

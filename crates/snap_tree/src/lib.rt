@@ -5,6 +5,7 @@ mod branches;
 mod build;
 mod fault;
 mod groups;
+mod kids;
 mod laws;
 mod limits;
 mod list;
@@ -17,7 +18,8 @@ mod words;
 
 pub use branches::{Branch, Branches};
 pub use fault::{BuildFault, TreeFault};
-pub use laws::laws_of_growth;
+pub use kids::Kids;
+pub use laws::{laws_of_growth, laws_of_spots};
 pub use list::List;
 pub use memory::OutOfMemory;
 pub use row::{Attr, Body, Facts, NodeId, Raw, Row, Space, same_folded};

@@ -1,17 +1,19 @@
 ghost use Rattle.std.specs.Prelude.{◌≡◌, None, IfOk, IfErr, OnOk};
-ghost use Rattle.std.specs.Option.{option_copied};
+ghost use Rattle.std.specs.Option.{option_copied, option_map};
 ghost use Rattle.snap_tree.specs.Trees.{rows_of};
 ghost use Rattle.snap_tree.specs.Grown.{grown};
 ghost use Rattle.snap_tree.specs.Faults.{tree_fault};
 ghost use Rattle.snap_tree.specs.Well.{IsWell};
-ghost use Rattle.snap_tree.specs.Places.{IsPlaces};
+ghost use Rattle.snap_tree.specs.Places.{IsPlaces, HasRun, run_below};
 ghost use Rattle.snap_tree.specs.Opened.{Breaks};
 ghost use Rattle.snap_tree.specs.Lookups.{node, tagged};
+ghost use Rattle.snap_tree.specs.Spots.{spot, parent, kids};
 
 use crate::branches::Branches;
 use crate::build::{MOST_NODES, places_of};
 use crate::fault::{BuildFault, TreeFault};
 use crate::groups::{Groups, Key, folded, group, groups_of};
+use crate::kids::Kids;
 use crate::list::List;
 use crate::memory::OutOfMemory;
 use crate::row::{NodeId, Raw, Row};
@@ -61,6 +63,19 @@ fn sound_places(alloc: Global, rows: &[Row]) -> Result<BTreeMap<u32, usize>, Bui
         return Err(BuildFault::Tree(TreeFault::TooMany));
     }
     places_of(alloc, rows)
+}
+
+// The trees below the node at a place: the run of rows behind it.
+fn run_below<'a>(rows: &'a [Row], sizes: &'a [usize], place: usize) -> Branches<'a>
+    requires { HasRun place rows.now sizes.now }
+    ensures { result ≡ grown (run_below place rows.now sizes.now) }
+{
+    let count = sizes[place] - 1;
+    let (_, rows) = rows.split_at(place + 1);
+    let (_, sizes) = sizes.split_at(place + 1);
+    let (rows, _) = rows.split_at(count);
+    let (sizes, _) = sizes.split_at(count);
+    Branches::over(rows, sizes)
 }
 
 impl Tree {
@@ -121,6 +136,37 @@ impl Tree {
         match self.places.get(&n.0) {
             Some(place) => Some(&self.rows[*place]),
             None => None,
+        }
+    }
+
+    /// The number of a node's parent; None for the root and for a number that the tree doesn't hold.
+    pub fn parent(&self, n: NodeId) -> Option<NodeId>
+        ensures { result ≡ parent self.now.trees n }
+    {
+        let _well = &self.rows;
+        match self.node(n) {
+            Some(row) => row.parent,
+            None => None,
+        }
+    }
+
+    /// The trees below a node; None exactly where the tree doesn't hold the number.
+    pub fn below(&self, n: NodeId) -> Option<Branches<'_>>
+        ensures { result ≡ option_map (λ s. s.below) (spot self.now.trees n) }
+    {
+        match self.places.get(&n.0) {
+            Some(place) => Some(run_below(self.rows.as_slice(), self.sizes.as_slice(), *place)),
+            None => None,
+        }
+    }
+
+    /// The numbers of a node's children in order; none for a number that the tree doesn't hold.
+    pub fn kids(&self, n: NodeId) -> Kids<'_>
+        ensures { result ≡ kids self.now.trees n }
+    {
+        match self.below(n) {
+            Some(below) => Kids::of(below),
+            None => Kids::of(Branches::none()),
         }
     }
 
