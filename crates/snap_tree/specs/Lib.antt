@@ -4,6 +4,7 @@ pub mod Grown
 pub mod Words
 pub mod Rows
 pub mod Faults
+pub mod FaultText
 pub mod Places
 pub mod Opened
 pub mod Sizing

@@ -1,5 +1,6 @@
 ghost use Rattle.std.specs.Prelude.{◌≡◌};
 ghost use Rattle.snap_tree.specs.declared.fault.BuildFault.TheVariants.{OutOfMemory};
+ghost use Rattle.snap_tree.specs.FaultText.{fault_number, fault_name, fault_node};
 
 use crate::memory;
 use crate::row::NodeId;
@@ -33,6 +34,66 @@ pub enum TreeFault {
     RootNotElement { node: NodeId },
     /// The row's number is 0, its tag is empty, or the name of an attribute is.
     EmptyName { node: NodeId },
+}
+
+impl TreeFault {
+    /// The number by which the fault is printed, from 1 to 12.
+    pub fn number(self) -> u8
+        ensures { result ≡ fault_number self }
+    {
+        match self {
+            TreeFault::Empty => 1,
+            TreeFault::TooMany => 2,
+            TreeFault::DoubleNumber { .. } => 3,
+            TreeFault::ParentUnknownOrNotOpen { .. } => 4,
+            TreeFault::TooDeep { .. } => 5,
+            TreeFault::TooManyAttrs { .. } => 6,
+            TreeFault::TextTooLong { .. } => 7,
+            TreeFault::DoubleAttr { .. } => 8,
+            TreeFault::TextHasKids { .. } => 9,
+            TreeFault::ReferenceWeight => 10,
+            TreeFault::RootNotElement { .. } => 11,
+            TreeFault::EmptyName { .. } => 12,
+        }
+    }
+
+    /// The name by which the fault is printed: its variant's.
+    pub fn name(self) -> &'static str
+        ensures { result.now ≡ fault_name self }
+    {
+        match self {
+            TreeFault::Empty => "Empty",
+            TreeFault::TooMany => "TooMany",
+            TreeFault::DoubleNumber { .. } => "DoubleNumber",
+            TreeFault::ParentUnknownOrNotOpen { .. } => "ParentUnknownOrNotOpen",
+            TreeFault::TooDeep { .. } => "TooDeep",
+            TreeFault::TooManyAttrs { .. } => "TooManyAttrs",
+            TreeFault::TextTooLong { .. } => "TextTooLong",
+            TreeFault::DoubleAttr { .. } => "DoubleAttr",
+            TreeFault::TextHasKids { .. } => "TextHasKids",
+            TreeFault::ReferenceWeight => "ReferenceWeight",
+            TreeFault::RootNotElement { .. } => "RootNotElement",
+            TreeFault::EmptyName { .. } => "EmptyName",
+        }
+    }
+
+    /// The node whose row has the fault; None for a fault of the whole tree.
+    pub fn node(self) -> Option<NodeId>
+        ensures { result ≡ fault_node self }
+    {
+        match self {
+            TreeFault::Empty | TreeFault::TooMany | TreeFault::ReferenceWeight => None,
+            TreeFault::DoubleNumber { node }
+            | TreeFault::ParentUnknownOrNotOpen { node }
+            | TreeFault::TooDeep { node }
+            | TreeFault::TooManyAttrs { node }
+            | TreeFault::TextTooLong { node }
+            | TreeFault::DoubleAttr { node }
+            | TreeFault::TextHasKids { node }
+            | TreeFault::RootNotElement { node }
+            | TreeFault::EmptyName { node } => Some(node),
+        }
+    }
 }
 
 /// Why a tree isn't built.
