@@ -26,3 +26,6 @@ pub use row::{Attr, Body, Facts, NodeId, Raw, Row, Space, same_folded};
 pub use text::Text;
 pub use tree::Tree;
 pub use words::{blank, next_word, tidy};
+
+#[cfg(test)]
+mod tests;
