@@ -1,0 +1,4 @@
+pub mod Infos
+pub mod Words
+pub mod Brief
+pub mod Judgings
