@@ -11,7 +11,7 @@ is_atomic i = list_all (λ number. number == 0) i.inputs
 
 -- the info of the rule of a number: the first that has the number
 abbrev pub info_of : List RuleInfo → ℕ → Option RuleInfo
-info_of infos number = find (λ i. i.no.0 == number) infos
+info_of infos number = find (λ i. number == i.no.0) infos
 
 -- there is a rule of this number, and it is atomic
 abbrev pub has_atomic : List RuleInfo → ℕ → Bool

@@ -1,4 +1,6 @@
 pub mod Infos
+pub mod Books
+pub mod BookLaws
 pub mod Words
 pub mod Brief
 pub mod Judgings

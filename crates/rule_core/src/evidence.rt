@@ -38,3 +38,6 @@ pub fn brief(alloc: Global, text: &Text) -> Result<Text, OutOfMemory>
         digested(alloc, text)
     }
 }
+
+#[cfg(test)]
+mod tests;

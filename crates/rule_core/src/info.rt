@@ -45,3 +45,6 @@ impl RuleInfo {
         self.inputs.iter().all(|number| *number == 0)
     }
 }
+
+#[cfg(test)]
+mod tests;

@@ -90,3 +90,6 @@ impl Reason {
         }
     }
 }
+
+#[cfg(test)]
+mod tests;
