@@ -3,7 +3,14 @@ use Rattle.std.specs.Prelude.{ℕ, List, [], ◌∷◌, Bool, true, false, not, 
 use Rattle.std.specs.List.{list_all, find}
 use Rattle.std.specs.Option.{option_map_or}
 use Rattle.std.specs.Str.{bytes_eq}
+use Rattle.rule_core.specs.declared.info.Class.{Class}
 use Rattle.rule_core.specs.declared.info.RuleInfo.{RuleInfo}
+
+-- the info of an atomic rule: its number, its id, and what its applicability and its expectations
+-- look at
+abbrev pub atomic : ℕ → List ℕ → Class → Class → RuleInfo
+atomic number id applies expects =
+    record { no = record { 0 = number }; id = id; applies = applies; expects = expects; inputs = 0 ∷ 0 ∷ 0 ∷ 0 ∷ [] }
 
 -- an atomic rule has no inputs
 abbrev pub is_atomic : RuleInfo → Bool

@@ -4,3 +4,4 @@ pub mod BookLaws
 pub mod Words
 pub mod Brief
 pub mod Judgings
+pub mod Findings

@@ -36,7 +36,20 @@ pub struct RuleInfo {
 
 impl RuleInfo {
     ghost use Rattle.std.specs.Prelude.{◌≡◌};
-    ghost use Rattle.rule_core.specs.Infos.{is_atomic};
+    ghost use Rattle.rule_core.specs.Infos.{atomic, is_atomic};
+
+    /// The info of an atomic rule, which has no inputs.
+    pub fn atomic(no: u16, id: &[u8; 6], applies: Class, expects: Class) -> Self
+        ensures { result ≡ atomic no id.now applies expects }
+    {
+        RuleInfo {
+            no: RuleNo(no),
+            id: *id,
+            applies,
+            expects,
+            inputs: [0; 4],
+        }
+    }
 
     /// Whether the rule is atomic: it has no inputs.
     pub fn is_atomic(&self) -> bool

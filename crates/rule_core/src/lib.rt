@@ -5,6 +5,7 @@
 
 mod book;
 mod evidence;
+mod finding;
 mod info;
 mod judgings;
 mod reason;
@@ -13,6 +14,7 @@ mod verdict;
 
 pub use book::RuleBook;
 pub use evidence::{brief, digest};
+pub use finding::Finding;
 pub use info::{Class, RuleInfo, RuleNo};
 pub use judgings::one_more;
 pub use reason::Reason;
