@@ -38,3 +38,6 @@ impl Rule for PageHasLang {
         }
     }
 }
+
+#[cfg(test)]
+mod tests;

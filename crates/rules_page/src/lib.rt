@@ -5,6 +5,8 @@
 mod language;
 mod page;
 mod page_title;
+#[cfg(test)]
+mod samples;
 
 pub use language::PageHasLang;
 pub use page_title::PageHasTitle;

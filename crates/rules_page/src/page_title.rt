@@ -81,3 +81,6 @@ impl Rule for PageHasTitle {
         Ok(Some(title_verdict(alloc, title)?))
     }
 }
+
+#[cfg(test)]
+mod tests;
