@@ -71,7 +71,13 @@ pub fn page(alloc: Global, nodes: &[Node]) -> Result<Tree, Fail> {
 }
 
 /// Whether a rule says this of a node of a page.
-pub fn tells<R: Rule>(alloc: Global, rule: &R, nodes: &[Node], n: u32, told: Told) -> Result<bool, Fail> {
+pub fn tells<R: Rule>(
+    alloc: Global,
+    rule: &R,
+    nodes: &[Node],
+    n: u32,
+    told: Told,
+) -> Result<bool, Fail> {
     let tree = page(alloc, nodes)?;
     let verdict = rule.judge(alloc, &tree, NodeId(n))?;
     Ok(match (verdict, told) {

@@ -18,10 +18,7 @@ fn the_root_has_a_lang_that_is_not_blank(rt: HostRuntime) -> Result<(), Fail> {
             &[Attr(0, "html", "lang", " ")],
             Some((Failed, EmptyLang, " ")),
         ),
-        (
-            &[Attr(0, "html", "lang", "en")],
-            Some((Passed, Met, "en")),
-        ),
+        (&[Attr(0, "html", "lang", "en")], Some((Passed, Met, "en"))),
         (
             &[Attr(0, "HTML", "LANG", " en-GB ")],
             Some((Passed, Met, " en-GB ")),

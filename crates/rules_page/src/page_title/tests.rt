@@ -12,7 +12,10 @@ const HTML: Node<'static> = Tag(0, Html, "html");
 fn the_first_html_title_counts(rt: HostRuntime) -> Result<(), Fail> {
     let rows: [(&[Node], Told); 12] = [
         (&[HTML], Some((Failed, NoTitle, ""))),
-        (&[HTML, Tag(1, Html, "title")], Some((Failed, EmptyTitle, ""))),
+        (
+            &[HTML, Tag(1, Html, "title")],
+            Some((Failed, EmptyTitle, "")),
+        ),
         (
             &[HTML, Tag(1, Html, "title"), Words(2, "Home")],
             Some((Passed, Met, "Home")),
@@ -71,7 +74,11 @@ fn the_first_html_title_counts(rt: HostRuntime) -> Result<(), Fail> {
             Some((Passed, Met, "Home")),
         ),
         (
-            &[Tag(0, Html, "HTML"), Tag(1, Html, "title"), Words(2, "Home")],
+            &[
+                Tag(0, Html, "HTML"),
+                Tag(1, Html, "title"),
+                Words(2, "Home"),
+            ],
             Some((Passed, Met, "Home")),
         ),
         (
