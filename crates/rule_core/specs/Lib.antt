@@ -1,0 +1,7 @@
+pub mod Infos
+pub mod Books
+pub mod BookLaws
+pub mod Words
+pub mod Brief
+pub mod Judgings
+pub mod Findings

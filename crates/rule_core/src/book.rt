@@ -1,0 +1,54 @@
+ghost use Rattle.std.specs.Prelude.{◌≡◌, ℕ, ◌<◌, ◌^◌, List, length, Option, None, IfOk, IsTrue, false, slice_get};
+ghost use Rattle.snap_tree.specs.declared.row.NodeId.{NodeId};
+ghost use Rattle.snap_tree.specs.Trees.{Document};
+ghost use Rattle.rule_core.specs.declared.info.RuleNo.{RuleNo};
+ghost use Rattle.rule_core.specs.declared.info.RuleInfo.{RuleInfo};
+ghost use Rattle.rule_core.specs.declared.verdict.Verdict.{Verdict};
+ghost use Rattle.rule_core.specs.Infos.{is_orderly, has_atomic};
+ghost use Rattle.rule_core.specs.Judgings.{one_more};
+
+use crate::info::{RuleInfo, RuleNo};
+use crate::verdict::Verdict;
+use snap_tree::{NodeId, OutOfMemory, Tree};
+use std::alloc::Global;
+
+/// A list of rules that counts its judgings. What its rules say, and their infos, belong to the
+/// type and not to the value, so that all books of one type agree.
+pub trait RuleBook {
+    ghost means: { RuleNo → Document → NodeId → Option Verdict };
+
+    ghost infos: { List RuleInfo };
+
+    ghost calls: { Self → ℕ };
+
+    /// What the rule at this place says of itself, in the order of the numbers, from place 0; `None`
+    /// past the last. Composite rules have places too.
+    fn info(&self, place: usize) -> Option<RuleInfo>
+        ensures { result ≡ slice_get infos place };
+
+    /// The verdict of an atomic rule on a node: `None` exactly where the number isn't that of an
+    /// atomic rule of the book, or the node isn't a target of the rule. The count of judgings
+    /// rises by one, whatever comes, want of memory too.
+    fn judge(
+        &mut self,
+        alloc: Global,
+        tree: &Tree,
+        rule: RuleNo,
+        n: NodeId,
+    ) -> Result<Option<Verdict>, OutOfMemory>
+        ensures verdict { IfOk result (λ verdict. verdict ≡ means rule tree.now n) }
+        ensures counted { calls self.new ≡ one_more (calls self.old) };
+
+    /// The number of judgings so far; at the greatest `u64` it stays.
+    fn calls(&self) -> u64
+        ensures { result ≡ calls self.now };
+
+    // The infos are orderly, so that a rule is found by its number or its id.
+    ghost orderly: { IsTrue (is_orderly infos) };
+
+    // A loop over the places ends.
+    ghost few: { length infos < 2 ^ 16 };
+
+    // The book says nothing by a number that is no atomic rule of it.
+    ghost strange: { (rule : RuleNo) → has_atomic infos rule.0 ≡ false → (page : Document) (n : NodeId) → means rule page n ≡ None };
+}

@@ -1,0 +1,22 @@
+//! What the rules of an audit have in common (ACT Rules Format 1.1): verdicts with their reasons
+//! and evidence, the trait `Rule` of one rule, and the trait `RuleBook` of a list of rules.
+//! Start with `Rule::judge`.
+#![tactic(auto)]
+
+mod book;
+mod evidence;
+mod finding;
+mod info;
+mod judgings;
+mod reason;
+mod rule;
+mod verdict;
+
+pub use book::RuleBook;
+pub use evidence::{brief, digest};
+pub use finding::Finding;
+pub use info::{Class, RuleInfo, RuleNo};
+pub use judgings::one_more;
+pub use reason::Reason;
+pub use rule::Rule;
+pub use verdict::{Auto, Verdict};

@@ -1,0 +1,25 @@
+ghost use Rattle.std.specs.Prelude.{◌≡◌, Option, IfOk};
+ghost use Rattle.snap_tree.specs.declared.row.NodeId.{NodeId};
+ghost use Rattle.snap_tree.specs.Trees.{Document};
+ghost use Rattle.rule_core.specs.declared.info.RuleInfo.{RuleInfo};
+ghost use Rattle.rule_core.specs.declared.verdict.Verdict.{Verdict};
+
+use crate::info::RuleInfo;
+use crate::verdict::Verdict;
+use snap_tree::{NodeId, OutOfMemory, Tree};
+use std::alloc::Global;
+
+/// An atomic rule: what it says of each node of a page, which belongs to its type.
+pub trait Rule {
+    ghost means: { Document → NodeId → Option Verdict };
+
+    ghost described: { RuleInfo };
+
+    /// What the rule says of itself.
+    fn info(&self) -> RuleInfo
+        ensures { result ≡ described };
+
+    /// The verdict on a node: `None` exactly where the node isn't a target, or not in the tree.
+    fn judge(&self, alloc: Global, tree: &Tree, n: NodeId) -> Result<Option<Verdict>, OutOfMemory>
+        ensures { IfOk result (λ verdict. verdict ≡ means tree.now n) };
+}

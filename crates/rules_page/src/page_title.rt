@@ -1,0 +1,86 @@
+ghost use Rattle.std.specs.Prelude.{◌≡◌, IfOk};
+ghost use Rattle.rules_page.specs.PageTitle.{first_title, texts, page_title, title_verdict, page_has_title, page_has_title_info};
+
+use crate::page::root_at;
+use rule_core::{Class, Finding, Reason, Rule, RuleInfo, Verdict};
+use snap_tree::{Body, Branches, NodeId, OutOfMemory, Text, Tree, blank, tidy};
+use std::alloc::Global;
+
+/// ACT rule 2779a5, HTML page has non-empty title. Its target is the root of a page. It fails where
+/// there is no HTML element `title`, or the page title is blank. The evidence is the page title.
+#[derive(Clone, Copy, Debug, PartialEq, Eq)]
+pub struct PageHasTitle;
+
+/// What is below the first HTML element `title` in document order; `None` where there is none.
+fn first_title(trees: Branches<'_>) -> Option<Branches<'_>>
+    ensures { result ≡ first_title trees.entry }
+{
+    let mut rest = trees;
+    while let Some(branch) = rest.first() {
+        if branch.row.is_html("title") {
+            return Some(branch.kids);
+        }
+        if let Some(kids) = first_title(branch.kids) {
+            return Some(kids);
+        }
+        rest = branch.after;
+    }
+    None
+}
+
+/// The texts that stand side by side, with nothing between them.
+fn texts(alloc: Global, trees: Branches<'_>) -> Result<Text, OutOfMemory>
+    ensures { IfOk result (λ t. t ≡ texts trees.entry) }
+{
+    let mut joined = String::new(alloc);
+    let mut rest = trees;
+    while let Some(branch) = rest.first() {
+        if let Body::Words { text } = &branch.row.body {
+            joined.push_str(text.as_str())?;
+        }
+        rest = branch.after;
+    }
+    Ok(Text::from_string(joined))
+}
+
+/// The page title: the text children of the first HTML element `title` in document order, put
+/// together and tidied; `None` where there is no such element.
+fn page_title(alloc: Global, trees: Branches<'_>) -> Result<Option<Text>, OutOfMemory>
+    ensures { IfOk result (λ title. title ≡ page_title trees.entry) }
+{
+    match first_title(trees) {
+        None => Ok(None),
+        Some(kids) => Ok(Some(tidy(alloc, &texts(alloc, kids)?)?)),
+    }
+}
+
+fn title_verdict(alloc: Global, title: Option<Text>) -> Result<Verdict, OutOfMemory>
+    ensures { IfOk result (λ verdict. verdict ≡ title_verdict title) }
+{
+    match title {
+        None => Finding::failed(Reason::NoTitle).verdict(alloc, &Text::new(alloc)),
+        Some(title) if blank(&title) => Finding::failed(Reason::EmptyTitle).verdict(alloc, &title),
+        Some(title) => Finding::met().verdict(alloc, &title),
+    }
+}
+
+impl Rule for PageHasTitle {
+    ghost means = { page_has_title };
+
+    ghost described = { page_has_title_info };
+
+    fn info(&self) -> RuleInfo {
+        RuleInfo::atomic(1, b"2779a5", Class::SelfOnly, Class::Title)
+    }
+
+    fn judge(&self, alloc: Global, tree: &Tree, n: NodeId) -> Result<Option<Verdict>, OutOfMemory> {
+        if root_at(n, tree.branches()).is_none() {
+            return Ok(None);
+        }
+        let title = page_title(alloc, tree.branches())?;
+        Ok(Some(title_verdict(alloc, title)?))
+    }
+}
+
+#[cfg(test)]
+mod tests;
