@@ -3,8 +3,10 @@
 
 mod branches;
 mod build;
+mod copies;
 mod fault;
 mod groups;
+mod index;
 mod kids;
 mod laws;
 mod limits;
@@ -17,6 +19,7 @@ mod tree;
 mod words;
 
 pub use branches::{Branch, Branches};
+pub use copies::Duplicate;
 pub use fault::{BuildFault, TreeFault};
 pub use kids::Kids;
 pub use laws::{laws_of_growth, laws_of_spots};

@@ -11,16 +11,16 @@ ghost use Rattle.snap_tree.specs.Spots.{spot, parent, kids};
 
 use crate::branches::Branches;
 use crate::build::{MOST_NODES, places_of};
+use crate::copies::copies_of;
 use crate::fault::{BuildFault, TreeFault};
-use crate::groups::{Groups, Key, folded, group, groups_of};
+use crate::groups::{folded, group};
+use crate::index::{Index, Places};
 use crate::kids::Kids;
 use crate::list::List;
 use crate::memory::OutOfMemory;
 use crate::row::{NodeId, Raw, Row};
-use crate::sizes::sizes_of;
 use crate::text::Text;
 use std::alloc::Global;
-use std::collections::BTreeMap;
 use std::marker::Model;
 
 /// A page: its address, and the tree of its nodes. Contracts see it as a `Document`.
@@ -28,9 +28,7 @@ use std::marker::Model;
 pub struct Tree {
     address: Text,
     rows: Vec<Row>,
-    sizes: Vec<usize>,
-    places: BTreeMap<u32, usize>,
-    tags: Groups,
+    index: Index,
 }
 
 impl Model for Tree {
@@ -46,12 +44,12 @@ impl Model for Tree {
 
     ghost view = { λ t. record { address = t.address; trees = grown t.rows.items } };
 
-    ghost invariant = { λ t. IsIndexed t.rows.items t.sizes.items t.places t.tags };
+    ghost invariant = { λ t. IsIndexed t.rows.items t.index };
 }
 
 // The place of each number of rows that make a tree, or their first fault.
 #[tactic(auto, unfolding(crate::specs::Faults::tree_fault))]
-fn sound_places(alloc: Global, rows: &[Row]) -> Result<BTreeMap<u32, usize>, BuildFault>
+fn sound_places(alloc: Global, rows: &[Row]) -> Result<Places, BuildFault>
     ensures places { IfOk result (λ places. IsPlaces places rows.now) }
     ensures sound { OnOk result (tree_fault rows.now ≡ None) }
     ensures fault { IfErr result (λ f. Breaks f (tree_fault rows.now)) }
@@ -93,14 +91,11 @@ impl Tree {
         let Raw { address, rows } = raw;
         let rows = rows.into_vec();
         let places = sound_places(alloc, rows.as_slice())?;
-        let sizes = sizes_of(alloc, rows.as_slice())?;
-        let tags = groups_of(alloc, Key::Tag, rows.as_slice())?;
+        let index = Index::of(alloc, rows.as_slice(), places)?;
         Ok(Tree {
             address,
             rows,
-            sizes,
-            places,
-            tags,
+            index,
         })
     }
 
@@ -126,14 +121,14 @@ impl Tree {
     pub fn branches(&self) -> Branches<'_>
         ensures { result ≡ self.now.trees }
     {
-        Branches::over(self.rows.as_slice(), self.sizes.as_slice())
+        Branches::over(self.rows.as_slice(), self.index.sizes.as_slice())
     }
 
     /// The row of a number; None exactly where the tree doesn't hold the number.
     pub fn node(&self, n: NodeId) -> Option<&Row>
         ensures { option_copied result ≡ node self.now.trees n }
     {
-        match self.places.get(&n.0) {
+        match self.index.places.get(&n.0) {
             Some(place) => Some(&self.rows[*place]),
             None => None,
         }
@@ -154,8 +149,12 @@ impl Tree {
     pub fn below(&self, n: NodeId) -> Option<Branches<'_>>
         ensures { result ≡ option_map (λ s. s.below) (spot self.now.trees n) }
     {
-        match self.places.get(&n.0) {
-            Some(place) => Some(run_below(self.rows.as_slice(), self.sizes.as_slice(), *place)),
+        match self.index.places.get(&n.0) {
+            Some(place) => Some(run_below(
+                self.rows.as_slice(),
+                self.index.sizes.as_slice(),
+                *place,
+            )),
             None => None,
         }
     }
@@ -175,7 +174,22 @@ impl Tree {
         ensures { IfOk result (λ nodes. nodes ≡ tagged self.now.trees tag.now) }
     {
         let key = folded(alloc, tag.as_str())?;
-        let nodes = group(&self.tags, key.as_str());
+        let nodes = group(&self.index.tags, key.as_str());
         Ok(List::from_vec(Vec::from_slice(alloc, nodes)?))
+    }
+
+    /// An equal tree.
+    pub fn copy(&self, alloc: Global) -> Result<Self, OutOfMemory>
+        ensures { IfOk result (λ copy. copy ≡ self.now) }
+    {
+        let address = self.address.copy(alloc)?;
+        let rows = copies_of(alloc, self.rows.as_slice())?;
+        let places = self.index.places.clone()?;
+        let index = Index::of(alloc, rows.as_slice(), places)?;
+        Ok(Tree {
+            address,
+            rows,
+            index,
+        })
     }
 }
