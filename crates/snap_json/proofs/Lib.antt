@@ -1,0 +1,3 @@
+pub mod WebAddress
+pub mod FieldCases
+pub mod AttrLoop

@@ -1,0 +1,5 @@
+pub mod Faults
+pub mod Address
+pub mod Fields
+pub mod Seen
+pub mod Pages

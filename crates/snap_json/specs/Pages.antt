@@ -1,0 +1,87 @@
+-- Which bytes are a snapshot, and the page that they are; where they are none, the first fault.
+use Rattle.std.specs.Prelude.{ℕ, ◌+◌, List, [], ◌∷◌, length, codes, nat_le, min, Bool, true, false, not, if◌then◌else◌, Option, Some, None, option_and_then, Result, Ok, Err}
+use Rattle.std.specs.Str.{is_utf8}
+use Rattle.serde_json.specs.Data.{Data, Items, no_items, item}
+use Rattle.serde_json.specs.Find.{get, as_array, as_object}
+use Rattle.serde_json.specs.Read.{read}
+use Rattle.snap_tree.specs.declared.row.Row.{Row}
+use Rattle.snap_tree.specs.declared.row.Raw.{Raw}
+use Rattle.snap_tree.specs.declared.row.Body.{Body}
+use Rattle.snap_tree.specs.declared.row.Body.TheVariants.{Element, Words}
+use Rattle.snap_json.specs.declared.fault.Field.TheVariants as field
+use Rattle.snap_json.specs.declared.fault.SnapFault.{SnapFault}
+use Rattle.snap_json.specs.declared.fault.SnapFault.TheVariants.{NotJson, Shape, BadUrl, TooLong}
+use Rattle.snap_json.specs.declared.limits.Limits.{Limits}
+use Rattle.snap_json.specs.Faults.{◌>>=◌, in_shape}
+use Rattle.snap_json.specs.Fields.{number_of, parent_of, text_of, name_of, space_of, attrs_of, facts_of}
+use Rattle.snap_json.specs.Address.{address_of}
+
+-- exactly one of tag and text is there; the name space and the attributes are read beside a tag
+abbrev pub body_from : ℕ → Data → Option Data → Option Data → Result Body SnapFault
+body_from place row (Some t) None = do
+  tag ← in_shape place field.Tag (name_of (Some t))
+  space ← in_shape place field.Ns (space_of (get (codes "ns") row))
+  attrs ← in_shape place field.Attrs (attrs_of (get (codes "attrs") row))
+  Ok (Element space tag attrs)
+body_from place row None (Some t) = do
+  text ← in_shape place field.Text (text_of (Some t))
+  Ok (Words text)
+body_from place row None None = Err (Shape place field.Tag)
+body_from place row (Some tag) (Some text) = Err (Shape place field.Tag)
+
+-- the body of the row at a place of the list
+unfoldable pub body_of : ℕ → Data → Result Body SnapFault
+body_of place row = body_from place row (get (codes "tag") row) (get (codes "text") row)
+
+-- the row at a place of the list
+unfoldable pub row_of : ℕ → Data → Result Row SnapFault
+row_of place row = do
+  members ← in_shape place field.Row (as_object row)
+  id ← in_shape place field.N (number_of (get (codes "n") row))
+  parent ← in_shape place field.P (parent_of (get (codes "p") row))
+  body ← body_of place row
+  facts ← in_shape place field.F (facts_of (get (codes "f") row))
+  Ok (record { id = id; parent = parent; body = body; facts = facts })
+
+-- the place after a place, of which 4,294,967,295 is the last
+abbrev pub next_place : ℕ → ℕ
+next_place place = min (place + 1) 4294967295
+
+-- the rows of a list, whose first is at a place
+abbrev pub rows_of : ℕ → Items → Result (List Row) SnapFault
+rows_of place no_items = Ok []
+rows_of place (item row others) = do
+  first ← row_of place row
+  rest ← rows_of (next_place place) others
+  Ok (first ∷ rest)
+
+-- a length within a limit, where there is one
+abbrev pub within : Option ℕ → ℕ → Bool
+within None n = true
+within (Some limit) n = nat_le n limit
+
+-- a page's address, from the text that was sent
+abbrev pub address_from : Option ℕ → List ℕ → Result (List ℕ) SnapFault
+address_from limit text = if within limit (length text) then elim (address_of text) [ Some a ↦ Ok a | None ↦ Err BadUrl ] else Err BadUrl
+
+-- the page that a JSON value is
+unfoldable pub page_of : Limits → Data → Result Raw SnapFault
+page_of limits page = do
+  members ← in_shape 0 field.Top (as_object page)
+  sent ← in_shape 0 field.Url (text_of (get (codes "url") page))
+  nodes ← in_shape 0 field.Nodes (option_and_then as_array (get (codes "nodes") page))
+  address ← address_from limits.address sent
+  rows ← rows_of 1 nodes
+  Ok (record { address = address; rows = rows })
+
+-- the JSON value that bytes are
+unfoldable pub json_of : List ℕ → Option Data
+json_of bytes = if is_utf8 bytes then read bytes else None
+
+abbrev pub json_or_fault : Option Data → Result Data SnapFault
+json_or_fault (Some d) = Ok d
+json_or_fault None = Err NotJson
+
+-- the page that bytes are
+unfoldable pub page_in : Limits → List ℕ → Result Raw SnapFault
+page_in limits bytes = if within limits.bytes (length bytes) then json_or_fault (json_of bytes) >>= page_of limits else Err TooLong
