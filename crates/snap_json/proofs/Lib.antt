@@ -1,3 +1,5 @@
 pub mod WebAddress
 pub mod FieldCases
 pub mod AttrLoop
+pub mod RowLoop
+pub mod Json

@@ -12,20 +12,29 @@ use Rattle.snap_json.specs.declared.fault.Field.TheVariants as field
 use Rattle.snap_json.specs.declared.fault.SnapFault.{SnapFault}
 use Rattle.snap_json.specs.declared.fault.SnapFault.TheVariants.{NotJson, Shape, BadUrl, TooLong}
 use Rattle.snap_json.specs.declared.limits.Limits.{Limits}
+use Rattle.snap_json.specs.declared.limits.TheConstants.{SENT}
 use Rattle.snap_json.specs.Faults.{◌>>=◌, in_shape}
 use Rattle.snap_json.specs.Fields.{number_of, parent_of, text_of, name_of, space_of, attrs_of, facts_of}
 use Rattle.snap_json.specs.Address.{address_of}
 
--- exactly one of tag and text is there; the name space and the attributes are read beside a tag
-abbrev pub body_from : ℕ → Data → Option Data → Option Data → Result Body SnapFault
-body_from place row (Some t) None = do
+-- an element, of a row with a tag
+abbrev pub element_from : ℕ → Data → Data → Result Body SnapFault
+element_from place row t = do
   tag ← in_shape place field.Tag (name_of (Some t))
   space ← in_shape place field.Ns (space_of (get (codes "ns") row))
   attrs ← in_shape place field.Attrs (attrs_of (get (codes "attrs") row))
   Ok (Element space tag attrs)
-body_from place row None (Some t) = do
+
+-- a text, whose name space and attributes aren't read
+abbrev pub words_from : ℕ → Data → Result Body SnapFault
+words_from place t = do
   text ← in_shape place field.Text (text_of (Some t))
   Ok (Words text)
+
+-- exactly one of tag and text is there
+abbrev pub body_from : ℕ → Data → Option Data → Option Data → Result Body SnapFault
+body_from place row (Some tag) None = element_from place row tag
+body_from place row None (Some text) = words_from place text
 body_from place row None None = Err (Shape place field.Tag)
 body_from place row (Some tag) (Some text) = Err (Shape place field.Tag)
 
@@ -60,9 +69,14 @@ abbrev pub within : Option ℕ → ℕ → Bool
 within None n = true
 within (Some limit) n = nat_le n limit
 
+-- a web address, or the fault that there is none
+abbrev pub web : Option (List ℕ) → Result (List ℕ) SnapFault
+web (Some address) = Ok address
+web None = Err BadUrl
+
 -- a page's address, from the text that was sent
 abbrev pub address_from : Option ℕ → List ℕ → Result (List ℕ) SnapFault
-address_from limit text = if within limit (length text) then elim (address_of text) [ Some a ↦ Ok a | None ↦ Err BadUrl ] else Err BadUrl
+address_from limit text = if within limit (length text) then web (address_of text) else Err BadUrl
 
 -- the page that a JSON value is
 unfoldable pub page_of : Limits → Data → Result Raw SnapFault
@@ -78,10 +92,17 @@ page_of limits page = do
 unfoldable pub json_of : List ℕ → Option Data
 json_of bytes = if is_utf8 bytes then read bytes else None
 
-abbrev pub json_or_fault : Option Data → Result Data SnapFault
-json_or_fault (Some d) = Ok d
-json_or_fault None = Err NotJson
+-- a JSON value, or the fault that there is none
+abbrev pub in_json : Option Data → Result Data SnapFault
+in_json (Some d) = Ok d
+in_json None = Err NotJson
 
 -- the page that bytes are
 unfoldable pub page_in : Limits → List ℕ → Result Raw SnapFault
-page_in limits bytes = if within limits.bytes (length bytes) then json_or_fault (json_of bytes) >>= page_of limits else Err TooLong
+page_in limits bytes =
+    if within limits.snapshot (length bytes) then in_json (json_of bytes) >>= page_of limits
+    else Err TooLong
+
+-- the page that bytes are which were sent: at most 8,388,608 of them, and 65,536 in its address
+abbrev pub sent_page : List ℕ → Result Raw SnapFault
+sent_page bytes = page_in SENT bytes

@@ -3,6 +3,7 @@ ghost use Rattle.snap_json.specs.Faults.{fault_number, fault_name, field_name};
 ghost use Rattle.snap_json.specs.declared.fault.SnapFault.TheVariants.{OutOfMemory as Unread};
 
 use snap_tree::OutOfMemory;
+use std::alloc::AllocFailed;
 
 /// A part of a snapshot that can be out of shape: the value as a whole, its address, its list of
 /// rows, a row as a whole, or a member of a row.
@@ -90,6 +91,14 @@ impl From<OutOfMemory> for SnapFault {
     ghost from_gives = { λ _ e. e ≡ Unread };
 
     fn from(_error: OutOfMemory) -> Self {
+        SnapFault::OutOfMemory
+    }
+}
+
+impl<T: Drop> From<AllocFailed<T>> for SnapFault {
+    ghost from_gives = { λ _ e. e ≡ Unread };
+
+    fn from(_error: AllocFailed<T>) -> Self {
         SnapFault::OutOfMemory
     }
 }

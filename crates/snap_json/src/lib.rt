@@ -4,7 +4,9 @@
 mod address;
 mod fault;
 mod fields;
-mod value;
+mod reading;
 mod limits;
+mod rows;
 
 pub use fault::{Field, SnapFault};
+pub use reading::read_raw;

@@ -1,6 +1,18 @@
-/// How long a snapshot and its address may be, in bytes. None is no limit.
+/// How many bytes a snapshot and its address may have. None is no limit.
 #[derive(Clone, Copy, Debug)]
-pub struct Limits {
-    pub bytes: Option<usize>,
+pub(crate) struct Limits {
+    pub snapshot: Option<usize>,
     pub address: Option<usize>,
 }
+
+/// The limits on a snapshot that is sent.
+pub(crate) const SENT: Limits = Limits {
+    snapshot: Some(8_388_608),
+    address: Some(65_536),
+};
+
+/// What was written and kept may be longer than what is sent, and so may its address.
+pub(crate) const KEPT: Limits = Limits {
+    snapshot: None,
+    address: None,
+};
