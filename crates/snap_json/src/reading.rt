@@ -90,3 +90,6 @@ fn within(limit: Option<usize>, len: usize) -> bool
         None => true,
     }
 }
+
+#[cfg(test)]
+mod tests;
