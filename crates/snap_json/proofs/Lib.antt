@@ -3,3 +3,4 @@ pub mod FieldCases
 pub mod AttrLoop
 pub mod RowLoop
 pub mod Json
+pub mod WrittenData

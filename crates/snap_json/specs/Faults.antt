@@ -3,7 +3,7 @@ use Rattle.std.specs.Prelude.{◌≡◌, ℕ, List, codes, Option, Some, None, R
 use Rattle.snap_json.specs.declared.fault.Field.{Field}
 use Rattle.snap_json.specs.declared.fault.Field.TheVariants as field
 use Rattle.snap_json.specs.declared.fault.SnapFault.{SnapFault}
-use Rattle.snap_json.specs.declared.fault.SnapFault.TheVariants.{NotJson, Shape, BadUrl, TooLong, OutOfMemory}
+use Rattle.snap_json.specs.declared.fault.SnapFault.TheVariants.{NotJson, Shape, BadUrl, Tree, TooLong, OutOfMemory}
 
 abbrev pub field_name : Field → List ℕ
 field_name field.Top = codes "top"
@@ -22,6 +22,7 @@ abbrev pub fault_number : SnapFault → Option ℕ
 fault_number NotJson = Some 1
 fault_number (Shape place f) = Some 2
 fault_number BadUrl = Some 3
+fault_number (Tree f) = Some 4
 fault_number TooLong = Some 5
 fault_number OutOfMemory = None
 
@@ -29,6 +30,7 @@ abbrev pub fault_name : SnapFault → List ℕ
 fault_name NotJson = codes "NotJson"
 fault_name (Shape place f) = codes "Shape"
 fault_name BadUrl = codes "BadUrl"
+fault_name (Tree f) = codes "Tree"
 fault_name TooLong = codes "TooLong"
 fault_name OutOfMemory = codes "OutOfMemory"
 
@@ -48,6 +50,7 @@ abbrev pub Fails : {A : Type 0} → SnapFault → Result A SnapFault → Type 0
 Fails NotJson given = given ≡ Err NotJson
 Fails (Shape place f) given = given ≡ Err (Shape place f)
 Fails BadUrl given = given ≡ Err BadUrl
+Fails (Tree f) given = given ≡ Err (Tree f)
 Fails TooLong given = given ≡ Err TooLong
 Fails OutOfMemory given = Unit {0}
 

@@ -3,3 +3,4 @@ pub mod Address
 pub mod Fields
 pub mod Seen
 pub mod Pages
+pub mod Written

@@ -2,7 +2,7 @@ ghost use Rattle.std.specs.Prelude.{◌≡◌, codes};
 ghost use Rattle.snap_json.specs.Faults.{fault_number, fault_name, field_name};
 ghost use Rattle.snap_json.specs.declared.fault.SnapFault.TheVariants.{OutOfMemory as Unread};
 
-use snap_tree::OutOfMemory;
+use snap_tree::{OutOfMemory, TreeFault};
 use std::alloc::AllocFailed;
 
 /// A part of a snapshot that can be out of shape: the value as a whole, its address, its list of
@@ -53,6 +53,8 @@ pub enum SnapFault {
     Shape { place: u32, field: Field },
     /// The address is too long, or is no URL of the scheme http or https.
     BadUrl,
+    /// The rows make no tree.
+    Tree(TreeFault),
     /// There are too many bytes.
     TooLong,
     /// Want of memory, which is no fault of the snapshot.
@@ -68,6 +70,7 @@ impl SnapFault {
             SnapFault::NotJson => Some(1),
             SnapFault::Shape { .. } => Some(2),
             SnapFault::BadUrl => Some(3),
+            SnapFault::Tree(_) => Some(4),
             SnapFault::TooLong => Some(5),
             SnapFault::OutOfMemory => None,
         }
@@ -81,6 +84,7 @@ impl SnapFault {
             SnapFault::NotJson => "NotJson",
             SnapFault::Shape { .. } => "Shape",
             SnapFault::BadUrl => "BadUrl",
+            SnapFault::Tree(_) => "Tree",
             SnapFault::TooLong => "TooLong",
             SnapFault::OutOfMemory => "OutOfMemory",
         }

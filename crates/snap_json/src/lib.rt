@@ -7,6 +7,7 @@ mod fields;
 mod reading;
 mod limits;
 mod rows;
+mod writing;
 
 pub use fault::{Field, SnapFault};
 pub use reading::read_raw;

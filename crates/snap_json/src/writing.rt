@@ -1,0 +1,145 @@
+ghost use Rattle.std.specs.Prelude.{◌≡◌, map, IfOk, string_bytes};
+ghost use Rattle.serde_json.specs.Data.{string};
+ghost use Rattle.serde_json.specs.View.{view, items_of, items_view, members_view};
+ghost use Rattle.serde_json.specs.Written.{compact_text};
+ghost use Rattle.snap_json.specs.Written.{letters, space_name, parent_data, attr_data, element_data, words_data, row_data, page_data};
+
+use serde_json::{Map, Value, put};
+use snap_tree::{Attr, Body, Facts, List, NodeId, OutOfMemory, Row, Space, Text};
+use std::alloc::Global;
+
+/// The bytes of a page.
+#[tactic(auto, using(crate::proofs::WrittenData::page_has_no_float))]
+fn page_text(alloc: Global, address: &Text, rows: &[Row]) -> Result<Vec<u8>, OutOfMemory>
+    ensures { IfOk result (λ b. b.items ≡ compact_text (page_data address.now rows.now)) }
+{
+    let page = page_value(alloc, address, rows)?;
+    Ok(page.to_vec(alloc)?)
+}
+
+#[tactic(auto, unfolding(crate::specs::Written::page_data))]
+fn page_value(alloc: Global, address: &Text, rows: &[Row]) -> Result<Value, OutOfMemory>
+    ensures { IfOk result (λ v. view v ≡ page_data address.now rows.now) }
+{
+    let nodes = rows_value(alloc, rows)?;
+    let mut members = Map::new(alloc);
+    put(&mut members, alloc, "nodes", Value::Array(nodes))?;
+    put(&mut members, alloc, "url", text_value(alloc, address)?)?;
+    Ok(Value::Object(members))
+}
+
+fn rows_value(alloc: Global, rows: &[Row]) -> Result<Vec<Value>, OutOfMemory>
+    ensures { IfOk result (λ v. items_view v.items ≡ items_of (map row_data rows.now)) }
+{
+    let mut values = Vec::new(alloc);
+    for row in rows {
+        values.push(row_value(alloc, row)?)?;
+    }
+    Ok(values)
+}
+
+#[tactic(auto, unfolding(crate::specs::Written::row_data))]
+fn row_value(alloc: Global, row: &Row) -> Result<Value, OutOfMemory>
+    ensures { IfOk result (λ v. view v ≡ row_data row.now) }
+{
+    let members = match &row.body {
+        Body::Element { space, tag, attrs } => element_members(alloc, row, *space, tag, attrs)?,
+        Body::Words { text } => words_members(alloc, row, text)?,
+    };
+    Ok(Value::Object(members))
+}
+
+fn element_members(
+    alloc: Global,
+    row: &Row,
+    space: Space,
+    tag: &Text,
+    attrs: &List<Attr>,
+) -> Result<Map<String, Value>, OutOfMemory>
+    ensures { IfOk result (λ m. members_view m.entries ≡ element_data row.now space tag.now attrs.now) }
+{
+    let mut members = Map::new(alloc);
+    let attrs = attrs_value(alloc, attrs.as_slice())?;
+    put(&mut members, alloc, "attrs", Value::Array(attrs))?;
+    put(&mut members, alloc, "f", Value::String(letters(alloc, row.facts)?))?;
+    put(&mut members, alloc, "n", Value::from(row.id.0))?;
+    put(&mut members, alloc, "ns", Value::try_from_str(alloc, space_name(space))?)?;
+    put(&mut members, alloc, "p", parent_value(row.parent))?;
+    put(&mut members, alloc, "tag", text_value(alloc, tag)?)?;
+    Ok(members)
+}
+
+fn words_members(alloc: Global, row: &Row, text: &Text) -> Result<Map<String, Value>, OutOfMemory>
+    ensures { IfOk result (λ m. members_view m.entries ≡ words_data row.now text.now) }
+{
+    let mut members = Map::new(alloc);
+    put(&mut members, alloc, "f", Value::String(letters(alloc, row.facts)?))?;
+    put(&mut members, alloc, "n", Value::from(row.id.0))?;
+    put(&mut members, alloc, "p", parent_value(row.parent))?;
+    put(&mut members, alloc, "text", text_value(alloc, text)?)?;
+    Ok(members)
+}
+
+fn text_value(alloc: Global, text: &Text) -> Result<Value, OutOfMemory>
+    ensures { IfOk result (λ v. view v ≡ string text.now) }
+{
+    Ok(Value::try_from_str(alloc, text.as_str())?)
+}
+
+fn parent_value(parent: Option<NodeId>) -> Value
+    ensures { view result ≡ parent_data parent }
+{
+    match parent {
+        None => Value::Null,
+        Some(parent) => Value::from(parent.0),
+    }
+}
+
+fn attrs_value(alloc: Global, attrs: &[Attr]) -> Result<Vec<Value>, OutOfMemory>
+    ensures { IfOk result (λ v. items_view v.items ≡ items_of (map attr_data attrs.now)) }
+{
+    let mut values = Vec::new(alloc);
+    for attr in attrs {
+        values.push(attr_value(alloc, attr)?)?;
+    }
+    Ok(values)
+}
+
+fn attr_value(alloc: Global, attr: &Attr) -> Result<Value, OutOfMemory>
+    ensures { IfOk result (λ v. view v ≡ attr_data attr.now) }
+{
+    let mut pair = Vec::new(alloc);
+    pair.push(text_value(alloc, &attr.name)?)?;
+    pair.push(text_value(alloc, &attr.value)?)?;
+    Ok(Value::Array(pair))
+}
+
+fn space_name(space: Space) -> &'static str
+    ensures { result.now ≡ space_name space }
+{
+    match space {
+        Space::Html => "html",
+        Space::Svg => "svg",
+        Space::Other => "other",
+    }
+}
+
+/// The letters of facts.
+fn letters(alloc: Global, facts: Facts) -> Result<String, OutOfMemory>
+    ensures { IfOk result (λ s. string_bytes s ≡ letters facts) }
+{
+    let mut letters = String::new(alloc);
+    if facts.rendered {
+        letters.push_str("r")?;
+    }
+    if facts.visible {
+        letters.push_str("v")?;
+    }
+    if facts.focusable {
+        letters.push_str("f")?;
+    }
+    if facts.tabbable {
+        letters.push_str("t")?;
+    }
+    Ok(letters)
+}
