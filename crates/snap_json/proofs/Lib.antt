@@ -4,3 +4,4 @@ pub mod AttrLoop
 pub mod RowLoop
 pub mod Json
 pub mod WrittenData
+pub mod ReadBack

@@ -32,3 +32,25 @@ rows_have_no_float (row ∷ rows) = rw (body_has_no_float row row.body) (rows_ha
 pub page_has_no_float : (address : List ℕ) (rows : List Row) → has_float (page_data address rows) ≡ false
 unfolding page_data
 page_has_no_float address rows = rw (rows_have_no_float rows) refl
+
+parent_is_flat : (p : Option NodeId) → depth (parent_data p) ≡ 0
+parent_is_flat None = refl
+parent_is_flat (Some p) = refl
+
+attrs_depth : (attrs : List Attr) → items_depth (items_of (map attr_data attrs)) ≤ 1
+attrs_depth [] = omega arith
+attrs_depth (a ∷ attrs) = let rest = attrs_depth attrs in omega arith
+
+body_depth : (row : Row) (body : Body) → depth (object (members_data row body)) ≤ 3
+body_depth row (Element space tag attrs) =
+    let items = attrs_depth attrs in let parent = parent_is_flat row.parent in omega arith
+body_depth row (Words text) = let parent = parent_is_flat row.parent in omega arith
+
+rows_depth : (rows : List Row) → items_depth (items_of (map row_data rows)) ≤ 3
+unfolding row_data
+rows_depth [] = omega arith
+rows_depth (row ∷ rows) = let first = body_depth row row.body in let rest = rows_depth rows in omega arith
+
+pub page_depth : (address : List ℕ) (rows : List Row) → depth (page_data address rows) ≤ 5
+unfolding page_data
+page_depth address rows = let items = rows_depth rows in omega arith
