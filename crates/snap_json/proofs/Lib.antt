@@ -5,3 +5,4 @@ pub mod RowLoop
 pub mod Json
 pub mod WrittenData
 pub mod ReadBack
+pub mod Readable
