@@ -17,6 +17,7 @@ use Rattle.snap_tree.specs.Rows.{attrs_of, has_number, is_text, has_long, has_do
 use Rattle.snap_tree.specs.declared.fault.TreeFault.TheVariants.{DoubleNumber, ParentUnknownOrNotOpen, TooDeep, TooManyAttrs, TextTooLong, DoubleAttr, TextHasKids, RootNotElement, EmptyName}
 use Rattle.snap_tree.specs.Faults.{most_depth, is_below_text, open_rows, from_parent, is_first, is_misplaced, place_fault, row_fault, rows_fault}
 use Rattle.snap_tree.proofs.Growth.{rows_of_grown}
+use Rattle.snap_json.specs.Small.{IsSmall}
 use Rattle.snap_json.proofs.ReadBack.{IsNumber, IsNamed, IsNamedBody, IsReadable}
 
 -- ---- a chain of tests that names no fault
@@ -115,11 +116,6 @@ placed first r above below h =
     (tests.0, tests.2)
 
 -- ---- all rows
-
--- what every row holds to, since its numbers are of 32 bits
-pub record IsSmall (row : Row) : Type 0 where
-  pub number : row.id.0 < 2 ^ 32
-  pub parent : IfSome row.parent (λ p. p.0 < 2 ^ 32)
 
 ranged : (p : Option NodeId) → IfSome p (λ q. 0 < q.0) → IfSome p (λ q. q.0 < 2 ^ 32) → IfSome p IsNumber
 ranged None above fits = tt

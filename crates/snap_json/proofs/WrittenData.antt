@@ -2,6 +2,7 @@
 use Rattle.std.proofs.Common.{◌≡◌, ℕ, ◌≤◌, suc, List, [], ◌∷◌, map, Bool, true, false, ◌||◌, Option, Some, None, refl, ap, ◌∙◌, arith}
 use Rattle.std.specs.Prelude.{max}
 use Rattle.serde_json.specs.Data.{Data, depth, items_depth}
+use Rattle.serde_json.specs.Read.{max_depth}
 use Rattle.serde_json.specs.View.{items_of}
 use Rattle.serde_json.specs.Written.{has_float, items_have_float}
 use Rattle.snap_tree.specs.declared.row.NodeId.{NodeId}
@@ -51,6 +52,9 @@ unfolding row_data
 rows_depth [] = omega arith
 rows_depth (row ∷ rows) = let first = body_depth row row.body in let rest = rows_depth rows in omega arith
 
-pub page_depth : (address : List ℕ) (rows : List Row) → depth (page_data address rows) ≤ 5
+page_depth : (address : List ℕ) (rows : List Row) → depth (page_data address rows) ≤ 5
 unfolding page_data
 page_depth address rows = let items = rows_depth rows in omega arith
+
+pub page_nests_few : (address : List ℕ) (rows : List Row) → depth (page_data address rows) ≤ max_depth
+page_nests_few address rows = let h = page_depth address rows in omega arith

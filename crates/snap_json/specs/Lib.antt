@@ -3,4 +3,5 @@ pub mod Address
 pub mod Fields
 pub mod Seen
 pub mod Pages
+pub mod Small
 pub mod Written

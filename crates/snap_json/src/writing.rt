@@ -1,17 +1,22 @@
-ghost use Rattle.std.specs.Prelude.{◌≡◌, map, IfOk, string_bytes};
+ghost use Rattle.std.specs.Prelude.{◌≡◌, map, ◌<◌, ◌^◌, Some, IfOk, IfSome, OnOk, string_bytes};
+ghost use Rattle.std.specs.List.{AllByRecursion};
 ghost use Rattle.serde_json.specs.Data.{string};
 ghost use Rattle.serde_json.specs.View.{view, items_of, items_view, members_view};
 ghost use Rattle.serde_json.specs.Written.{compact_text};
-ghost use Rattle.snap_json.specs.Written.{letters, space_name, parent_data, attr_data, element_data, words_data, row_data, page_data};
+ghost use Rattle.snap_json.specs.Small.{IsSmall};
+ghost use Rattle.snap_json.specs.Pages.{json_of};
+ghost use Rattle.snap_json.specs.Written.{letters, space_name, number_data, parent_data, attr_data, element_data, words_data, row_data, page_data};
 
 use serde_json::{Map, Value, put};
 use snap_tree::{Attr, Body, Facts, List, NodeId, OutOfMemory, Row, Space, Text};
 use std::alloc::Global;
 
 /// The bytes of a page.
-#[tactic(auto, using(crate::proofs::WrittenData::page_has_no_float))]
+#[tactic(auto, using(crate::proofs::WrittenData::page_has_no_float, crate::proofs::Json::is_json, crate::proofs::WrittenData::page_nests_few))]
 fn page_text(alloc: Global, address: &Text, rows: &[Row]) -> Result<Vec<u8>, OutOfMemory>
-    ensures { IfOk result (λ b. b.items ≡ compact_text (page_data address.now rows.now)) }
+    ensures text { IfOk result (λ b. b.items ≡ compact_text (page_data address.now rows.now)) }
+    ensures json { IfOk result (λ b. json_of b.items ≡ Some (page_data address.now rows.now)) }
+    ensures small { OnOk result (AllByRecursion IsSmall rows.now) }
 {
     let page = page_value(alloc, address, rows)?;
     Ok(page.to_vec(alloc)?)
@@ -19,7 +24,8 @@ fn page_text(alloc: Global, address: &Text, rows: &[Row]) -> Result<Vec<u8>, Out
 
 #[tactic(auto, unfolding(crate::specs::Written::page_data))]
 fn page_value(alloc: Global, address: &Text, rows: &[Row]) -> Result<Value, OutOfMemory>
-    ensures { IfOk result (λ v. view v ≡ page_data address.now rows.now) }
+    ensures value { IfOk result (λ v. view v ≡ page_data address.now rows.now) }
+    ensures small { OnOk result (AllByRecursion IsSmall rows.now) }
 {
     let nodes = rows_value(alloc, rows)?;
     let mut members = Map::new(alloc);
@@ -29,7 +35,8 @@ fn page_value(alloc: Global, address: &Text, rows: &[Row]) -> Result<Value, OutO
 }
 
 fn rows_value(alloc: Global, rows: &[Row]) -> Result<Vec<Value>, OutOfMemory>
-    ensures { IfOk result (λ v. items_view v.items ≡ items_of (map row_data rows.now)) }
+    ensures value { IfOk result (λ v. items_view v.items ≡ items_of (map row_data rows.now)) }
+    ensures small { OnOk result (AllByRecursion IsSmall rows.now) }
 {
     let mut values = Vec::new(alloc);
     for row in rows {
@@ -40,7 +47,8 @@ fn rows_value(alloc: Global, rows: &[Row]) -> Result<Vec<Value>, OutOfMemory>
 
 #[tactic(auto, unfolding(crate::specs::Written::row_data))]
 fn row_value(alloc: Global, row: &Row) -> Result<Value, OutOfMemory>
-    ensures { IfOk result (λ v. view v ≡ row_data row.now) }
+    ensures value { IfOk result (λ v. view v ≡ row_data row.now) }
+    ensures small { OnOk result (IsSmall row.now) }
 {
     let members = match &row.body {
         Body::Element { space, tag, attrs } => element_members(alloc, row, *space, tag, attrs)?,
@@ -56,13 +64,15 @@ fn element_members(
     tag: &Text,
     attrs: &List<Attr>,
 ) -> Result<Map<String, Value>, OutOfMemory>
-    ensures { IfOk result (λ m. members_view m.entries ≡ element_data row.now space tag.now attrs.now) }
+    ensures value { IfOk result
+        (λ m. members_view m.entries ≡ element_data row.now space tag.now attrs.now) }
+    ensures small { OnOk result (IsSmall row.now) }
 {
     let mut members = Map::new(alloc);
     let attrs = attrs_value(alloc, attrs.as_slice())?;
     put(&mut members, alloc, "attrs", Value::Array(attrs))?;
     put(&mut members, alloc, "f", Value::String(letters(alloc, row.facts)?))?;
-    put(&mut members, alloc, "n", Value::from(row.id.0))?;
+    put(&mut members, alloc, "n", number_value(row.id))?;
     put(&mut members, alloc, "ns", Value::try_from_str(alloc, space_name(space))?)?;
     put(&mut members, alloc, "p", parent_value(row.parent))?;
     put(&mut members, alloc, "tag", text_value(alloc, tag)?)?;
@@ -70,11 +80,12 @@ fn element_members(
 }
 
 fn words_members(alloc: Global, row: &Row, text: &Text) -> Result<Map<String, Value>, OutOfMemory>
-    ensures { IfOk result (λ m. members_view m.entries ≡ words_data row.now text.now) }
+    ensures value { IfOk result (λ m. members_view m.entries ≡ words_data row.now text.now) }
+    ensures small { OnOk result (IsSmall row.now) }
 {
     let mut members = Map::new(alloc);
     put(&mut members, alloc, "f", Value::String(letters(alloc, row.facts)?))?;
-    put(&mut members, alloc, "n", Value::from(row.id.0))?;
+    put(&mut members, alloc, "n", number_value(row.id))?;
     put(&mut members, alloc, "p", parent_value(row.parent))?;
     put(&mut members, alloc, "text", text_value(alloc, text)?)?;
     Ok(members)
@@ -87,12 +98,20 @@ fn text_value(alloc: Global, text: &Text) -> Result<Value, OutOfMemory>
 }
 
 fn parent_value(parent: Option<NodeId>) -> Value
-    ensures { view result ≡ parent_data parent }
+    ensures value { view result ≡ parent_data parent }
+    ensures fits { IfSome parent (λ p. p.0 < 2 ^ 32) }
 {
     match parent {
         None => Value::Null,
-        Some(parent) => Value::from(parent.0),
+        Some(parent) => number_value(parent),
     }
+}
+
+fn number_value(number: NodeId) -> Value
+    ensures value { view result ≡ number_data number }
+    ensures fits { number.0 < 2 ^ 32 }
+{
+    Value::from(number.0)
 }
 
 fn attrs_value(alloc: Global, attrs: &[Attr]) -> Result<Vec<Value>, OutOfMemory>
