@@ -6,3 +6,4 @@ pub mod Json
 pub mod WrittenData
 pub mod ReadBack
 pub mod Readable
+pub mod ReadTree
