@@ -16,7 +16,6 @@ use Rattle.snap_json.specs.declared.fault.Field.TheVariants as field
 use Rattle.snap_json.specs.declared.fault.SnapFault.{SnapFault}
 use Rattle.snap_json.specs.declared.fault.SnapFault.TheVariants.{NotJson, Shape, BadUrl, Tree, TooLong}
 use Rattle.snap_json.specs.declared.limits.Limits.{Limits}
-use Rattle.snap_json.specs.declared.limits.TheConstants.{SENT, KEPT}
 use Rattle.snap_json.specs.Faults.{◌>>=◌, in_shape}
 use Rattle.snap_json.specs.Fields.{number_of, parent_of, text_of, name_of, space_of, attrs_of, facts_of}
 use Rattle.snap_json.specs.Address.{address_of}
@@ -86,9 +85,9 @@ address_from limit text = if within limit (length text) then web (address_of tex
 unfoldable pub page_of : Limits → Data → Result Raw SnapFault
 page_of limits page = do
   members ← in_shape 0 field.Top (as_object page)
-  sent ← in_shape 0 field.Url (text_of (get (codes "url") page))
+  text ← in_shape 0 field.Url (text_of (get (codes "url") page))
   nodes ← in_shape 0 field.Nodes (option_and_then as_array (get (codes "nodes") page))
-  address ← address_from limits.address sent
+  address ← address_from limits.address text
   rows ← rows_of 1 nodes
   Ok (record { address = address; rows = rows })
 
@@ -120,11 +119,17 @@ unfoldable pub tree_in : Limits → List ℕ → Result Document SnapFault
 tree_in limits bytes = page_in limits bytes >>= built
 
 -- What is sent has at most 8,388,608 bytes, and 65,536 in its address. What is kept has no such limit.
+abbrev pub sent : Limits
+sent = record { snapshot = Some 8388608; address = Some 65536 }
+
+abbrev pub kept : Limits
+kept = record { snapshot = None; address = None }
+
 abbrev pub sent_page : List ℕ → Result Raw SnapFault
-sent_page bytes = page_in SENT bytes
+sent_page bytes = page_in sent bytes
 
 abbrev pub sent_tree : List ℕ → Result Document SnapFault
-sent_tree bytes = tree_in SENT bytes
+sent_tree bytes = tree_in sent bytes
 
 abbrev pub kept_tree : List ℕ → Result Document SnapFault
-kept_tree bytes = tree_in KEPT bytes
+kept_tree bytes = tree_in kept bytes
