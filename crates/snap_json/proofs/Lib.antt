@@ -7,3 +7,4 @@ pub mod WrittenData
 pub mod ReadBack
 pub mod Readable
 pub mod ReadTree
+pub mod NeverTooLong

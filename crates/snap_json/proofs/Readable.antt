@@ -32,7 +32,7 @@ chain_none false false true d w x y z rest h = absurd cc
 chain_none false false false true w x y z rest h = absurd cc
 chain_none false false false false w x y z rest h = (refl, refl, h)
 
-chosen : {X : Type 0} (b : Bool) (x : X) (rest : Option X) → cond b (Some x) rest ≡ None → rest ≡ None
+pub chosen : {X : Type 0} (b : Bool) (x : X) (rest : Option X) → cond b (Some x) rest ≡ None → rest ≡ None
 chosen true x rest h = absurd cc
 chosen false x rest h = h
 

@@ -10,4 +10,5 @@ mod rows;
 mod writing;
 
 pub use fault::{Field, SnapFault};
-pub use reading::read_raw;
+pub use reading::{read_kept, read_raw, read_snapshot};
+pub use writing::write_snapshot;

@@ -1,17 +1,18 @@
-ghost use Rattle.std.specs.Prelude.{◌≡◌, ◌⊎◌, Ok, Err, IfOk, IfErr, option_map};
+ghost use Rattle.std.specs.Prelude.{◌≡◌, ◌≢◌, ◌⊎◌, Ok, Err, IfOk, IfErr, option_map};
 ghost use Rattle.serde_json.specs.View.{view};
 ghost use Rattle.snap_tree.specs.declared.row.Raw.{Raw};
+ghost use Rattle.snap_tree.specs.Trees.{Document};
 ghost use Rattle.snap_json.specs.Address.{IsWebAddress};
 ghost use Rattle.snap_json.specs.Faults.{Gives};
-ghost use Rattle.snap_json.specs.Pages.{address_from, json_of, page_of, page_in, sent_page, within};
+ghost use Rattle.snap_json.specs.Pages.{address_from, json_of, page_of, page_in, built, tree_in, sent_page, sent_tree, kept_tree, within};
 
 use crate::address::read_address;
 use crate::fault::{Field, SnapFault};
 use crate::fields;
-use crate::limits::{Limits, SENT};
+use crate::limits::{KEPT, Limits, SENT};
 use crate::rows::{in_shape, rows_of};
 use serde_json::Value;
-use snap_tree::{OutOfMemory, Raw, Text};
+use snap_tree::{BuildFault, OutOfMemory, Raw, Text, Tree};
 use std::alloc::Global;
 
 /// Reads a snapshot without building its tree. A snapshot has at most 8,388,608 bytes, and its address
@@ -30,9 +31,60 @@ pub fn read_raw(alloc: Global, bytes: &[u8]) -> Result<Raw, SnapFault>
     page_in(alloc, SENT, bytes)
 }
 
+/// Reads a snapshot and builds its tree. The faults are those of `read_raw`, and last the first one
+/// of the rows, which `Tree::build` names.
+pub fn read_snapshot(alloc: Global, bytes: &[u8]) -> Result<Tree, SnapFault>
+    // It answers what the definition gives: the tree, or the first fault.
+    ensures exact { Gives result (sent_tree bytes.now) }
+    ensures accepted { IfOk result (λ tree. sent_tree bytes.now ≡ Ok tree) }
+    ensures accepts { (tree : Document) → sent_tree bytes.now ≡ Ok tree
+        → (result ≡ Ok tree) ⊎ (result ≡ Err SnapFault.OutOfMemory) }
+    ensures refused { IfErr result (λ e. (sent_tree bytes.now ≡ Err e)
+        ⊎ (e ≡ SnapFault.OutOfMemory)) }
+    ensures web_address { IfOk result (λ tree. IsWebAddress tree.address) }
+{
+    tree_in(alloc, SENT, bytes)
+}
+
+/// Reads a snapshot that was written and kept, as `read_snapshot` does but with no limit on the bytes
+/// or on the address. It never answers TooLong.
+pub fn read_kept(alloc: Global, bytes: &[u8]) -> Result<Tree, SnapFault>
+    // It answers what the definition gives: the tree, or the first fault.
+    ensures exact { Gives result (kept_tree bytes.now) }
+    ensures accepted { IfOk result (λ tree. kept_tree bytes.now ≡ Ok tree) }
+    ensures accepts { (tree : Document) → kept_tree bytes.now ≡ Ok tree
+        → (result ≡ Ok tree) ⊎ (result ≡ Err SnapFault.OutOfMemory) }
+    ensures refused { IfErr result (λ e. (kept_tree bytes.now ≡ Err e)
+        ⊎ (e ≡ SnapFault.OutOfMemory)) }
+    ensures web_address { IfOk result (λ tree. IsWebAddress tree.address) }
+    ensures never_too_long { result ≢ Err SnapFault.TooLong }
+{
+    tree_in(alloc, KEPT, bytes)
+}
+
+/// The tree that bytes are.
+#[tactic(auto, unfolding(crate::specs::Pages::tree_in))]
+fn tree_in(alloc: Global, limits: Limits, bytes: &[u8]) -> Result<Tree, SnapFault>
+    ensures exact { Gives result (tree_in limits bytes.now) }
+    ensures web_address { IfOk result (λ tree. IsWebAddress tree.address) }
+{
+    build(alloc, page_in(alloc, limits, bytes)?)
+}
+
+fn build(alloc: Global, page: Raw) -> Result<Tree, SnapFault>
+    ensures exact { Gives result (built page) }
+    ensures address { IfOk result (λ tree. tree.address ≡ page.address) }
+{
+    match Tree::build(alloc, page) {
+        Ok(tree) => Ok(tree),
+        Err(BuildFault::Tree(fault)) => Err(SnapFault::Tree(fault)),
+        Err(BuildFault::OutOfMemory) => Err(SnapFault::OutOfMemory),
+    }
+}
+
 /// The page that bytes are.
 #[tactic(auto, unfolding(crate::specs::Pages::page_in))]
-pub(crate) fn page_in(alloc: Global, limits: Limits, bytes: &[u8]) -> Result<Raw, SnapFault>
+fn page_in(alloc: Global, limits: Limits, bytes: &[u8]) -> Result<Raw, SnapFault>
     ensures exact { Gives result (page_in limits bytes.now) }
     ensures web_address { IfOk result (λ raw. IsWebAddress raw.address) }
 {

@@ -1,15 +1,34 @@
-ghost use Rattle.std.specs.Prelude.{◌≡◌, map, ◌<◌, ◌^◌, Some, IfOk, IfSome, OnOk, string_bytes};
+ghost use Rattle.std.specs.Prelude.{◌≡◌, ◌≤◌, length, map, Ok, ◌<◌, ◌^◌, Some, IfOk, IfSome, OnOk, string_bytes};
 ghost use Rattle.std.specs.List.{AllByRecursion};
 ghost use Rattle.serde_json.specs.Data.{string};
 ghost use Rattle.serde_json.specs.View.{view, items_of, items_view, members_view};
 ghost use Rattle.serde_json.specs.Written.{compact_text};
 ghost use Rattle.snap_json.specs.Small.{IsSmall};
-ghost use Rattle.snap_json.specs.Pages.{json_of};
-ghost use Rattle.snap_json.specs.Written.{letters, space_name, number_data, parent_data, attr_data, element_data, words_data, row_data, page_data};
+ghost use Rattle.snap_tree.specs.Trees.{rows_of};
+ghost use Rattle.snap_json.specs.Address.{IsWebAddress};
+ghost use Rattle.snap_json.specs.Pages.{json_of, kept_tree, sent_tree};
+ghost use Rattle.snap_json.specs.Written.{letters, space_name, number_data, parent_data, attr_data, element_data, words_data, row_data, page_data, snapshot_text};
 
 use serde_json::{Map, Value, put};
-use snap_tree::{Attr, Body, Facts, List, NodeId, OutOfMemory, Row, Space, Text};
+use snap_tree::{Attr, Body, Facts, List, NodeId, OutOfMemory, Row, Space, Text, Tree};
 use std::alloc::Global;
+
+/// Writes a tree as a snapshot: compact JSON, the keys of each object in byte order.
+///
+/// Where the address is a web address, `read_kept` reads the tree back; and so does `read_snapshot`,
+/// where the bytes number at most 8,388,608 and the address has at most 65,536.
+#[tactic(auto, using(crate::proofs::ReadTree::kept_back, crate::proofs::ReadTree::sent_back))]
+pub fn write_snapshot(alloc: Global, tree: &Tree) -> Result<Vec<u8>, OutOfMemory>
+    ensures text { IfOk result
+        (λ b. b.items ≡ snapshot_text tree.now.address (rows_of tree.now.trees)) }
+    ensures kept { IfOk result
+        (λ b. IsWebAddress tree.now.address → kept_tree b.items ≡ Ok tree.now) }
+    ensures sent { IfOk result
+        (λ b. IsWebAddress tree.now.address → length b.items ≤ 8388608
+        → length tree.now.address ≤ 65536 → sent_tree b.items ≡ Ok tree.now) }
+{
+    page_text(alloc, tree.address(), tree.rows())
+}
 
 /// The bytes of a page.
 #[tactic(auto, using(crate::proofs::WrittenData::page_has_no_float, crate::proofs::Json::is_json, crate::proofs::WrittenData::page_nests_few))]
