@@ -1,9 +1,8 @@
 -- The fields' meanings, by what the JSON crate's own look-ups say.
-use Rattle.std.proofs.Common.{◌≡◌, ℕ, ◌^◌, Bool, true, false, cond, ◌&&◌, ltb, Option, Some, None, refl}
+use Rattle.std.proofs.Common.{◌≡◌, ◌^◌, cond, ◌&&◌, ltb, Some, None, refl}
 use Rattle.std.specs.Prelude.{option_map, option_and_then, is_some}
 use Rattle.serde_json.specs.Data.{Data, null, boolean, number, string, array, object, unsigned, negative, float}
 use Rattle.serde_json.specs.Find.{as_null, as_number, as_str, as_u64}
-use Rattle.snap_tree.specs.declared.row.NodeId.{NodeId}
 use Rattle.snap_json.specs.Fields.{whole, null_or_number, text}
 
 pub whole_by : (d : Data) → whole d ≡ option_and_then (λ n. cond (ltb 0 n && ltb n (2 ^ 32)) (Some (record { 0 = n })) None) (option_and_then as_u64 (as_number d))

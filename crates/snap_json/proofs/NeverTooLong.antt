@@ -1,22 +1,19 @@
 -- A snapshot that is kept is never too long.
-use Rattle.std.proofs.Common.{◌≡◌, ℕ, List, true, false, Option, Some, None, Result, Ok, Err, refl}
-use Rattle.std.specs.Prelude.{option_and_then, codes, Bool, if◌then◌else◌, length}
+use Rattle.std.proofs.Common.{◌≡◌, ℕ, List, Option, Some, None, Result, Ok, Err}
+use Rattle.std.specs.Prelude.{option_and_then, codes}
 use Rattle.serde_json.specs.Data.{Data, Items, no_items, item}
 use Rattle.serde_json.specs.Find.{get, as_array, as_object}
 use Rattle.snap_tree.specs.declared.fault.TreeFault.{TreeFault}
-use Rattle.snap_tree.specs.declared.row.Body.{Body}
-use Rattle.snap_tree.specs.declared.row.Row.{Row}
 use Rattle.snap_tree.specs.declared.row.Raw.{Raw}
-use Rattle.snap_tree.specs.Trees.{Document}
 use Rattle.snap_tree.specs.Faults.{tree_fault}
 use Rattle.snap_json.specs.declared.fault.Field.{Field}
 use Rattle.snap_json.specs.declared.fault.Field.TheVariants as field
 use Rattle.snap_json.specs.declared.fault.SnapFault.{SnapFault}
-use Rattle.snap_json.specs.declared.fault.SnapFault.TheVariants.{BadUrl, TooLong}
+use Rattle.snap_json.specs.declared.fault.SnapFault.TheVariants.{TooLong}
 use Rattle.snap_json.specs.Faults.{◌>>=◌, in_shape}
 use Rattle.snap_json.specs.Fields.{number_of, parent_of, text_of, name_of, space_of, attrs_of, facts_of}
 use Rattle.snap_json.specs.Address.{address_of}
-use Rattle.snap_json.specs.Pages.{element_from, words_from, body_from, body_of, row_of, next_place, rows_of, within, web, address_from, page_of, in_json, json_of, page_in, built_unless, built, tree_in, kept, kept_tree}
+use Rattle.snap_json.specs.Pages.{body_from, body_of, row_of, next_place, rows_of, web, page_of, in_json, json_of, page_in, built_unless, tree_in, kept, kept_tree}
 
 -- it isn't refused as too long
 pub record IsNoTooLong {A : Type 0} (given : Result A SnapFault) : Type 0 where

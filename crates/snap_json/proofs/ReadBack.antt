@@ -1,9 +1,8 @@
 -- What is written of a page is read back.
-use Rattle.std.proofs.Common.{◌≡◌, ℕ, ◌<◌, ◌^◌, List, [], ◌∷◌, length, map, Bool, true, false, cond, ◌&&◌, ltb, Option, Some, None, Result, Ok, Err, refl, sym, ap, ◌∙◌, arith}
+use Rattle.std.proofs.Common.{◌≡◌, ℕ, ◌<◌, ◌^◌, List, [], ◌∷◌, length, map, Bool, true, false, cond, ◌&&◌, ltb, Option, Some, None, Ok, refl, ap, arith}
 use Rattle.std.specs.Prelude.{IfSome, option_map, option_and_then}
 use Rattle.std.specs.List.{AllByRecursion}
 use Rattle.std.proofs.lemmas.Bool.Decides.{nat_tests}
-use Rattle.serde_json.specs.Data.{Data, null, number, unsigned, object}
 use Rattle.serde_json.specs.View.{items_of}
 use Rattle.snap_tree.specs.declared.row.NodeId.{NodeId}
 use Rattle.snap_tree.specs.declared.row.Space.{Space}
@@ -13,13 +12,11 @@ use Rattle.snap_tree.specs.declared.row.Attr.{Attr}
 use Rattle.snap_tree.specs.declared.row.Body.{Body}
 use Rattle.snap_tree.specs.declared.row.Body.TheVariants.{Element, Words}
 use Rattle.snap_tree.specs.declared.row.Row.{Row}
-use Rattle.snap_tree.specs.declared.row.Raw.{Raw}
 use Rattle.snap_json.specs.declared.limits.Limits.{Limits}
-use Rattle.snap_json.specs.Faults.{◌>>=◌}
 use Rattle.snap_json.specs.Address.{address_of}
 use Rattle.snap_json.specs.Fields.{whole, null_or_number, nonempty, space_named, attr, attrs, facts_named}
-use Rattle.snap_json.specs.Pages.{within, address_from, next_place, body_of, row_of, rows_of, page_of}
-use Rattle.snap_json.specs.Written.{letters, space_name, number_data, parent_data, attr_data, members_data, row_data, page_data}
+use Rattle.snap_json.specs.Pages.{within, next_place, body_of, row_of, rows_of, page_of}
+use Rattle.snap_json.specs.Written.{letters, space_name, number_data, parent_data, attr_data, row_data, page_data}
 
 -- a number that a row may have
 pub record IsNumber (n : NodeId) : Type 0 where

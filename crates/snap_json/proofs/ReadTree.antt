@@ -10,8 +10,7 @@ use Rattle.snap_tree.specs.declared.fault.TreeFault.TheVariants.{Empty, TooMany}
 use Rattle.snap_tree.specs.Faults.{most_nodes, tree_fault, rows_fault}
 use Rattle.snap_json.specs.declared.limits.Limits.{Limits}
 use Rattle.snap_json.specs.Address.{web_text, address_of, IsWebAddress}
-use Rattle.snap_json.specs.Pages.{within, in_json, json_of, page_of, page_in, built, built_unless, tree_in, sent, kept, sent_tree, kept_tree}
-use Rattle.snap_json.specs.Faults.{◌>>=◌}
+use Rattle.snap_json.specs.Pages.{within, json_of, page_in, tree_in, sent, kept, sent_tree, kept_tree}
 use Rattle.snap_json.specs.Small.{IsSmall}
 use Rattle.snap_json.specs.Written.{page_data}
 use Rattle.snap_json.proofs.ReadBack.{page_back}

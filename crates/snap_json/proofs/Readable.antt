@@ -1,5 +1,5 @@
 -- The rows of a tree can be read: no number is 0, and no tag and no attribute's name is empty.
-use Rattle.std.proofs.Common.{◌≡◌, ℕ, ◌<◌, ◌^◌, ◌+◌, List, [], ◌∷◌, ◌++◌, length, Bool, true, false, cond, ◌||◌, eqb, Option, Some, None, refl, sym, ap, ◌∙◌, subst, ⊎_elim, arith}
+use Rattle.std.proofs.Common.{◌≡◌, ℕ, ◌<◌, ◌^◌, List, [], ◌∷◌, ◌++◌, length, Bool, true, false, cond, ◌||◌, eqb, Option, Some, None, refl, sym, subst, ⊎_elim, arith}
 use Rattle.std.specs.Prelude.{IfSome, is_some, nat_lt, nat_le, ◌==◌, ◌&&◌}
 use Rattle.std.specs.Option.{option_or}
 use Rattle.std.specs.List.{AllByRecursion, list_any}
@@ -10,7 +10,6 @@ use Rattle.snap_tree.specs.declared.row.Attr.{Attr}
 use Rattle.snap_tree.specs.declared.row.Body.{Body}
 use Rattle.snap_tree.specs.declared.row.Body.TheVariants.{Element, Words}
 use Rattle.snap_tree.specs.declared.row.Row.{Row}
-use Rattle.snap_tree.specs.declared.fault.TreeFault.{TreeFault}
 use Rattle.snap_tree.specs.Trees.{Trees, empty, tree, rows_of}
 use Rattle.snap_tree.specs.Grown.{is_number, names, grown}
 use Rattle.snap_tree.specs.Rows.{attrs_of, has_number, is_text, has_long, has_double, has_empty, is_empty, most_attrs, own_fault}
@@ -127,12 +126,14 @@ readable_after earlier (r ∷ rows) all h small =
     let faults = both_none (row_fault earlier r) (rows_fault (earlier ++ r ∷ []) rows) h in
     let above = from_parent r (open_rows (grown earlier)) in
     let place = placed (is_first earlier) r (length above) (is_below_text above) (chosen (list_any (has_number r.id) earlier) (DoubleNumber r.id) (place_fault (is_first earlier) r (length above) (is_below_text above)) faults.0) in
-    let own = own_readable r place.1 in
-    (record {
-      number = record { above = own.0; fits = small.0.number };
-      parent = ranged r.parent (parent_above earlier r all place.0) small.0.parent;
-      body = own.1;
-    }, readable_after (earlier ++ r ∷ []) rows (all_append IsAbove earlier (r ∷ []) all (own.0, tt)) faults.1 small.1)
+    let own = own_readable r place.1 in (
+      record {
+        number = record { above = own.0; fits = small.0.number };
+        parent = ranged r.parent (parent_above earlier r all place.0) small.0.parent;
+        body = own.1;
+      },
+      readable_after (earlier ++ r ∷ []) rows (all_append IsAbove earlier (r ∷ []) all (own.0, tt)) faults.1 small.1,
+    )
 
 pub readable : (rows : List Row) → rows_fault [] rows ≡ None → AllByRecursion IsSmall rows → AllByRecursion IsReadable rows
 readable rows h small = readable_after [] rows tt h small

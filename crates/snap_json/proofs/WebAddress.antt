@@ -1,5 +1,5 @@
 -- A web address that was read is one.
-use Rattle.std.proofs.Common.{◌≡◌, ℕ, List, true, None, Ok, IsTrue, refl}
+use Rattle.std.proofs.Common.{◌≡◌, ℕ, List, true, None, Ok, refl}
 use Rattle.url.specs.Parts.{Parts, serialize, IsValid}
 use Rattle.url.specs.Parser.{parse_url}
 use Rattle.url.proofs.Theorems.{parse_url_idempotent}

@@ -1,10 +1,9 @@
 -- What the members of a row mean. Each is a function from the member, which may be absent, to its
 -- meaning, and gives none where the member is out of shape.
-use Rattle.std.specs.Prelude.{ℕ, ◌^◌, List, [], ◌∷◌, length, codes, bytes_eq, nat_lt, nat_le, count_by, ◌==◌, Bool, true, false, ◌&&◌, if◌then◌else◌, Option, Some, None, option_map, option_and_then}
-use Rattle.std.specs.Option.{option_or}
+use Rattle.std.specs.Prelude.{ℕ, ◌^◌, List, [], ◌∷◌, codes, bytes_eq, nat_lt, nat_le, count_by, ◌==◌, Bool, ◌&&◌, if◌then◌else◌, Option, Some, None, option_map, option_and_then}
 use Rattle.std.specs.List.{list_all, list_any}
 use Rattle.std.specs.Str.{byte}
-use Rattle.serde_json.specs.Data.{Data, null, boolean, number, string, array, object, Num, unsigned, negative, float, Items, no_items, item}
+use Rattle.serde_json.specs.Data.{Data, null, number, string, array, unsigned, Items, no_items, item}
 use Rattle.snap_tree.specs.declared.row.NodeId.{NodeId}
 use Rattle.snap_tree.specs.declared.row.Space.{Space}
 use Rattle.snap_tree.specs.declared.row.Space.TheVariants.{Html, Svg, Other}

@@ -1,5 +1,5 @@
 -- What every row holds to, since its numbers are of 32 bits.
-use Rattle.std.specs.Prelude.{ℕ, ◌<◌, ◌^◌, IfSome}
+use Rattle.std.specs.Prelude.{◌<◌, ◌^◌, IfSome}
 use Rattle.snap_tree.specs.declared.row.Row.{Row}
 
 -- the row's number and its parent's fit 32 bits

@@ -126,9 +126,7 @@ fn facts_named(letters: &str) -> Option<Facts>
 fn are_known(letters: &[u8]) -> bool
     ensures { result ≡ list_all known letters.now }
 {
-    letters
-        .iter()
-        .all(|c| (*c == b'r') | (*c == b'v') | (*c == b'f') | (*c == b't'))
+    letters.iter().all(|c| (*c == b'r') | (*c == b'v') | (*c == b'f') | (*c == b't'))
 }
 
 fn times(letter: u8, letters: &[u8]) -> usize

@@ -4,8 +4,8 @@
 mod address;
 mod fault;
 mod fields;
-mod reading;
 mod limits;
+mod reading;
 mod rows;
 mod writing;
 

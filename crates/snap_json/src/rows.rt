@@ -73,7 +73,11 @@ fn element_of(alloc: Global, place: u32, row: &Value, tag: &Value) -> Result<Bod
 {
     let tag = in_shape(place, Field::Tag, fields::name_of(alloc, Some(tag))?)?;
     let space = in_shape(place, Field::Ns, fields::space_of(row.get("ns")))?;
-    let attrs = in_shape(place, Field::Attrs, fields::attrs_of(alloc, row.get("attrs"))?)?;
+    let attrs = in_shape(
+        place,
+        Field::Attrs,
+        fields::attrs_of(alloc, row.get("attrs"))?,
+    )?;
     Ok(Body::Element { space, tag, attrs })
 }
 

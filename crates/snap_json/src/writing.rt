@@ -90,9 +90,19 @@ fn element_members(
     let mut members = Map::new(alloc);
     let attrs = attrs_value(alloc, attrs.as_slice())?;
     put(&mut members, alloc, "attrs", Value::Array(attrs))?;
-    put(&mut members, alloc, "f", Value::String(letters(alloc, row.facts)?))?;
+    put(
+        &mut members,
+        alloc,
+        "f",
+        Value::String(letters(alloc, row.facts)?),
+    )?;
     put(&mut members, alloc, "n", number_value(row.id))?;
-    put(&mut members, alloc, "ns", Value::try_from_str(alloc, space_name(space))?)?;
+    put(
+        &mut members,
+        alloc,
+        "ns",
+        Value::try_from_str(alloc, space_name(space))?,
+    )?;
     put(&mut members, alloc, "p", parent_value(row.parent))?;
     put(&mut members, alloc, "tag", text_value(alloc, tag)?)?;
     Ok(members)
@@ -103,7 +113,12 @@ fn words_members(alloc: Global, row: &Row, text: &Text) -> Result<Map<String, Va
     ensures small { OnOk result (IsSmall row.now) }
 {
     let mut members = Map::new(alloc);
-    put(&mut members, alloc, "f", Value::String(letters(alloc, row.facts)?))?;
+    put(
+        &mut members,
+        alloc,
+        "f",
+        Value::String(letters(alloc, row.facts)?),
+    )?;
     put(&mut members, alloc, "n", number_value(row.id))?;
     put(&mut members, alloc, "p", parent_value(row.parent))?;
     put(&mut members, alloc, "text", text_value(alloc, text)?)?;

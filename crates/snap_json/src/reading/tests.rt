@@ -5,6 +5,7 @@ use std::process::Abort;
 use std::test::Fail;
 
 const NOT_JSON: SnapFault = SnapFault::NotJson;
+
 const BAD_URL: SnapFault = SnapFault::BadUrl;
 
 /// The fault of a text, if it has one.
@@ -22,8 +23,14 @@ fn the_whole(rt: HostRuntime) {
         ("", Some(NOT_JSON)),
         ("{", Some(NOT_JSON)),
         ("\u{feff}{}", Some(NOT_JSON)),
-        (r#"{"url":"http://a/","nodes":[],"x":1e400}"#, Some(NOT_JSON)),
-        (r#"{"url":"http://a/","nodes":[],"x":"\ud800"}"#, Some(NOT_JSON)),
+        (
+            r#"{"url":"http://a/","nodes":[],"x":1e400}"#,
+            Some(NOT_JSON),
+        ),
+        (
+            r#"{"url":"http://a/","nodes":[],"x":"\ud800"}"#,
+            Some(NOT_JSON),
+        ),
         ("[]", shape(0, Field::Top)),
         ("null", shape(0, Field::Top)),
         (r#"{"nodes":1}"#, shape(0, Field::Url)),
@@ -86,14 +93,29 @@ fn fields(rt: HostRuntime) {
         (r#"{"n":1,"tag":"a"}"#, shape(1, Field::P)),
         (r#"{"n":1,"p":"","tag":"a"}"#, shape(1, Field::P)),
         (r#"{"n":1,"p":null}"#, shape(1, Field::Tag)),
-        (r#"{"n":1,"p":null,"tag":"a","text":"b"}"#, shape(1, Field::Tag)),
-        (r#"{"n":1,"p":null,"tag":null,"text":"b"}"#, shape(1, Field::Tag)),
-        (r#"{"n":1,"p":null,"tag":"a","text":null}"#, shape(1, Field::Tag)),
+        (
+            r#"{"n":1,"p":null,"tag":"a","text":"b"}"#,
+            shape(1, Field::Tag),
+        ),
+        (
+            r#"{"n":1,"p":null,"tag":null,"text":"b"}"#,
+            shape(1, Field::Tag),
+        ),
+        (
+            r#"{"n":1,"p":null,"tag":"a","text":null}"#,
+            shape(1, Field::Tag),
+        ),
         (r#"{"n":1,"p":null,"tag":""}"#, shape(1, Field::Tag)),
         (r#"{"n":1,"p":null,"tag":1}"#, shape(1, Field::Tag)),
         (r#"{"n":1,"p":null,"tag":null}"#, shape(1, Field::Tag)),
-        (r#"{"n":1,"p":null,"tag":"a","ns":"HTML"}"#, shape(1, Field::Ns)),
-        (r#"{"n":1,"p":null,"tag":"a","ns":null}"#, shape(1, Field::Ns)),
+        (
+            r#"{"n":1,"p":null,"tag":"a","ns":"HTML"}"#,
+            shape(1, Field::Ns),
+        ),
+        (
+            r#"{"n":1,"p":null,"tag":"a","ns":null}"#,
+            shape(1, Field::Ns),
+        ),
         (r#"{"n":1,"p":null,"text":1}"#, shape(1, Field::Text)),
         (r#"{"n":1,"p":null,"text":null}"#, shape(1, Field::Text)),
         (r#"{"n":1,"p":null,"text":"","ns":1,"attrs":1}"#, None),
@@ -141,12 +163,27 @@ fn order(rt: HostRuntime) {
         (r#"{"n":1,"tag":""}"#, shape(1, Field::P)),
         (r#"{"n":1,"p":0,"tag":"a","f":1}"#, shape(1, Field::P)),
         (r#"{"n":1,"p":null,"tag":"","ns":1}"#, shape(1, Field::Tag)),
-        (r#"{"n":1,"p":null,"tag":"a","ns":1,"attrs":1}"#, shape(1, Field::Ns)),
-        (r#"{"n":1,"p":null,"tag":"a","attrs":1,"f":1}"#, shape(1, Field::Attrs)),
+        (
+            r#"{"n":1,"p":null,"tag":"a","ns":1,"attrs":1}"#,
+            shape(1, Field::Ns),
+        ),
+        (
+            r#"{"n":1,"p":null,"tag":"a","attrs":1,"f":1}"#,
+            shape(1, Field::Attrs),
+        ),
         (r#"{"n":1,"p":null,"text":1,"f":1}"#, shape(1, Field::Text)),
-        (r#"{"n":1,"p":null,"tag":"a"},{"n":2,"p":1}"#, shape(2, Field::Tag)),
-        (r#"{"n":1,"p":null,"tag":"a"},{"n":2,"p":1,"text":""},3,{}"#, shape(3, Field::Row)),
-        (r#"{"n":1,"p":null,"text":1},{"n":0}"#, shape(1, Field::Text)),
+        (
+            r#"{"n":1,"p":null,"tag":"a"},{"n":2,"p":1}"#,
+            shape(2, Field::Tag),
+        ),
+        (
+            r#"{"n":1,"p":null,"tag":"a"},{"n":2,"p":1,"text":""},3,{}"#,
+            shape(3, Field::Row),
+        ),
+        (
+            r#"{"n":1,"p":null,"text":1},{"n":0}"#,
+            shape(1, Field::Text),
+        ),
     ] {
         assert_eq!(rt; fault_of_rows(&rt, rt.alloc(), rows), want, "{rows}");
     }
@@ -154,7 +191,10 @@ fn order(rt: HostRuntime) {
 
 #[test]
 fn bytes_that_are_no_text(rt: HostRuntime) {
-    assert_eq!(rt; read_raw(rt.alloc(), b"{\"x\":\"\xff\"}").err(), Some(NOT_JSON));
+    assert_eq!(rt;
+        read_raw(rt.alloc(), b"{\"x\":\"\xff\"}").err(),
+        Some(NOT_JSON)
+    );
 }
 
 #[test]
@@ -176,7 +216,10 @@ fn nesting(rt: HostRuntime) -> Result<(), Fail> {
 #[test]
 fn limits(rt: HostRuntime) -> Result<(), Fail> {
     let spaces = vec![in rt.alloc(); b' '; 8_388_609]?;
-    assert_eq!(rt; read_raw(rt.alloc(), &spaces).err(), Some(SnapFault::TooLong));
+    assert_eq!(rt;
+        read_raw(rt.alloc(), &spaces).err(),
+        Some(SnapFault::TooLong)
+    );
     assert_eq!(rt; read_raw(rt.alloc(), &spaces[1..]).err(), Some(NOT_JSON));
     for (len, want) in [(65_536usize, None), (65_537, Some(BAD_URL))] {
         let mut text = String::from_str(rt.alloc(), r#"{"url":"http://a/"#)?;
@@ -190,11 +233,14 @@ fn limits(rt: HostRuntime) -> Result<(), Fail> {
 }
 
 /// The smallest whole page.
-pub(crate) const HOME: &str = r#"{"url":"https://example.org/","nodes":[{"n":1,"p":null,"tag":"html","attrs":[["lang","en"]]},{"n":2,"p":1,"tag":"head","f":""},{"n":3,"p":2,"tag":"title","f":""},{"n":4,"p":3,"text":"Home","f":""},{"n":5,"p":1,"tag":"body"}]}"#;
+pub(crate) const HOME: &str =
+    r#"{"url":"https://example.org/","nodes":[{"n":1,"p":null,"tag":"html","attrs":[["lang","en"]]},{"n":2,"p":1,"tag":"head","f":""},{"n":3,"p":2,"tag":"title","f":""},{"n":4,"p":3,"text":"Home","f":""},{"n":5,"p":1,"tag":"body"}]}"#;
 
 #[test]
 fn the_smallest_page(rt: HostRuntime) -> Result<(), Fail> {
-    let page = read_raw(rt.alloc(), HOME.as_bytes()).ok().ok_or("a snapshot")?;
+    let page = read_raw(rt.alloc(), HOME.as_bytes())
+        .ok()
+        .ok_or("a snapshot")?;
     assert_eq!(rt; page.address.as_str(), "https://example.org/");
     assert_eq!(rt; page.rows.len(), 5);
     let shown = Facts {
@@ -239,7 +285,9 @@ fn the_smallest_page(rt: HostRuntime) -> Result<(), Fail> {
 #[test]
 fn the_address_is_kept_as_it_is_parsed(rt: HostRuntime) -> Result<(), Fail> {
     let text = r#"{"url":" HTTP://Example.ORG:80/a b/../c","nodes":[]}"#;
-    let page = read_raw(rt.alloc(), text.as_bytes()).ok().ok_or("a snapshot")?;
+    let page = read_raw(rt.alloc(), text.as_bytes())
+        .ok()
+        .ok_or("a snapshot")?;
     assert_eq!(rt; page.address.as_str(), "http://example.org/c");
     Ok(())
 }
@@ -247,7 +295,9 @@ fn the_address_is_kept_as_it_is_parsed(rt: HostRuntime) -> Result<(), Fail> {
 #[test]
 fn letters(rt: HostRuntime) -> Result<(), Fail> {
     let text = r#"{"url":"http://a/","nodes":[{"n":1,"p":null,"tag":"a","f":"tv"}]}"#;
-    let page = read_raw(rt.alloc(), text.as_bytes()).ok().ok_or("a snapshot")?;
+    let page = read_raw(rt.alloc(), text.as_bytes())
+        .ok()
+        .ok_or("a snapshot")?;
     for row in page.rows.as_slice() {
         let facts = row.facts;
         assert_eq!(rt; (facts.rendered, facts.visible), (false, true));

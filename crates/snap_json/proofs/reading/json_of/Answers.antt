@@ -1,4 +1,4 @@
-use Rattle.std.proofs.Common.{sym, ap, ◌∙◌}
+use Rattle.std.proofs.Common.{sym, ◌∙◌}
 use Rattle.std.proofs.lemmas.Bool.{true≢false}
 use Rattle.snap_json.proofs.Json.{is_json, no_json}
 use Rattle.snap_json.proofs.reading.json_of.Goals as goal

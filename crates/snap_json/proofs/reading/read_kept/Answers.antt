@@ -1,4 +1,4 @@
-use Rattle.std.proofs.Common.{◌≡◌, List, ℕ, Ok, Err, Result, subst}
+use Rattle.std.proofs.Common.{◌≡◌, Err, Result, subst}
 use Rattle.snap_tree.specs.Trees.{Document}
 use Rattle.snap_json.specs.declared.fault.SnapFault.{SnapFault}
 use Rattle.snap_json.specs.declared.fault.SnapFault.TheVariants.{TooLong}

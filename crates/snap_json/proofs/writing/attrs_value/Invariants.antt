@@ -1,5 +1,5 @@
 use Rattle.std.proofs.Common.{◌≡◌, map, take}
-use Rattle.serde_json.specs.View.{items_view, items_of, view}
+use Rattle.serde_json.specs.View.{view}
 use Rattle.snap_json.specs.Written.{attr_data}
 use Rattle.snap_json.proofs.writing.attrs_value.Given as goal
 

@@ -8,5 +8,5 @@ use Rattle.snap_json.proofs.writing.rows_value.Given as goal
 abbrev pub invariant-loop-row : goal.invariant-loop-row
 invariant-loop-row l = record {
   values : map view l.values.items ≡ map row_data (take l.row-index l.rows);
-  small : AllByRecursion IsSmall (take l.row-index l.rows)
+  small : AllByRecursion IsSmall (take l.row-index l.rows);
 }
