@@ -7,6 +7,8 @@ mod fields;
 mod limits;
 mod reading;
 mod rows;
+#[cfg(test)]
+mod tests;
 mod writing;
 
 pub use fault::{Field, SnapFault};

@@ -142,6 +142,3 @@ fn within(limit: Option<usize>, len: usize) -> bool
         None => true,
     }
 }
-
-#[cfg(test)]
-mod tests;
