@@ -1,0 +1,10 @@
+pub mod WebAddress
+pub mod FieldCases
+pub mod AttrLoop
+pub mod RowLoop
+pub mod Json
+pub mod WrittenData
+pub mod ReadBack
+pub mod Readable
+pub mod ReadTree
+pub mod NeverTooLong

@@ -1,0 +1,7 @@
+pub mod Faults
+pub mod Address
+pub mod Fields
+pub mod Seen
+pub mod Pages
+pub mod Small
+pub mod Written

@@ -1,0 +1,108 @@
+ghost use Rattle.std.specs.Prelude.{◌≡◌, codes};
+ghost use Rattle.snap_json.specs.Faults.{fault_number, fault_name, field_name};
+ghost use Rattle.snap_json.specs.declared.fault.SnapFault.TheVariants.{OutOfMemory as Unread};
+
+use snap_tree::{OutOfMemory, TreeFault};
+use std::alloc::AllocFailed;
+
+/// A part of a snapshot that can be out of shape: the value as a whole, its address, its list of
+/// rows, a row as a whole, or a member of a row.
+#[derive(Clone, Copy, Debug, PartialEq, Eq, Hash)]
+pub enum Field {
+    Top,
+    Url,
+    Nodes,
+    Row,
+    N,
+    P,
+    Ns,
+    Tag,
+    Attrs,
+    Text,
+    F,
+}
+
+impl Field {
+    /// The field's name in lower case.
+    pub fn name(self) -> &'static str
+        ensures { result.now ≡ field_name self }
+    {
+        match self {
+            Field::Top => "top",
+            Field::Url => "url",
+            Field::Nodes => "nodes",
+            Field::Row => "row",
+            Field::N => "n",
+            Field::P => "p",
+            Field::Ns => "ns",
+            Field::Tag => "tag",
+            Field::Attrs => "attrs",
+            Field::Text => "text",
+            Field::F => "f",
+        }
+    }
+}
+
+/// Why bytes were not read as a snapshot.
+#[derive(Clone, Copy, Debug, PartialEq, Eq, Hash)]
+pub enum SnapFault {
+    /// The bytes are no JSON.
+    NotJson,
+    /// A field is out of shape. The place is 0 for the fields of the whole, and a row's number in the
+    /// list, counted from 1, for the fields of a row.
+    Shape { place: u32, field: Field },
+    /// The address is too long, or is no URL of the scheme http or https.
+    BadUrl,
+    /// The rows make no tree.
+    Tree(TreeFault),
+    /// There are too many bytes.
+    TooLong,
+    /// Want of memory, which is no fault of the snapshot.
+    OutOfMemory,
+}
+
+impl SnapFault {
+    /// The fault's number; none for want of memory.
+    pub fn number(self) -> Option<u8>
+        ensures { result ≡ fault_number self }
+    {
+        match self {
+            SnapFault::NotJson => Some(1),
+            SnapFault::Shape { .. } => Some(2),
+            SnapFault::BadUrl => Some(3),
+            SnapFault::Tree(_) => Some(4),
+            SnapFault::TooLong => Some(5),
+            SnapFault::OutOfMemory => None,
+        }
+    }
+
+    /// The fault's name.
+    pub fn name(self) -> &'static str
+        ensures { result.now ≡ fault_name self }
+    {
+        match self {
+            SnapFault::NotJson => "NotJson",
+            SnapFault::Shape { .. } => "Shape",
+            SnapFault::BadUrl => "BadUrl",
+            SnapFault::Tree(_) => "Tree",
+            SnapFault::TooLong => "TooLong",
+            SnapFault::OutOfMemory => "OutOfMemory",
+        }
+    }
+}
+
+impl From<OutOfMemory> for SnapFault {
+    ghost from_gives = { λ _ e. e ≡ Unread };
+
+    fn from(_error: OutOfMemory) -> Self {
+        SnapFault::OutOfMemory
+    }
+}
+
+impl<T: Drop> From<AllocFailed<T>> for SnapFault {
+    ghost from_gives = { λ _ e. e ≡ Unread };
+
+    fn from(_error: AllocFailed<T>) -> Self {
+        SnapFault::OutOfMemory
+    }
+}

@@ -1,0 +1,144 @@
+ghost use Rattle.std.specs.Prelude.{◌≡◌, ◌≢◌, ◌⊎◌, Ok, Err, IfOk, IfErr, option_map};
+ghost use Rattle.serde_json.specs.View.{view};
+ghost use Rattle.snap_tree.specs.declared.row.Raw.{Raw};
+ghost use Rattle.snap_tree.specs.Trees.{Document};
+ghost use Rattle.snap_json.specs.Address.{IsWebAddress};
+ghost use Rattle.snap_json.specs.Faults.{Gives};
+ghost use Rattle.snap_json.specs.Pages.{address_from, json_of, page_of, page_in, built, tree_in, sent_page, sent_tree, kept_tree, within};
+
+use crate::address::read_address;
+use crate::fault::{Field, SnapFault};
+use crate::fields;
+use crate::limits::{KEPT, Limits, SENT};
+use crate::rows::{in_shape, rows_of};
+use serde_json::Value;
+use snap_tree::{BuildFault, OutOfMemory, Raw, Text, Tree};
+use std::alloc::Global;
+
+/// Reads a snapshot without building its tree. A snapshot has at most 8,388,608 bytes, and its address
+/// at most 65,536. Of several faults the first is answered: TooLong, NotJson, Shape with place 0,
+/// BadUrl, then Shape with the place of the first bad row and its first bad field.
+pub fn read_raw(alloc: Global, bytes: &[u8]) -> Result<Raw, SnapFault>
+    // It answers what the definition gives: the page, or the first fault.
+    ensures exact { Gives result (sent_page bytes.now) }
+    ensures accepted { IfOk result (λ raw. sent_page bytes.now ≡ Ok raw) }
+    ensures accepts { (raw : Raw) → sent_page bytes.now ≡ Ok raw
+        → (result ≡ Ok raw) ⊎ (result ≡ Err SnapFault.OutOfMemory) }
+    ensures refused { IfErr result (λ e. (sent_page bytes.now ≡ Err e)
+        ⊎ (e ≡ SnapFault.OutOfMemory)) }
+    ensures web_address { IfOk result (λ raw. IsWebAddress raw.address) }
+{
+    page_in(alloc, SENT, bytes)
+}
+
+/// Reads a snapshot and builds its tree. The faults are those of `read_raw`, and last the first one
+/// of the rows, which `Tree::build` names.
+pub fn read_snapshot(alloc: Global, bytes: &[u8]) -> Result<Tree, SnapFault>
+    // It answers what the definition gives: the tree, or the first fault.
+    ensures exact { Gives result (sent_tree bytes.now) }
+    ensures accepted { IfOk result (λ tree. sent_tree bytes.now ≡ Ok tree) }
+    ensures accepts { (tree : Document) → sent_tree bytes.now ≡ Ok tree
+        → (result ≡ Ok tree) ⊎ (result ≡ Err SnapFault.OutOfMemory) }
+    ensures refused { IfErr result (λ e. (sent_tree bytes.now ≡ Err e)
+        ⊎ (e ≡ SnapFault.OutOfMemory)) }
+    ensures web_address { IfOk result (λ tree. IsWebAddress tree.address) }
+{
+    tree_in(alloc, SENT, bytes)
+}
+
+/// Reads a snapshot that was written and kept, as `read_snapshot` does but with no limit on the bytes
+/// or on the address. It never answers TooLong.
+pub fn read_kept(alloc: Global, bytes: &[u8]) -> Result<Tree, SnapFault>
+    // It answers what the definition gives: the tree, or the first fault.
+    ensures exact { Gives result (kept_tree bytes.now) }
+    ensures accepted { IfOk result (λ tree. kept_tree bytes.now ≡ Ok tree) }
+    ensures accepts { (tree : Document) → kept_tree bytes.now ≡ Ok tree
+        → (result ≡ Ok tree) ⊎ (result ≡ Err SnapFault.OutOfMemory) }
+    ensures refused { IfErr result (λ e. (kept_tree bytes.now ≡ Err e)
+        ⊎ (e ≡ SnapFault.OutOfMemory)) }
+    ensures web_address { IfOk result (λ tree. IsWebAddress tree.address) }
+    ensures never_too_long { result ≢ Err SnapFault.TooLong }
+{
+    tree_in(alloc, KEPT, bytes)
+}
+
+/// The tree that bytes are.
+#[tactic(auto, unfolding(crate::specs::Pages::tree_in))]
+fn tree_in(alloc: Global, limits: Limits, bytes: &[u8]) -> Result<Tree, SnapFault>
+    ensures exact { Gives result (tree_in limits bytes.now) }
+    ensures web_address { IfOk result (λ tree. IsWebAddress tree.address) }
+{
+    build(alloc, page_in(alloc, limits, bytes)?)
+}
+
+fn build(alloc: Global, page: Raw) -> Result<Tree, SnapFault>
+    ensures exact { Gives result (built page) }
+    ensures address { IfOk result (λ tree. tree.address ≡ page.address) }
+{
+    match Tree::build(alloc, page) {
+        Ok(tree) => Ok(tree),
+        Err(BuildFault::Tree(fault)) => Err(SnapFault::Tree(fault)),
+        Err(BuildFault::OutOfMemory) => Err(SnapFault::OutOfMemory),
+    }
+}
+
+/// The page that bytes are.
+#[tactic(auto, unfolding(crate::specs::Pages::page_in))]
+fn page_in(alloc: Global, limits: Limits, bytes: &[u8]) -> Result<Raw, SnapFault>
+    ensures exact { Gives result (page_in limits bytes.now) }
+    ensures web_address { IfOk result (λ raw. IsWebAddress raw.address) }
+{
+    if !within(limits.snapshot, bytes.len()) {
+        return Err(SnapFault::TooLong);
+    }
+    match json_of(alloc, bytes)? {
+        Some(value) => page_of(alloc, limits, &value),
+        None => Err(SnapFault::NotJson),
+    }
+}
+
+/// The JSON value that bytes are; none where they are not UTF-8, or no JSON.
+#[tactic(auto, unfolding(crate::specs::Pages::json_of))]
+fn json_of(alloc: Global, bytes: &[u8]) -> Result<Option<Value>, OutOfMemory>
+    ensures { IfOk result (λ v. option_map view v ≡ json_of bytes.now) }
+{
+    match Value::from_slice(alloc, bytes) {
+        Ok(value) => Ok(Some(value)),
+        Err(error) if error.is_memory() => Err(OutOfMemory),
+        Err(_) => Ok(None),
+    }
+}
+
+/// The page that a JSON value is.
+#[tactic(auto, unfolding(crate::specs::Pages::page_of))]
+fn page_of(alloc: Global, limits: Limits, page: &Value) -> Result<Raw, SnapFault>
+    ensures exact { Gives result (page_of limits (view page.now)) }
+    ensures web_address { IfOk result (λ raw. IsWebAddress raw.address) }
+{
+    in_shape(0, Field::Top, page.as_object())?;
+    let sent = in_shape(0, Field::Url, fields::lent_text(page.get("url")))?;
+    let nodes = page.get("nodes").and_then(Value::as_array);
+    let nodes = in_shape(0, Field::Nodes, nodes)?;
+    let address = address_from(alloc, limits.address, sent)?;
+    let rows = rows_of(alloc, nodes.as_slice())?;
+    Ok(Raw { address, rows })
+}
+
+fn address_from(alloc: Global, limit: Option<usize>, text: &str) -> Result<Text, SnapFault>
+    ensures exact { Gives result (address_from limit text.now) }
+    ensures web_address { IfOk result IsWebAddress }
+{
+    if !within(limit, text.len()) {
+        return Err(SnapFault::BadUrl);
+    }
+    read_address(alloc, text)?.ok_or(SnapFault::BadUrl)
+}
+
+fn within(limit: Option<usize>, len: usize) -> bool
+    ensures { result ≡ within limit len }
+{
+    match limit {
+        Some(limit) => len <= limit,
+        None => true,
+    }
+}
