@@ -1,2 +1,4 @@
 pub mod Fronts
 pub mod Known
+pub mod RowLists
+pub mod Grouped

@@ -2,3 +2,5 @@ pub mod Counts
 pub mod Streams
 pub mod ReadAll
 pub mod Memory
+pub mod Outcomes
+pub mod TextReport

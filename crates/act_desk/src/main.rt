@@ -1,14 +1,17 @@
 //! The accessibility audit desk.
 #![tactic(auto)]
 
+mod audit_page;
 mod calls;
 mod failed;
 mod mem_sink;
 mod mem_source;
+mod outcomes;
 mod read_all;
 mod sink;
 mod source;
 mod stream;
+mod text_report;
 mod write_all;
 
 fn main() {}
