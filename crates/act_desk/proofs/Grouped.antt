@@ -29,7 +29,7 @@ prefix_len_others : {X : Type 0} (p q : X → Bool) (xs ys : List X) → ((x : X
 prefix_len_others p q [] ys apart none = none
 prefix_len_others p q (x ∷ xs) ys apart none = passed_over p x (filter q xs) ys (q x) (apart x) (prefix_len_others p q xs ys apart none)
 
-both : (a b : Bool) → (a && b) ≡ true → (a ≡ true) × (b ≡ true)
+pub both : (a b : Bool) → (a && b) ≡ true → (a ≡ true) × (b ≡ true)
 both true b h = (refl, h)
 both false b h = absurd (cc)
 

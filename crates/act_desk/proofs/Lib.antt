@@ -2,3 +2,4 @@ pub mod Fronts
 pub mod Known
 pub mod RowLists
 pub mod Grouped
+pub mod ByRule

@@ -1,6 +1,8 @@
-ghost use Rattle.std.specs.Prelude.{◌≡◌, ◌+◌, ◌≤◌, ◌++◌, length, IfOk, OnOk};
+ghost use Rattle.std.specs.Prelude.{◌≡◌, ◌+◌, ◌≤◌, ◌++◌, length, IfOk, OnOk, IsTrue};
 ghost use Rattle.std.specs.Option.{option_to_list};
 ghost use Rattle.snap_tree.specs.Trees.{rows_of};
+ghost use Rattle.rule_core.specs.Infos.{is_orderly};
+ghost use Rattle.act_desk.specs.TextReport.{AreGrouped};
 ghost use Rattle.act_desk.specs.Outcomes.{out_row, row_on, atomic_rows, outcomes, judgings};
 
 use crate::outcomes::{OutRow, Outcomes};
@@ -17,6 +19,22 @@ pub fn audit_page<B: RuleBook>(
     tree: &Tree,
 ) -> Result<Outcomes, OutOfMemory>
     ensures rows { IfOk result (λ o. o.rows ≡ outcomes infos.now B.means tree.now) }
+    ensures grouped { IsTrue (is_orderly infos.now) → IfOk result (λ o. AreGrouped infos.now o.rows) }
+    ensures counted { B.calls book.new ≤ B.calls book.old + judgings infos.now tree.now }
+{
+    let rows = rows_by_rule(alloc, book, infos, tree)?;
+    Ok(Outcomes {
+        rows: List::from_vec(rows),
+    })
+}
+
+fn rows_by_rule<B: RuleBook>(
+    alloc: Global,
+    book: &mut B,
+    infos: &[RuleInfo],
+    tree: &Tree,
+) -> Result<Vec<OutRow>, OutOfMemory>
+    ensures rows { IfOk result (λ rows. rows.items ≡ outcomes infos.now B.means tree.now) }
     ensures counted { B.calls book.new ≤ B.calls book.old + judgings infos.now tree.now }
 {
     let mut rows = Vec::new(alloc);
@@ -25,9 +43,7 @@ pub fn audit_page<B: RuleBook>(
             push_rows(alloc, book, info.no, tree, &mut rows)?;
         }
     }
-    Ok(Outcomes {
-        rows: List::from_vec(rows),
-    })
+    Ok(rows)
 }
 
 // Adds the rows of an atomic rule.

@@ -3,7 +3,7 @@ use Rattle.std.specs.List.{flat_map}
 use Rattle.snap_tree.specs.Trees.{rows_of}
 use Rattle.rule_core.specs.Infos.{is_atomic}
 use Rattle.act_desk.specs.Outcomes.{outcomes, judgings}
-use Rattle.act_desk.proofs.audit_page.audit_page.Given as goal
+use Rattle.act_desk.proofs.audit_page.rows_by_rule.Given as goal
 
 abbrev pub invariant-loop-info : goal.invariant-loop-info
 invariant-loop-info g l =
