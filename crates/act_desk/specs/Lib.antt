@@ -4,3 +4,5 @@ pub mod ReadAll
 pub mod Memory
 pub mod Outcomes
 pub mod TextReport
+pub mod FaultLine
+pub mod Early

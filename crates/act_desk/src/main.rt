@@ -3,7 +3,10 @@
 
 mod audit_page;
 mod calls;
+mod early;
 mod failed;
+mod fault_line;
+mod found;
 mod mem_sink;
 mod mem_source;
 mod outcomes;
