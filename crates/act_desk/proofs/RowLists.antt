@@ -1,7 +1,8 @@
 -- Lists of rows that loops put together.
-use Rattle.std.proofs.Common.{◌≡◌, ℕ, ◌+◌, ◌*◌, ◌<◌, ◌≤◌, List, [], ◌∷◌, ◌++◌, length, take, get_or, Option, Some, None, refl, sym, ap, ◌∙◌, append_assoc, append-nil, arith}
+use Rattle.std.proofs.Common.{◌≡◌, ℕ, ◌+◌, ◌*◌, ◌<◌, ◌≤◌, List, [], ◌∷◌, ◌++◌, length, take, get_or, slice_get, Option, Some, None, refl, sym, ap, ◌∙◌, append_assoc, append-nil, arith}
 use Rattle.std.specs.List.{filter_map, flat_map, cons_option}
 use Rattle.std.specs.Option.{option_to_list}
+use Rattle.std.proofs.lemmas.Option.{slice_get_within, get_or_from_slice_get}
 use Rattle.std.proofs.lemmas.Grind.{flat_map-append}
 use Rattle.std.proofs.lemmas.List.{take_more}
 
@@ -33,3 +34,14 @@ flat_map_more f xs i d before rows next within so_far more =
     more ∙ ap (λ l. l ++ f x) so_far ∙ append_assoc before (flat_map f (take i xs)) (f x)
     ∙ ap (λ l. before ++ l) (ap (λ l. flat_map f (take i xs) ++ l) (sym (append-nil (f x))) ∙ sym (flat_map-append f (take i xs) (x ∷ []))
         ∙ ap (flat_map f) (sym (take_more xs i d within)))
+
+-- one more item, by place
+pub take_more_some : {X : Type 0} (xs : List X) (k : ℕ) (x : X) (before now : List X) → before ≡ take k xs → now ≡ before ++ x ∷ [] → Some x ≡ slice_get xs k → now ≡ take (k + 1) xs
+take_more_some xs k x before now so_far more there =
+    more ∙ ap (λ l. l ++ x ∷ []) so_far ∙ ap (λ y. take k xs ++ y ∷ []) (sym (get_or_from_slice_get xs k x x (sym there))) ∙ sym (take_more xs k x (slice_get_within xs k x (sym there)))
+
+-- a list of one item
+pub only_one : {X : Type 0} (xs : List X) (x : X) → 1 ≤ length xs → length xs ≤ 1 → x ≡ get_or xs 0 x → xs ≡ x ∷ []
+only_one [] x some few here = absurd (omega arith)
+only_one (y ∷ []) x some few here = ap (λ z. z ∷ []) (sym here)
+only_one (y ∷ z ∷ xs) x some few here = absurd (omega arith)

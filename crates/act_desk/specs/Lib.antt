@@ -6,3 +6,6 @@ pub mod Outcomes
 pub mod TextReport
 pub mod FaultLine
 pub mod Early
+pub mod Audit
+pub mod Telling
+pub mod Run

@@ -77,7 +77,7 @@ abbrev pub first_line : List ℕ → List ℕ
 first_line address = codes "page " ++ address ++ line_end
 
 -- the report on a page of this address
-abbrev pub text_report : List ℕ → List RuleInfo → List OutRow → List ℕ
+unfoldable pub text_report : List ℕ → List RuleInfo → List OutRow → List ℕ
 text_report address infos rows =
     first_line address ++ lines infos rows ++ totals (shown infos rows) (inapplicable infos rows)
 

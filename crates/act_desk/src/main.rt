@@ -1,6 +1,7 @@
 //! The accessibility audit desk.
 #![tactic(auto)]
 
+mod audit;
 mod audit_page;
 mod calls;
 mod early;
@@ -11,9 +12,11 @@ mod mem_sink;
 mod mem_source;
 mod outcomes;
 mod read_all;
+mod run;
 mod sink;
 mod source;
 mod stream;
+mod tell;
 mod text_report;
 mod write_all;
 
