@@ -3,3 +3,4 @@ pub mod Known
 pub mod RowLists
 pub mod Grouped
 pub mod ByRule
+pub mod Statuses

@@ -118,3 +118,15 @@ pub record IsComplete (book : Book) (words : List (List ℕ)) (old new : Outside
   pub snapshot : words ≡ command → (bytes : List ℕ) (page : Document) → old.input.left ≡ Some bytes → sent_tree bytes ≡ Ok page →
     ((status ≡ (if fails book page then 1 else 0)) × Took old.out new.out (report_of book page) × Stays old.err new.err) ⊎ (status ≡ 8)
   pub no_snapshot : words ≡ command → (bytes : List ℕ) (fault : SnapFault) → old.input.left ≡ Some bytes → sent_tree bytes ≡ Err fault → (status ≡ 5) ⊎ (status ≡ 8)
+
+-- What a run with a book and these words does to the outside, and what its status says.
+pub record Runs (book : Book) (words : List (List ℕ)) (old new : Outside) (status : ℕ) : Type 0 where
+  pub no_other : IsStatus status
+  pub none_failed : status ≡ 0 → Audits book words old new false
+  pub some_failed : status ≡ 1 → Audits book words old new true
+  pub usage_fault : status ≡ 2 → RefusesWords words old new
+  pub read_fault : status ≡ 3 → MetReadFault old new
+  pub write_fault : status ≡ 4 → MetWriteFault book old new
+  pub no_snapshot : status ≡ 5 → RefusesInput old new
+  pub no_memory : status ≡ 8 → WantsMemory old new
+  pub complete : NoFaults old new → IsComplete book words old new status

@@ -1,6 +1,6 @@
-ghost use Rattle.std.specs.Prelude.{◌≡◌, ◌↔◌, codes, true, false, IsTrue};
+ghost use Rattle.std.specs.Prelude.{◌≡◌, ◌↔◌, codes, IsTrue};
 ghost use Rattle.act_desk.specs.Telling.{command, Finds};
-ghost use Rattle.act_desk.specs.Run.{Outside, IsStatus, Audits, RefusesWords, MetReadFault, MetWriteFault, RefusesInput, WantsMemory, NoFaults, IsComplete};
+ghost use Rattle.act_desk.specs.Run.{Runs};
 
 use crate::audit::audit;
 use crate::found::Found;
@@ -21,6 +21,18 @@ pub fn run<I: Source, O: Sink, E: Sink, B: RuleBook>(
     err: &mut E,
     book: &mut B,
 ) -> u8
+    ensures { Runs (record { infos = B.infos; means = B.means }) words.now
+        (record {
+            input = record { faults = I.faults input.old; left = I.left input.old };
+            out = record { faults = O.faults out.old; held = O.held out.old };
+            err = record { faults = E.faults err.old; held = E.held err.old }
+        })
+        (record {
+            input = record { faults = I.faults input.new; left = I.left input.new };
+            out = record { faults = O.faults out.new; held = O.held out.new };
+            err = record { faults = E.faults err.new; held = E.held err.new }
+        })
+        result }
 {
     let found = find(alloc, words, input, book);
     tell(out, err, &found)
