@@ -41,6 +41,7 @@ of_other i j means page b is = chosen (is_atomic j)
     none : (c : Bool) → filter (is_of i) [] ≡ cond c [] []
     none true = refl
     none false = refl
+
     chosen : (atomic : Bool) → filter (is_of i) (cond atomic (atomic_rows means page j.no) []) ≡ cond b (cond atomic (atomic_rows means page j.no) []) []
     chosen true = on_rows i means page j.no (rows_of page.trees) b is
     chosen false = none b
@@ -58,9 +59,10 @@ own_after : (means : Meaning) (page : Document) (j : RuleInfo) (rows : List OutR
     Own means page rows infos → Own means page (rule_rows means page j ++ rows) infos
 own_after means page j rows [] above own = tt
 own_after means page j rows (i ∷ infos) above own =
-    let h = both (ltb j.no.0 i.no.0) (list_all (λ k. ltb j.no.0 k.no.0) infos) above in
-    ( filter_append (is_of i) (rule_rows means page j) rows ∙ ap (λ l. l ++ of_rule rows i) (of_other i j means page false (not_same j.no.0 i.no.0 h.0)) ∙ own.0
-    , own_after means page j rows infos h.1 own.1)
+    let h = both (ltb j.no.0 i.no.0) (list_all (λ k. ltb j.no.0 k.no.0) infos) above in (
+      filter_append (is_of i) (rule_rows means page j) rows ∙ ap (λ l. l ++ of_rule rows i) (of_other i j means page false (not_same j.no.0 i.no.0 h.0)) ∙ own.0,
+      own_after means page j rows infos h.1 own.1,
+    )
 
 -- the rows of a rule are none of the later ones'
 later_none : (means : Meaning) (page : Document) (i : RuleInfo) (infos : List RuleInfo) → list_all (λ j. ltb i.no.0 j.no.0) infos ≡ true → of_rule (outcomes infos means page) i ≡ []
@@ -79,10 +81,11 @@ same n = grind (arith, nat_tests)
 all_own : (means : Meaning) (page : Document) (infos : List RuleInfo) → rise infos ≡ true → Own means page (outcomes infos means page) infos
 all_own means page [] rising = tt
 all_own means page (i ∷ infos) rising =
-    let h = both (list_all (λ j. ltb i.no.0 j.no.0) infos) (rise infos) rising in
-    ( filter_append (is_of i) (rule_rows means page i) (outcomes infos means page) ∙ ap (λ l. l ++ of_rule (outcomes infos means page) i) (of_other i i means page true (same i.no.0))
-        ∙ ap (λ l. rule_rows means page i ++ l) (later_none means page i infos h.0) ∙ append-nil (rule_rows means page i)
-    , own_after means page i (outcomes infos means page) infos h.0 (all_own means page infos h.1))
+    let h = both (list_all (λ j. ltb i.no.0 j.no.0) infos) (rise infos) rising in (
+      filter_append (is_of i) (rule_rows means page i) (outcomes infos means page) ∙ ap (λ l. l ++ of_rule (outcomes infos means page) i) (of_other i i means page true (same i.no.0))
+          ∙ ap (λ l. rule_rows means page i ++ l) (later_none means page i infos h.0) ∙ append-nil (rule_rows means page i),
+      own_after means page i (outcomes infos means page) infos h.0 (all_own means page infos h.1),
+    )
 
 shown_own : (means : Meaning) (page : Document) (rows : List OutRow) (infos : List RuleInfo) → Own means page rows infos → shown infos rows ≡ outcomes infos means page
 shown_own means page rows [] own = refl

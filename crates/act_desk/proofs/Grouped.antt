@@ -59,9 +59,10 @@ next_rule infos rows rest k d rising within left =
     let P : List RuleInfo → Type 0 = λ l. rise l ≡ true in
     let above = (both (list_all (λ j. ltb i.no.0 j.no.0) later) (rise later) (subst P split (rise-drop k infos rising))).0 in
     let count : prefix_len (is_of i) rest ≡ length (of_rule rows i) =
-        ap (prefix_len (is_of i)) whole ∙ prefix_len_filter (is_of i) rows (shown later rows) (later_rules i rows later above) in
-    ( ap (λ n. take n rest) count ∙ ap (take (length (of_rule rows i))) whole ∙ take-append_seam (of_rule rows i) (shown later rows)
-    , ap (λ n. drop n rest) count ∙ ap (drop (length (of_rule rows i))) whole ∙ drop-append_seam (of_rule rows i) (shown later rows))
+    ap (prefix_len (is_of i)) whole ∙ prefix_len_filter (is_of i) rows (shown later rows) (later_rules i rows later above) in (
+      ap (λ n. take n rest) count ∙ ap (take (length (of_rule rows i))) whole ∙ take-append_seam (of_rule rows i) (shown later rows),
+      ap (λ n. drop n rest) count ∙ ap (drop (length (of_rule rows i))) whole ∙ drop-append_seam (of_rule rows i) (shown later rows),
+    )
 
 -- What the report has after some rules, and what is left of the rows.
 pub record AfterRules (infos : List RuleInfo) (rows : List OutRow) (k : ℕ) (first report : List ℕ) (without : ℕ) (rest : List OutRow) : Type 0 where
@@ -82,5 +83,5 @@ rules_more infos rows rest front later k d first report next n m rising within b
       rest_is = follows ∙ step.1;
       report_is = flat_map_more (λ (j : RuleInfo). rule_lines j.id (of_rule rows j)) infos k d first report next within before.report_is (more ∙ ap (λ l. report ++ rule_lines i.id l) same);
       without_is = ap (λ a. a + m) before.without_is ∙ ap (λ b. inapplicable (take k infos) rows + b) (count ∙ ap (λ (l : List OutRow). cond (length l == 0) 1 0) same) ∙ sym (sum_by_more (λ (j : RuleInfo). cond (length (of_rule rows j) == 0) 1 0) infos k d within);
-      few = omega (arith, before.few)
+      few = omega (arith, before.few);
     }

@@ -24,7 +24,7 @@ pub filter_map_more : {X Y : Type 0} (f : X → Option Y) (xs : List X) (i : ℕ
 filter_map_more f xs i x before rows next within here so_far more =
     more ∙ ap (λ l. l ++ option_to_list (f x)) so_far ∙ append_assoc before (filter_map f (take i xs)) (option_to_list (f x))
     ∙ ap (λ l. before ++ l) (ap (λ l. filter_map f (take i xs) ++ l) (sym (cons_option_one (f x))) ∙ sym (filter_map-append f (take i xs) (x ∷ []))
-        ∙ ap (filter_map f) (ap (λ y. take i xs ++ y ∷ []) here ∙ sym (take_more xs i x within)))
+    ∙ ap (filter_map f) (ap (λ y. take i xs ++ y ∷ []) here ∙ sym (take_more xs i x within)))
 
 -- one more item's list
 pub flat_map_more : {X Y : Type 0} (f : X → List Y) (xs : List X) (i : ℕ) (d : X) (before rows next : List Y) → i < length xs →
@@ -33,7 +33,7 @@ flat_map_more f xs i d before rows next within so_far more =
     let x = get_or xs i d in
     more ∙ ap (λ l. l ++ f x) so_far ∙ append_assoc before (flat_map f (take i xs)) (f x)
     ∙ ap (λ l. before ++ l) (ap (λ l. flat_map f (take i xs) ++ l) (sym (append-nil (f x))) ∙ sym (flat_map-append f (take i xs) (x ∷ []))
-        ∙ ap (flat_map f) (sym (take_more xs i d within)))
+    ∙ ap (flat_map f) (sym (take_more xs i d within)))
 
 -- one more item, by place
 pub take_more_some : {X : Type 0} (xs : List X) (k : ℕ) (x : X) (before now : List X) → before ≡ take k xs → now ≡ before ++ x ∷ [] → Some x ≡ slice_get xs k → now ≡ take (k + 1) xs

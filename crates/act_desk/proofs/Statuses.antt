@@ -88,9 +88,10 @@ had_more a b left bytes is h = had b (let P : Option (List ℕ) → Type 0 = λ 
 all_refused : (old new : Input) (left bytes : List ℕ) (page : Document) (fault : SnapFault) → old.left ≡ Some left → Gave old new bytes → sent_tree bytes ≡ Err fault → sent_tree left ≡ Ok page → ⊥
 all_refused old new left bytes page fault is gave not good =
     elim (cases_lt (length bytes) limit) [
-      inl low ↦ (let P : List ℕ → Type 0 = λ l. sent_tree l ≡ Ok page in
-        not_both bytes page fault (subst P (told old.left left bytes is (all_left old.left new.left bytes gave.bytes_are.front (gave.bytes_are.end low))) good) not)
-    | inr high ↦ not_both left page TooLong good (too_long left (omega (arith, had_more old.left new.left left bytes is gave.bytes_are.front))) ]
+      | inl low ↦ (let P : List ℕ → Type 0 = λ l. sent_tree l ≡ Ok page in
+          not_both bytes page fault (subst P (told old.left left bytes is (all_left old.left new.left bytes gave.bytes_are.front (gave.bytes_are.end low))) good) not)
+      | inr high ↦ not_both left page TooLong good (too_long left (omega (arith, had_more old.left new.left left bytes is gave.bytes_are.front)))
+    ]
 
 -- ---- what was written whole
 
@@ -110,12 +111,14 @@ audits book words old new report failed is found out err =
     let on = found.2 in
     let P : List ℕ → Type 0 = λ l. Took old.out new.out l in
     record {
-      words_are = is; bytes = found.0; page = on.page;
+      words_are = is;
+      bytes = found.0;
+      page = on.page;
       input = gave_all old.input new.input found.0 on.page on.is_snapshot gave;
       is_snapshot = on.is_snapshot;
       out = subst P on.report_is out;
       err = stays old.err new.err err;
-      outcome = sym on.failed_is
+      outcome = sym on.failed_is;
     }
 
 says : (book : Book) (words : List (List ℕ)) (old new : Outside) (found : Found) → Finds book words old.input new.input found →
@@ -170,7 +173,7 @@ report_cut book words old new found status f cut =
       out = has_front book words old new found f cut.out_broke.grown;
       err = told.0;
       out_once = inr cut.out_broke.fault;
-      err_once = told.1
+      err_once = told.1;
     }
 
 line_cut : (book : Book) (words : List (List ℕ)) (old new : Outside) (found : Found) (status : ℕ) → Finds book words old.input new.input found → IsLineCut found old.out new.out old.err new.err status → MetWriteFault book old new
@@ -180,7 +183,7 @@ line_cut book words old new found status f cut =
       out = has_front book words old new found f (all_of old.out.held new.out.held (report_in found) cut.out_took.grown);
       err = has_line_front book words old new found f cut.err_broke.grown;
       out_once = inl cut.out_took.no_fault;
-      err_once = inr cut.err_broke.fault
+      err_once = inr cut.err_broke.fault;
     }
 
 -- ---- each status
@@ -194,8 +197,9 @@ pub record Ran (book : Book) (words : List (List ℕ)) (old new : Outside) (foun
 written : (book : Book) (words : List (List ℕ)) (old new : Outside) (found : Found) (status : ℕ) → Ran book words old new found status → status ≢ 4 → (status ≡ status_of found) × Says book words old new found
 written book words old new found status ran other =
     elim ran.tells [
-      inl w ↦ (w.status_is, says book words old new found ran.finds w.out_took w.err_took)
-    | inr cut ↦ elim cut [ inl r ↦ absurd (other r.status_is) | inr l ↦ absurd (other l.status_is) ] ]
+      | inl w ↦ (w.status_is, says book words old new found ran.finds w.out_took w.err_took)
+      | inr cut ↦ elim cut [ inl r ↦ absurd (other r.status_is) | inr l ↦ absurd (other l.status_is) ]
+    ]
 
 is_status : (found : Found) → IsStatus (status_of found)
 is_status (Audited report true) = refl
@@ -208,8 +212,9 @@ is_status NoMemory = refl
 status_known : (book : Book) (words : List (List ℕ)) (old new : Outside) (found : Found) (status : ℕ) → Ran book words old new found status → IsStatus status
 status_known book words old new found status ran =
     elim ran.tells [
-      inl w ↦ subst IsStatus (sym w.status_is) (is_status found)
-    | inr cut ↦ elim cut [ inl r ↦ subst IsStatus (sym r.status_is) refl | inr l ↦ subst IsStatus (sym l.status_is) refl ] ]
+      | inl w ↦ subst IsStatus (sym w.status_is) (is_status found)
+      | inr cut ↦ elim cut [ inl r ↦ subst IsStatus (sym r.status_is) refl | inr l ↦ subst IsStatus (sym l.status_is) refl ]
+    ]
 
 at_0 : (book : Book) (words : List (List ℕ)) (old new : Outside) (found : Found) → 0 ≡ status_of found → Says book words old new found → Audits book words old new false
 at_0 book words old new (Audited report true) e s = absurd (omega arith)
@@ -294,8 +299,9 @@ not_4 NoMemory e = omega arith
 met_write_fault : (book : Book) (words : List (List ℕ)) (old new : Outside) (found : Found) (status : ℕ) → Ran book words old new found status → status ≡ 4 → MetWriteFault book old new
 met_write_fault book words old new found status ran is =
     elim ran.tells [
-      inl w ↦ absurd (not_4 found (sym is ∙ w.status_is))
-    | inr cut ↦ elim cut [ inl r ↦ report_cut book words old new found status ran.finds r | inr l ↦ line_cut book words old new found status ran.finds l ] ]
+      | inl w ↦ absurd (not_4 found (sym is ∙ w.status_is))
+      | inr cut ↦ elim cut [ inl r ↦ report_cut book words old new found status ran.finds r | inr l ↦ line_cut book words old new found status ran.finds l ]
+    ]
 
 -- ---- without faults
 
@@ -303,10 +309,12 @@ met_write_fault book words old new found status ran is =
 unbroken : (book : Book) (words : List (List ℕ)) (old new : Outside) (found : Found) (status : ℕ) → Ran book words old new found status → NoFaults old new → (status ≡ status_of found) × Says book words old new found
 unbroken book words old new found status ran none =
     elim ran.tells [
-      inl w ↦ (w.status_is, says book words old new found ran.finds w.out_took w.err_took)
-    | inr cut ↦ elim cut [
-        inl r ↦ absurd (no_break old.out.faults new.out.faults none.out r.out_broke.fault)
-      | inr l ↦ absurd (no_break old.err.faults new.err.faults none.err l.err_broke.fault) ] ]
+      | inl w ↦ (w.status_is, says book words old new found ran.finds w.out_took w.err_took)
+      | inr cut ↦ elim cut [
+        | inl r ↦ absurd (no_break old.out.faults new.out.faults none.out r.out_broke.fault)
+        | inr l ↦ absurd (no_break old.err.faults new.err.faults none.err l.err_broke.fault)
+      ]
+    ]
 
 other_words : (book : Book) (words : List (List ℕ)) (old new : Outside) (found : Found) (status : ℕ) → Finds book words old.input new.input found → status ≡ status_of found → words ≢ command → status ≡ 2
 other_words book words old new (Audited report failed) status f is not = absurd (not f.0)
@@ -354,7 +362,7 @@ complete book words old new found status ran none =
     record {
       other_words = λ not. inl (other_words book words old new found status ran.finds w.0 not);
       snapshot = λ cmd left page told_left good. on_snapshot book words old new found status ran.finds w.0 w.1 none cmd left page told_left good;
-      no_snapshot = λ cmd left fault told_left bad. on_other book words old new found status ran.finds w.0 w.1 none cmd left fault told_left bad
+      no_snapshot = λ cmd left fault told_left bad. on_other book words old new found status ran.finds w.0 w.1 none cmd left fault told_left bad;
     }
 
 pub runs : (book : Book) (words : List (List ℕ)) (old new : Outside) (found : Found) (status : ℕ) → Ran book words old new found status → Runs book words old new status
@@ -368,5 +376,5 @@ runs book words old new found status ran =
       write_fault = met_write_fault book words old new found status ran;
       no_snapshot = no_snapshot book words old new found status ran;
       no_memory = no_memory book words old new found status ran;
-      complete = complete book words old new found status ran
+      complete = complete book words old new found status ran;
     }

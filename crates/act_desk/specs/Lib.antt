@@ -9,3 +9,4 @@ pub mod Early
 pub mod Audit
 pub mod Telling
 pub mod Run
+pub mod Start

@@ -116,7 +116,7 @@ pub record NoFaults (old new : Outside) : Type 0 where
 pub record IsComplete (book : Book) (words : List (List ℕ)) (old new : Outside) (status : ℕ) : Type 0 where
   pub other_words : words ≢ command → (status ≡ 2) ⊎ (status ≡ 8)
   pub snapshot : words ≡ command → (bytes : List ℕ) (page : Document) → old.input.left ≡ Some bytes → sent_tree bytes ≡ Ok page →
-    ((status ≡ (if fails book page then 1 else 0)) × Took old.out new.out (report_of book page) × Stays old.err new.err) ⊎ (status ≡ 8)
+      ((status ≡ (if fails book page then 1 else 0)) × Took old.out new.out (report_of book page) × Stays old.err new.err) ⊎ (status ≡ 8)
   pub no_snapshot : words ≡ command → (bytes : List ℕ) (fault : SnapFault) → old.input.left ≡ Some bytes → sent_tree bytes ≡ Err fault → (status ≡ 5) ⊎ (status ≡ 8)
 
 -- What a run with a book and these words does to the outside, and what its status says.

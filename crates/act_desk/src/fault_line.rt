@@ -39,7 +39,12 @@ fn tree_fault_text(alloc: Global, fault: TreeFault) -> Result<String, OutOfMemor
         TreeFault::Empty => numbered(alloc, 1, "Empty"),
         TreeFault::TooMany => numbered(alloc, 2, "TooMany"),
         TreeFault::DoubleNumber { node } => on_node(alloc, 3, "DoubleNumber", node),
-        TreeFault::ParentUnknownOrNotOpen { node } => on_node(alloc, 4, "ParentUnknownOrNotOpen", node),
+        TreeFault::ParentUnknownOrNotOpen { node } => on_node(
+            alloc,
+            4,
+            "ParentUnknownOrNotOpen",
+            node,
+        ),
         TreeFault::TooDeep { node } => on_node(alloc, 5, "TooDeep", node),
         TreeFault::TooManyAttrs { node } => on_node(alloc, 6, "TooManyAttrs", node),
         TreeFault::TextTooLong { node } => on_node(alloc, 7, "TextTooLong", node),
@@ -78,4 +83,83 @@ fn joined(alloc: Global, first: &str, second: &str) -> Result<String, OutOfMemor
     ensures { IfOk result (λ t. string_bytes t ≡ first.now ++ second.now) }
 {
     Ok(format!(in alloc; "{first}{second}")?)
+}
+
+#[cfg(test)]
+mod tests {
+    use super::*;
+    use snap_json::Field;
+    use std::test::Fail;
+
+    #[test]
+    fn each_fault_has_its_line(rt: HostRuntime) -> Result<(), Fail> {
+        let node = NodeId(7);
+        let rows = [
+            (SnapFault::NotJson, " 1 NotJson"),
+            (
+                SnapFault::Shape {
+                    place: 0,
+                    field: Field::Url,
+                },
+                " 2 Shape place 0 field url",
+            ),
+            (
+                SnapFault::Shape {
+                    place: 10_000,
+                    field: Field::F,
+                },
+                " 2 Shape place 10000 field f",
+            ),
+            (SnapFault::BadUrl, " 3 BadUrl"),
+            (SnapFault::Tree(TreeFault::Empty), " 4 Tree 1 Empty"),
+            (SnapFault::Tree(TreeFault::TooMany), " 4 Tree 2 TooMany"),
+            (
+                SnapFault::Tree(TreeFault::DoubleNumber { node }),
+                " 4 Tree 3 DoubleNumber node 7",
+            ),
+            (
+                SnapFault::Tree(TreeFault::ParentUnknownOrNotOpen { node }),
+                " 4 Tree 4 ParentUnknownOrNotOpen node 7",
+            ),
+            (
+                SnapFault::Tree(TreeFault::TooDeep { node }),
+                " 4 Tree 5 TooDeep node 7",
+            ),
+            (
+                SnapFault::Tree(TreeFault::TooManyAttrs { node }),
+                " 4 Tree 6 TooManyAttrs node 7",
+            ),
+            (
+                SnapFault::Tree(TreeFault::TextTooLong { node }),
+                " 4 Tree 7 TextTooLong node 7",
+            ),
+            (
+                SnapFault::Tree(TreeFault::DoubleAttr { node }),
+                " 4 Tree 8 DoubleAttr node 7",
+            ),
+            (
+                SnapFault::Tree(TreeFault::TextHasKids { node }),
+                " 4 Tree 9 TextHasKids node 7",
+            ),
+            (
+                SnapFault::Tree(TreeFault::ReferenceWeight),
+                " 4 Tree 10 ReferenceWeight",
+            ),
+            (
+                SnapFault::Tree(TreeFault::RootNotElement { node }),
+                " 4 Tree 11 RootNotElement node 7",
+            ),
+            (
+                SnapFault::Tree(TreeFault::EmptyName { node }),
+                " 4 Tree 12 EmptyName node 7",
+            ),
+            (SnapFault::TooLong, " 5 TooLong"),
+        ];
+        for (fault, wanted) in rows {
+            let line = fault_line(rt.alloc(), fault)?;
+            let wanted = format!(in rt.alloc(); "snapshot fault{wanted}\n")?;
+            assert_eq!(rt; line.as_str(), wanted.as_str());
+        }
+        Ok(())
+    }
 }

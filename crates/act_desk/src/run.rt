@@ -23,14 +23,14 @@ pub fn run<I: Source, O: Sink, E: Sink, B: RuleBook>(
 ) -> u8
     ensures { Runs (record { infos = B.infos; means = B.means }) words.now
         (record {
-            input = record { faults = I.faults input.old; left = I.left input.old };
-            out = record { faults = O.faults out.old; held = O.held out.old };
-            err = record { faults = E.faults err.old; held = E.held err.old }
+          input = record { faults = I.faults input.old; left = I.left input.old };
+          out = record { faults = O.faults out.old; held = O.held out.old };
+          err = record { faults = E.faults err.old; held = E.held err.old };
         })
         (record {
-            input = record { faults = I.faults input.new; left = I.left input.new };
-            out = record { faults = O.faults out.new; held = O.held out.new };
-            err = record { faults = E.faults err.new; held = E.held err.new }
+          input = record { faults = I.faults input.new; left = I.left input.new };
+          out = record { faults = O.faults out.new; held = O.held out.new };
+          err = record { faults = E.faults err.new; held = E.held err.new };
         })
         result }
 {

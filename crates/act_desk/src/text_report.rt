@@ -71,7 +71,9 @@ fn leading(rows: &[OutRow], info: &RuleInfo) -> usize
     ensures count { result ≡ prefix_len (is_of info.now) rows.now }
     ensures within { result ≤ length rows.now }
 {
-    rows.iter().take_while(|row| row.rule.0 == info.no.0).count()
+    rows.iter()
+        .take_while(|row| row.rule.0 == info.no.0)
+        .count()
 }
 
 // 1 where there is no row.
@@ -200,5 +202,49 @@ fn is_outcome(wanted: Auto, outcome: Auto) -> bool
 pub fn count_of(outcome: Auto, rows: &[OutRow]) -> usize
     ensures { result ≡ count_of outcome rows.now }
 {
-    rows.iter().filter(|row| is_outcome(outcome, row.last)).count()
+    rows.iter()
+        .filter(|row| is_outcome(outcome, row.last))
+        .count()
+}
+
+#[cfg(test)]
+mod tests {
+    use super::*;
+    use rule_core::{Reason, RuleNo};
+    use snap_tree::{List, NodeId};
+    use std::test::Fail;
+
+    #[test]
+    fn a_row_tells_its_reason_or_its_judge(rt: HostRuntime) -> Result<(), Fail> {
+        let rows = [
+            (Auto::Passed, "", " node 7 passed judge-heading\n"),
+            (Auto::Failed, "", " node 7 failed judge-heading\n"),
+            (Auto::CantTell, "", " node 7 cantTell judge-heading\n"),
+            (Auto::Passed, "bob", " node 7 passed judged by bob\n"),
+        ];
+        for (last, hand, wanted) in rows {
+            let row = OutRow {
+                rule: RuleNo(14),
+                node: NodeId(7),
+                auto: Auto::CantTell,
+                reason: Reason::JudgeHeading,
+                evidence: Text::new(rt.alloc()),
+                last,
+                hand: Text::from_str(rt.alloc(), hand)?,
+            };
+            let line = row_line(rt.alloc(), &row)?;
+            assert_eq!(rt; line.as_str(), wanted);
+        }
+        Ok(())
+    }
+
+    #[test]
+    fn the_last_line_counts_final_outcomes(rt: HostRuntime) -> Result<(), Fail> {
+        let line = totals_line(rt.alloc(), 11, 0, 7, 13)?;
+        assert_eq!(rt;
+            line.as_str(),
+            "passed 11 failed 0 cantTell 7 inapplicable 13\n"
+        );
+        Ok(())
+    }
 }
