@@ -1,0 +1,6 @@
+pub mod Fronts
+pub mod Known
+pub mod RowLists
+pub mod Grouped
+pub mod ByRule
+pub mod Statuses

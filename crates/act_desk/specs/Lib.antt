@@ -1,0 +1,12 @@
+pub mod Counts
+pub mod Streams
+pub mod ReadAll
+pub mod Memory
+pub mod Outcomes
+pub mod TextReport
+pub mod FaultLine
+pub mod Early
+pub mod Audit
+pub mod Telling
+pub mod Run
+pub mod Start

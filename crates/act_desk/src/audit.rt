@@ -1,0 +1,77 @@
+ghost use Rattle.std.specs.Prelude.{◌≡◌, IfOk};
+ghost use Rattle.act_desk.specs.Audit.{report_of, fails, IsFoundIn, IsFound};
+
+use crate::audit_page::audit_page;
+use crate::fault_line::fault_line;
+use crate::found::Found;
+use crate::read_all::{ReadFault, read_all};
+use crate::source::Source;
+use crate::text_report::{count_of, text_report};
+use rule_core::{Auto, RuleBook, RuleInfo};
+use snap_json::{SnapFault, read_snapshot};
+use snap_tree::{List, OutOfMemory, Tree};
+use std::alloc::Global;
+
+// One byte more than a snapshot may have.
+const LIMIT: usize = 8_388_609;
+
+/// Reads one snapshot to the end of the source, or to the 8,388,609th byte, and judges it by a book.
+pub fn audit<I: Source, B: RuleBook>(alloc: Global, input: &mut I, book: &mut B) -> Found
+    ensures { IsFound (record { infos = B.infos; means = B.means })
+        (record { faults = I.faults input.old; left = I.left input.old })
+        (record { faults = I.faults input.new; left = I.left input.new }) result }
+{
+    match read_all(alloc, input, LIMIT) {
+        Ok(bytes) => audit_bytes(alloc, bytes.as_slice(), book),
+        Err(ReadFault::Failed) => Found::ReadFault,
+        Err(ReadFault::OutOfMemory) => Found::NoMemory,
+    }
+}
+
+fn audit_bytes<B: RuleBook>(alloc: Global, bytes: &[u8], book: &mut B) -> Found
+    ensures { IsFoundIn (record { infos = B.infos; means = B.means }) bytes.now result }
+{
+    match read_snapshot(alloc, bytes) {
+        Ok(tree) => match report(alloc, &tree, book) {
+            Ok((report, failed)) => Found::Audited { report, failed },
+            Err(OutOfMemory) => Found::NoMemory,
+        },
+        Err(SnapFault::OutOfMemory) => Found::NoMemory,
+        Err(fault) => match fault_line(alloc, fault) {
+            Ok(line) => Found::NotSnapshot { line },
+            Err(OutOfMemory) => Found::NoMemory,
+        },
+    }
+}
+
+// The report of a page, and whether some final outcome is failed.
+fn report<B: RuleBook>(
+    alloc: Global,
+    tree: &Tree,
+    book: &mut B,
+) -> Result<(List<u8>, bool), OutOfMemory>
+    ensures report { IfOk result
+        (λ r. r.0 ≡ report_of (record { infos = B.infos; means = B.means }) tree.now) }
+    ensures failed { IfOk result
+        (λ r. r.1 ≡ fails (record { infos = B.infos; means = B.means }) tree.now) }
+{
+    let infos = infos_of(alloc, book)?;
+    let outcomes = audit_page(alloc, book, infos.as_slice(), tree)?;
+    let report = text_report(alloc, tree.address(), infos.as_slice(), &outcomes)?;
+    let failed = count_of(Auto::Failed, outcomes.rows.as_slice()) > 0;
+    Ok((List::from_vec(report), failed))
+}
+
+// The infos of a book, by place.
+fn infos_of<B: RuleBook>(alloc: Global, book: &B) -> Result<Vec<RuleInfo>, OutOfMemory>
+    ensures { IfOk result (λ infos. infos.items ≡ B.infos) }
+{
+    let mut infos = Vec::new(alloc);
+    for place in 0..65_536 {
+        let Some(info) = book.info(place) else {
+            return Ok(infos);
+        };
+        infos.push(info)?;
+    }
+    Ok(infos)
+}

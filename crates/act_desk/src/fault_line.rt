@@ -1,0 +1,165 @@
+ghost use Rattle.std.specs.Prelude.{◌≡◌, ◌++◌, codes, decimal, IfOk};
+ghost use Rattle.std.specs.String.{string_bytes};
+ghost use Rattle.act_desk.specs.FaultLine.{numbered, at_node, tree_fault_text, fault_text, fault_line};
+
+use snap_json::SnapFault;
+use snap_tree::{NodeId, OutOfMemory, Text, TreeFault};
+use std::alloc::Global;
+
+/// The line that names what is wrong with a snapshot: the number and the name of the fault, and then
+/// the place and the field, or the number and the name of the fault of the rows and the node.
+pub fn fault_line(alloc: Global, fault: SnapFault) -> Result<Text, OutOfMemory>
+    ensures { IfOk result (λ line. line ≡ fault_line fault) }
+{
+    let fault = fault_text(alloc, fault)?;
+    Ok(Text::from_string(format!(in alloc; "snapshot fault{fault}\n")?))
+}
+
+fn fault_text(alloc: Global, fault: SnapFault) -> Result<String, OutOfMemory>
+    ensures { IfOk result (λ t. string_bytes t ≡ fault_text fault) }
+{
+    match fault {
+        SnapFault::NotJson => numbered(alloc, 1, "NotJson"),
+        SnapFault::Shape { place, field } => shape(alloc, place, field.name()),
+        SnapFault::BadUrl => numbered(alloc, 3, "BadUrl"),
+        SnapFault::Tree(fault) => {
+            let tree = numbered(alloc, 4, "Tree")?;
+            let fault = tree_fault_text(alloc, fault)?;
+            joined(alloc, tree.as_str(), fault.as_str())
+        }
+        SnapFault::TooLong => numbered(alloc, 5, "TooLong"),
+        SnapFault::OutOfMemory => Ok(String::new(alloc)),
+    }
+}
+
+fn tree_fault_text(alloc: Global, fault: TreeFault) -> Result<String, OutOfMemory>
+    ensures { IfOk result (λ t. string_bytes t ≡ tree_fault_text fault) }
+{
+    match fault {
+        TreeFault::Empty => numbered(alloc, 1, "Empty"),
+        TreeFault::TooMany => numbered(alloc, 2, "TooMany"),
+        TreeFault::DoubleNumber { node } => on_node(alloc, 3, "DoubleNumber", node),
+        TreeFault::ParentUnknownOrNotOpen { node } => on_node(
+            alloc,
+            4,
+            "ParentUnknownOrNotOpen",
+            node,
+        ),
+        TreeFault::TooDeep { node } => on_node(alloc, 5, "TooDeep", node),
+        TreeFault::TooManyAttrs { node } => on_node(alloc, 6, "TooManyAttrs", node),
+        TreeFault::TextTooLong { node } => on_node(alloc, 7, "TextTooLong", node),
+        TreeFault::DoubleAttr { node } => on_node(alloc, 8, "DoubleAttr", node),
+        TreeFault::TextHasKids { node } => on_node(alloc, 9, "TextHasKids", node),
+        TreeFault::ReferenceWeight => numbered(alloc, 10, "ReferenceWeight"),
+        TreeFault::RootNotElement { node } => on_node(alloc, 11, "RootNotElement", node),
+        TreeFault::EmptyName { node } => on_node(alloc, 12, "EmptyName", node),
+    }
+}
+
+#[tactic(auto, unfolding(crate::specs::FaultLine::numbered))]
+fn numbered(alloc: Global, number: u8, name: &str) -> Result<String, OutOfMemory>
+    ensures { IfOk result (λ t. string_bytes t ≡ numbered number name.now) }
+{
+    Ok(format!(in alloc; " {number} {name}")?)
+}
+
+fn on_node(alloc: Global, number: u8, name: &str, node: NodeId) -> Result<String, OutOfMemory>
+    ensures { IfOk result (λ t. string_bytes t ≡ numbered number name.now ++ at_node node) }
+{
+    let fault = numbered(alloc, number, name)?;
+    let n = node.0;
+    Ok(format!(in alloc; "{fault} node {n}")?)
+}
+
+fn shape(alloc: Global, place: u32, field: &str) -> Result<String, OutOfMemory>
+    ensures { IfOk result (λ t. string_bytes t
+        ≡ numbered 2 (codes "Shape") ++ codes " place " ++ decimal place ++ codes " field " ++ field.now) }
+{
+    let fault = numbered(alloc, 2, "Shape")?;
+    Ok(format!(in alloc; "{fault} place {place} field {field}")?)
+}
+
+fn joined(alloc: Global, first: &str, second: &str) -> Result<String, OutOfMemory>
+    ensures { IfOk result (λ t. string_bytes t ≡ first.now ++ second.now) }
+{
+    Ok(format!(in alloc; "{first}{second}")?)
+}
+
+#[cfg(test)]
+mod tests {
+    use super::*;
+    use snap_json::Field;
+    use std::test::Fail;
+
+    #[test]
+    fn each_fault_has_its_line(rt: HostRuntime) -> Result<(), Fail> {
+        let node = NodeId(7);
+        let rows = [
+            (SnapFault::NotJson, " 1 NotJson"),
+            (
+                SnapFault::Shape {
+                    place: 0,
+                    field: Field::Url,
+                },
+                " 2 Shape place 0 field url",
+            ),
+            (
+                SnapFault::Shape {
+                    place: 10_000,
+                    field: Field::F,
+                },
+                " 2 Shape place 10000 field f",
+            ),
+            (SnapFault::BadUrl, " 3 BadUrl"),
+            (SnapFault::Tree(TreeFault::Empty), " 4 Tree 1 Empty"),
+            (SnapFault::Tree(TreeFault::TooMany), " 4 Tree 2 TooMany"),
+            (
+                SnapFault::Tree(TreeFault::DoubleNumber { node }),
+                " 4 Tree 3 DoubleNumber node 7",
+            ),
+            (
+                SnapFault::Tree(TreeFault::ParentUnknownOrNotOpen { node }),
+                " 4 Tree 4 ParentUnknownOrNotOpen node 7",
+            ),
+            (
+                SnapFault::Tree(TreeFault::TooDeep { node }),
+                " 4 Tree 5 TooDeep node 7",
+            ),
+            (
+                SnapFault::Tree(TreeFault::TooManyAttrs { node }),
+                " 4 Tree 6 TooManyAttrs node 7",
+            ),
+            (
+                SnapFault::Tree(TreeFault::TextTooLong { node }),
+                " 4 Tree 7 TextTooLong node 7",
+            ),
+            (
+                SnapFault::Tree(TreeFault::DoubleAttr { node }),
+                " 4 Tree 8 DoubleAttr node 7",
+            ),
+            (
+                SnapFault::Tree(TreeFault::TextHasKids { node }),
+                " 4 Tree 9 TextHasKids node 7",
+            ),
+            (
+                SnapFault::Tree(TreeFault::ReferenceWeight),
+                " 4 Tree 10 ReferenceWeight",
+            ),
+            (
+                SnapFault::Tree(TreeFault::RootNotElement { node }),
+                " 4 Tree 11 RootNotElement node 7",
+            ),
+            (
+                SnapFault::Tree(TreeFault::EmptyName { node }),
+                " 4 Tree 12 EmptyName node 7",
+            ),
+            (SnapFault::TooLong, " 5 TooLong"),
+        ];
+        for (fault, wanted) in rows {
+            let line = fault_line(rt.alloc(), fault)?;
+            let wanted = format!(in rt.alloc(); "snapshot fault{wanted}\n")?;
+            assert_eq!(rt; line.as_str(), wanted.as_str());
+        }
+        Ok(())
+    }
+}

@@ -1,0 +1,57 @@
+//! The accessibility audit desk, as a program: `act_desk STORE COMMAND ..`. The function `run` does what
+//! a command's words say, over any source, sinks and book of rules; its contract says what each status
+//! means. The adapters over standard input, output and error, and `main`, are the trusted edge.
+#![tactic(auto)]
+
+mod audit;
+mod audit_page;
+mod calls;
+mod early;
+mod failed;
+mod fault_line;
+mod found;
+mod mem_sink;
+mod mem_source;
+mod outcomes;
+mod read_all;
+mod run;
+mod sink;
+mod source;
+mod start;
+mod stream;
+mod tell;
+#[cfg(test)]
+mod tests;
+mod text_report;
+mod write_all;
+
+use crate::early::Early;
+use crate::run::run;
+use crate::start::command_words;
+use crate::stream::{Reader, Writer};
+use crate::write_all::write_all;
+use std::process::ExitCode;
+
+fn main(rt: HostRuntime) -> ExitCode {
+    let mut err = Writer::new(rt.stderr());
+    let words = match command_words(&rt) {
+        Ok(words) => words,
+        Err(refusal) => {
+            return match write_all(&mut err, refusal.line().as_bytes()) {
+                Ok(()) => ExitCode::from(refusal.status()),
+                Err(_) => ExitCode::from(4),
+            };
+        }
+    };
+    let mut input = Reader::new(rt.stdin());
+    let mut out = Writer::new(rt.stdout());
+    let mut book = Early::new();
+    ExitCode::from(run(
+        rt.alloc(),
+        &words,
+        &mut input,
+        &mut out,
+        &mut err,
+        &mut book,
+    ))
+}

@@ -1,0 +1,54 @@
+ghost use Rattle.std.specs.Prelude.{◌≡◌, IfOk, vec_len};
+ghost use Rattle.act_desk.specs.ReadAll.{ReadCounts};
+ghost use Rattle.act_desk.specs.Streams.{IsReadTo};
+ghost use Rattle.act_desk.specs.declared.read_all.ReadFault.TheVariants.{OutOfMemory as NoMemory};
+
+use crate::source::Source;
+use std::alloc::{AllocError, Global};
+
+// The most bytes that one read asks for.
+const PIECE: usize = 65_536;
+
+/// Why a source couldn't be read to its end.
+#[derive(Clone, Copy, Debug, PartialEq, Eq, Hash)]
+pub enum ReadFault {
+    Failed,
+    OutOfMemory,
+}
+
+impl From<AllocError> for ReadFault {
+    ghost from_gives = { λ _ e. e ≡ NoMemory };
+
+    fn from(_error: AllocError) -> Self {
+        ReadFault::OutOfMemory
+    }
+}
+
+/// All bytes that a source gives, but no more than the limit. `Failed` comes only where the source met
+/// a fault, and it isn't read again then.
+pub fn read_all<I: Source>(alloc: Global, input: &mut I, limit: usize) -> Result<Vec<u8>, ReadFault>
+    ensures bytes { IfOk result (λ v. IsReadTo limit (I.left input.old) (I.left input.new) v.items) }
+    ensures counts { ReadCounts (I.faults input.old) (I.faults input.new) result }
+{
+    let mut bytes = Vec::new(alloc);
+    let mut buf = zeros(alloc, PIECE)?;
+    while bytes.len() < limit {
+        buf.truncate(limit - bytes.len());
+        let Ok(n) = input.read(buf.as_mut_slice()) else {
+            return Err(ReadFault::Failed);
+        };
+        if n == 0 {
+            return Ok(bytes);
+        }
+        let (given, _) = buf.as_slice().split_at(n);
+        bytes.extend_from_slice(given)?;
+    }
+    Ok(bytes)
+}
+
+// A buffer of so many bytes.
+fn zeros(alloc: Global, size: usize) -> Result<Vec<u8>, AllocError>
+    ensures { IfOk result (λ v. vec_len v ≡ size) }
+{
+    vec![in alloc; 0u8; size]
+}

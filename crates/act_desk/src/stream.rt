@@ -1,0 +1,66 @@
+ghost use Rattle.std.specs.Prelude.{◌<◌, None, length};
+ghost use Rattle.act_desk.specs.Counts.{Counts};
+ghost use Rattle.act_desk.specs.Streams.{Reads, Writes};
+
+use crate::failed::Failed;
+use crate::sink::Sink;
+use crate::source::Source;
+use std::io::{Read, Write};
+
+/// A stream that is read, as standard input.
+#[derive(Drop)]
+pub struct Reader<R: Read + Drop> {
+    stream: R,
+    faults: u64,
+}
+
+impl<R: Read + Drop> Reader<R> {
+    pub fn new(stream: R) -> Self {
+        Reader { stream, faults: 0 }
+    }
+}
+
+impl<R: Read + Drop> Source for Reader<R> {
+    ghost faults = { λ s. s.faults };
+
+    ghost left = { λ _. None };
+
+    fn read(&mut self, buf: &mut [u8]) -> Result<usize, Failed> {
+        match self.stream.read(buf) {
+            Ok(n) => Ok(n),
+            Err(_) => {
+                self.faults = self.faults.saturating_add(1);
+                Err(Failed)
+            }
+        }
+    }
+}
+
+/// A stream that is written, as standard output. One that takes no byte has failed.
+#[derive(Drop)]
+pub struct Writer<W: Write + Drop> {
+    stream: W,
+    faults: u64,
+}
+
+impl<W: Write + Drop> Writer<W> {
+    pub fn new(stream: W) -> Self {
+        Writer { stream, faults: 0 }
+    }
+}
+
+impl<W: Write + Drop> Sink for Writer<W> {
+    ghost faults = { λ s. s.faults };
+
+    ghost held = { λ _. None };
+
+    fn write(&mut self, bytes: &[u8]) -> Result<usize, Failed> {
+        match self.stream.write(bytes) {
+            Ok(n) if n > 0 => Ok(n),
+            _ => {
+                self.faults = self.faults.saturating_add(1);
+                Err(Failed)
+            }
+        }
+    }
+}
