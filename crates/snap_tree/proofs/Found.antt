@@ -7,9 +7,9 @@ use Rattle.snap_tree.specs.declared.row.Body.TheVariants.{Element, Words}
 use Rattle.snap_tree.specs.declared.row.Space.TheVariants.{Html, Svg, Other}
 use Rattle.snap_tree.specs.declared.groups.Key.TheVariants.{Tag}
 use Rattle.snap_tree.specs.Words.{folded}
-use Rattle.snap_tree.specs.Rows.{is_html, is_html_body}
+use Rattle.snap_tree.specs.Rows.{is_html, is_html_body, is_key}
 use Rattle.snap_tree.specs.Places.{place_from}
-use Rattle.snap_tree.specs.Groups.{is_key, keyed, tag_in}
+use Rattle.snap_tree.specs.Groups.{keyed, tag_in}
 
 -- a place that was found is one of the rows, and the first of the number
 pub record StandsAt (from n place : ℕ) (rows : List Row) : Type 0 where

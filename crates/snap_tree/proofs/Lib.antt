@@ -6,5 +6,7 @@ pub mod Entering
 pub mod Sized
 pub mod Found
 pub mod Wellness
+pub mod Labelled
 pub mod Spotting
 pub mod Climbing
+pub mod Weights

@@ -203,11 +203,11 @@ place_from-append from n (x ∷ xs) ys = by_test (x.id.0 == n) refl (place_from-
     by_test false e h = rw e (h ∙ ap (λ k. option_or (place_from (from + 1) n xs) (place_from k n ys)) sums)
 
 -- there is a spot at each place
-record Somewhere (o : Option Spot) : Type 0 where
-  there : Spot
-  is : o ≡ Some there
+pub record Somewhere (o : Option Spot) : Type 0 where
+  pub there : Spot
+  pub is : o ≡ Some there
 
-spot_at_some : (i : ℕ) (above : List Row) (t : Trees) → i < count t → Somewhere (spot_at i above t)
+pub spot_at_some : (i : ℕ) (above : List Row) (t : Trees) → i < count t → Somewhere (spot_at i above t)
 spot_at_some zero above empty h = absurd (omega arith)
 spot_at_some (suc i) above empty h = absurd (omega arith)
 spot_at_some zero above (tree r kids after) h = record { there = record { row = r; below = kids; above = above }; is = refl }
@@ -308,21 +308,38 @@ runs_by t n place s h e =
       below = ap (option_map (λ s. s.below)) e ∙ ap Some (sym tree_is);
     }
 
-pub runs_at : (rows : List Row) (n : NodeId) (place : ℕ) → place_from 0 n.0 rows ≡ Some place → RunsAt (grown rows) n place rows (sizes_of (grown rows))
-runs_at rows n place e =
+-- the spot that a number has, by the number's place
+pub record Spotted (rows : List Row) (n : NodeId) (place : ℕ) : Type 0 where
+  pub there : Spot
+  pub is : spot (grown rows) n ≡ Some there
+  pub at : spot_at place [] (grown rows) ≡ Some there
+  pub stands : StandsIn place rows (sizes_of (grown rows)) there
+
+pub spotted : (rows : List Row) (n : NodeId) (place : ℕ) → place_from 0 n.0 rows ≡ Some place → Spotted rows n place
+spotted rows n place e =
     let t = grown rows in
     let rows_are : rows_of t ≡ rows = rows_of_grown rows in
     let at : IsPlaceOf 0 n [] t place = subst (Places 0 n [] t) (ap (place_from 0 n.0) rows_are ∙ e) (spot_place 0 n [] t) in
     let some = spot_at_some place [] t (omega (arith, at.ends)) in
     let zero_less : place - 0 ≡ place = omega arith in
-    let is : spot t n ≡ Some some.there = at.spot_is ∙ ap (λ k. spot_at k [] t) zero_less ∙ some.is in
-    subst (λ xs. RunsAt t n place xs (sizes_of t)) rows_are (runs_by t n place some.there (stands place [] t some.there (ap grown rows_are) some.is) is)
+    record {
+      there = some.there;
+      is = at.spot_is ∙ ap (λ k. spot_at k [] t) zero_less ∙ some.is;
+      at = some.is;
+      stands = subst (λ xs. StandsIn place xs (sizes_of t) some.there) rows_are (stands place [] t some.there (ap grown rows_are) some.is);
+    }
+
+pub stranger : (rows : List Row) (n : NodeId) → place_from 0 n.0 rows ≡ None → spot (grown rows) n ≡ None
+stranger rows n e = subst (Places 0 n [] (grown rows)) (ap (place_from 0 n.0) (rows_of_grown rows) ∙ e) (spot_place 0 n [] (grown rows))
+
+pub runs_at : (rows : List Row) (n : NodeId) (place : ℕ) → place_from 0 n.0 rows ≡ Some place → RunsAt (grown rows) n place rows (sizes_of (grown rows))
+runs_at rows n place e =
+    let s = spotted rows n place e in
+    let rows_are : rows_of (grown rows) ≡ rows = rows_of_grown rows in
+    subst (λ xs. RunsAt (grown rows) n place xs (sizes_of (grown rows))) rows_are (runs_by (grown rows) n place s.there (subst (λ xs. StandsIn place xs (sizes_of (grown rows)) s.there) (sym rows_are) s.stands) s.is)
 
 pub runs_none : (rows : List Row) (n : NodeId) → place_from 0 n.0 rows ≡ None → option_map (λ s. s.below) (spot (grown rows) n) ≡ None
-runs_none rows n e =
-    let t = grown rows in
-    let none : spot t n ≡ None = subst (Places 0 n [] t) (ap (place_from 0 n.0) (rows_of_grown rows) ∙ e) (spot_place 0 n [] t) in
-    ap (option_map (λ s. s.below)) none
+runs_none rows n e = ap (option_map (λ s. s.below)) (stranger rows n e)
 
 -- ---- a node's parent is the one that its row names
 

@@ -7,12 +7,13 @@ use Rattle.std.specs.List.{list_any, AllByRecursion}
 use Rattle.snap_tree.specs.declared.row.NodeId.{NodeId}
 use Rattle.snap_tree.specs.declared.row.Row.{Row}
 use Rattle.snap_tree.specs.declared.fault.TreeFault.{TreeFault}
-use Rattle.snap_tree.specs.declared.fault.TreeFault.TheVariants.{Empty, TooMany, DoubleNumber, ParentUnknownOrNotOpen, RootNotElement, TextHasKids, TooDeep}
-use Rattle.snap_tree.specs.Trees.{Trees, empty, tree, count, beside}
+use Rattle.snap_tree.specs.declared.fault.TreeFault.TheVariants.{Empty, TooMany, DoubleNumber, ParentUnknownOrNotOpen, RootNotElement, TextHasKids, TooDeep, ReferenceWeight}
+use Rattle.snap_tree.specs.Trees.{Trees, empty, tree, rows_of, count, beside}
 use Rattle.snap_tree.specs.Grown.{names, is_number, grown, under, planted}
 use Rattle.snap_tree.specs.Rows.{has_number, is_text, own_fault}
-use Rattle.snap_tree.specs.Faults.{most_nodes, most_depth, open_rows, from_parent, ancestors, is_first, is_misplaced, is_below_text, place_fault, row_fault, rows_fault, tree_fault}
+use Rattle.snap_tree.specs.Faults.{most_nodes, most_depth, open_rows, from_parent, ancestors, is_first, is_misplaced, is_below_text, place_fault, row_fault, rows_fault, shape_fault, weight_fault, tree_fault}
 use Rattle.snap_tree.specs.Well.{IsPlaced, EachPlaced, HasRoot, AreApart, IsWellRow, IsWell}
+use Rattle.snap_tree.specs.Weight.{reference_weight, most_weight}
 use Rattle.snap_tree.proofs.Growth.{rows_of_grown, grown_push}
 use Rattle.snap_tree.proofs.Cuts.{length-rows_of}
 use Rattle.snap_tree.proofs.Opening.{from_parent-found, from_parent-none, under_opens, Went}
@@ -214,11 +215,19 @@ root_of empty h p = absurd (omega arith)
 root_of (tree r kids empty) h p = h
 root_of (tree r kids (tree y below after)) h p = h
 
-well_by : (rows : List Row) (a b : Bool) → (length rows == 0) ≡ a → nat_lt most_nodes (length rows) ≡ b → tree_fault rows ≡ None → IsWell (grown rows)
-unfolding tree_fault
-well_by rows true b ea eb h = let no : Some Empty ≡ None = rw ea at h in cc
-well_by rows false true ea eb h = let no : Some TooMany ≡ None = rw (ea, eb) at h in cc
-well_by rows false false ea eb h =
+-- what holds of trees whose rows have a sound shape
+pub record IsShaped (t : Trees) : Type 0 where
+  pub rooted : HasRoot t
+  pub placed : EachPlaced [] t
+  pub few : count t ≤ most_nodes
+  pub apart : AreApart (rows_of t)
+  pub rows_well : AllByRecursion IsWellRow (rows_of t)
+
+shaped_by : (rows : List Row) (a b : Bool) → (length rows == 0) ≡ a → nat_lt most_nodes (length rows) ≡ b → shape_fault rows ≡ None → IsShaped (grown rows)
+unfolding shape_fault
+shaped_by rows true b ea eb h = let no : Some Empty ≡ None = rw ea at h in cc
+shaped_by rows false true ea eb h = let no : Some TooMany ≡ None = rw (ea, eb) at h in cc
+shaped_by rows false false ea eb h =
     let rest : rows_fault [] rows ≡ None = rw (ea, eb) at h in
     let nothing : Grows [] = record { rooted = tt; placed = tt; apart = tt; rows_well = tt } in
     let g = rows_grow [] rows nothing rest in
@@ -233,6 +242,41 @@ well_by rows false false ea eb h =
       rows_well = subst (AllByRecursion IsWellRow) (sym (rows_of_grown rows)) g.rows_well;
     }
 
+-- rows whose shape is sound make shaped trees
+pub shaped : (rows : List Row) → shape_fault rows ≡ None → IsShaped (grown rows)
+shaped rows h = shaped_by rows (length rows == 0) (nat_lt most_nodes (length rows)) refl refl h
+
+-- rows without a fault have a sound shape, and references that aren't too heavy
+pub sound_parts : (rows : List Row) → tree_fault rows ≡ None → (shape_fault rows ≡ None) × (weight_fault (grown rows) ≡ None)
+unfolding tree_fault
+sound_parts rows h = none_or (shape_fault rows) (weight_fault (grown rows)) h
+
+pub shape_of_sound : (rows : List Row) → tree_fault rows ≡ None → shape_fault rows ≡ None
+shape_of_sound rows h = (sound_parts rows h).0
+
+light_by : (t : Trees) (b : Bool) → nat_lt most_weight (reference_weight t) ≡ b → weight_fault t ≡ None → reference_weight t ≤ most_weight
+light_by t true e h = let no : Some ReferenceWeight ≡ None = rw e at h in cc
+light_by t false e h = grind (arith, nat_tests)
+
 -- rows without a fault make a well tree
 pub well_from_sound : (rows : List Row) → tree_fault rows ≡ None → IsWell (grown rows)
-well_from_sound rows h = well_by rows (length rows == 0) (nat_lt most_nodes (length rows)) refl refl h
+well_from_sound rows h =
+    let parts = sound_parts rows h in
+    let s = shaped rows parts.0 in
+    record {
+      rooted = s.rooted;
+      placed = s.placed;
+      few = s.few;
+      apart = s.apart;
+      rows_well = s.rows_well;
+      light = light_by (grown rows) (nat_lt most_weight (reference_weight (grown rows))) refl parts.1;
+    }
+
+-- ---- what a sound shape tells of the rows themselves
+
+pub few_rows : (rows : List Row) → shape_fault rows ≡ None → length rows ≤ most_nodes
+few_rows rows h =
+    omega (arith, (shaped rows h).few, length-rows_of (grown rows), ap length (rows_of_grown rows))
+
+pub well_rows : (rows : List Row) → shape_fault rows ≡ None → AllByRecursion IsWellRow rows
+well_rows rows h = subst (AllByRecursion IsWellRow) (rows_of_grown rows) (shaped rows h).rows_well

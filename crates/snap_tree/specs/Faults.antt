@@ -4,10 +4,11 @@ use Rattle.std.specs.Option.{option_or}
 use Rattle.std.specs.List.{list_any}
 use Rattle.snap_tree.specs.declared.row.Row.{Row}
 use Rattle.snap_tree.specs.declared.fault.TreeFault.{TreeFault}
-use Rattle.snap_tree.specs.declared.fault.TreeFault.TheVariants.{Empty, TooMany, DoubleNumber, ParentUnknownOrNotOpen, TooDeep, TextHasKids, RootNotElement}
+use Rattle.snap_tree.specs.declared.fault.TreeFault.TheVariants.{Empty, TooMany, DoubleNumber, ParentUnknownOrNotOpen, TooDeep, TextHasKids, RootNotElement, ReferenceWeight}
 use Rattle.snap_tree.specs.Trees.{Trees, empty, tree}
 use Rattle.snap_tree.specs.Grown.{names, grown}
 use Rattle.snap_tree.specs.Rows.{has_number, is_text, own_fault}
+use Rattle.snap_tree.specs.Weight.{reference_weight, most_weight}
 
 abbrev pub most_nodes : ℕ
 most_nodes = 10000
@@ -67,9 +68,17 @@ abbrev pub rows_fault : List Row → List Row → Option TreeFault
 rows_fault earlier [] = None
 rows_fault earlier (r ∷ rows) = option_or (row_fault earlier r) (rows_fault (earlier ++ r ∷ []) rows)
 
--- the first fault of a page's rows
-unfoldable pub tree_fault : List Row → Option TreeFault
-tree_fault rows =
+-- the first fault of a page's rows, before they are weighed
+unfoldable pub shape_fault : List Row → Option TreeFault
+shape_fault rows =
     if length rows == 0 then Some Empty
     else (if nat_lt most_nodes (length rows) then Some TooMany
     else rows_fault [] rows)
+
+-- what references find is too heavy
+abbrev pub weight_fault : Trees → Option TreeFault
+weight_fault t = if nat_lt most_weight (reference_weight t) then Some ReferenceWeight else None
+
+-- the first fault of a page's rows
+unfoldable pub tree_fault : List Row → Option TreeFault
+tree_fault rows = option_or (shape_fault rows) (weight_fault (grown rows))

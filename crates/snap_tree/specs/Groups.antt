@@ -1,5 +1,5 @@
 -- Rows grouped by a key.
-use Rattle.std.specs.Prelude.{◌≡◌, ℕ, List, [], ◌∷◌, ◌++◌, if◌then◌else◌, filter, map, Bool, false, Option, Some, None, String, Vec}
+use Rattle.std.specs.Prelude.{◌≡◌, ℕ, List, [], ◌∷◌, ◌++◌, if◌then◌else◌, filter, map, Option, Some, None, String, Vec}
 use Rattle.std.specs.Option.{option_map_or}
 use Rattle.std.specs.Str.{bytes_eq}
 use Rattle.std.specs.BTreeMap.{BTreeMap, get_by_text}
@@ -10,8 +10,10 @@ use Rattle.snap_tree.specs.declared.row.Body.{Body}
 use Rattle.snap_tree.specs.declared.row.Body.TheVariants.{Element, Words}
 use Rattle.snap_tree.specs.declared.row.Space.TheVariants.{Html, Svg, Other}
 use Rattle.snap_tree.specs.declared.groups.Key.{Key}
-use Rattle.snap_tree.specs.declared.groups.Key.TheVariants.{Tag}
+use Rattle.snap_tree.specs.declared.groups.Key.TheVariants.{Tag, Id, For}
 use Rattle.snap_tree.specs.Words.{folded}
+use Rattle.snap_tree.specs.Rows.{is_key}
+use Rattle.snap_tree.specs.Labels.{id_of, for_of}
 
 abbrev pub tag_in : Body → Option (List ℕ)
 tag_in (Element Html tag attrs) = Some (folded tag)
@@ -21,10 +23,8 @@ tag_in (Words text) = None
 
 abbrev pub key_of : Key → Row → Option (List ℕ)
 key_of Tag r = tag_in r.body
-
-abbrev pub is_key : List ℕ → Option (List ℕ) → Bool
-is_key text None = false
-is_key text (Some key) = bytes_eq text key
+key_of Id r = id_of r
+key_of For r = for_of r
 
 -- the numbers of the rows with this key, in order
 abbrev pub keyed : Key → List ℕ → List Row → List NodeId

@@ -3,6 +3,9 @@ pub mod Codes
 pub mod Grown
 pub mod Words
 pub mod Rows
+pub mod Labels
+pub mod Weight
+pub mod Labelling
 pub mod Faults
 pub mod FaultText
 pub mod Places
@@ -10,6 +13,7 @@ pub mod Opened
 pub mod Sizing
 pub mod Groups
 pub mod Indexed
+pub mod Weighing
 pub mod Lookups
 pub mod Well
 pub mod Spots

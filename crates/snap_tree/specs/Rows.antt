@@ -54,6 +54,11 @@ value_of name attrs = option_map (λ a. a.value) (find (λ a. same_folded a.name
 abbrev pub attribute : List ℕ → Row → Option (List ℕ)
 attribute name r = value_of name (attrs_of r)
 
+-- the value is there, and is this text
+abbrev pub is_key : List ℕ → Option (List ℕ) → Bool
+is_key text None = false
+is_key text (Some key) = bytes_eq text key
+
 -- ---- the limits of a row
 
 abbrev pub most_attrs : ℕ

@@ -1,5 +1,5 @@
 -- A node in its tree: its row, what is below it, and what is above it.
-use Rattle.std.specs.Prelude.{◌≡◌, List, [], ◌∷◌, map, if◌then◌else◌, false, Option, Some, None, option_and_then}
+use Rattle.std.specs.Prelude.{◌≡◌, List, [], ◌∷◌, ◌++◌, map, if◌then◌else◌, false, Option, Some, None, option_and_then}
 use Rattle.std.specs.Option.{option_or, option_map_or}
 use Rattle.snap_tree.specs.declared.row.NodeId.{NodeId}
 use Rattle.snap_tree.specs.declared.row.Row.{Row}
@@ -7,7 +7,11 @@ use Rattle.snap_tree.specs.Trees.{Trees, empty, tree}
 use Rattle.std.specs.List.{list_any}
 use Rattle.snap_tree.specs.Grown.{names}
 use Rattle.snap_tree.specs.Rows.{has_number}
-use Rattle.snap_tree.specs.Well.{number_of}
+
+-- the number of the first row
+abbrev pub number_of : List Row → Option NodeId
+number_of [] = None
+number_of (parent ∷ above) = Some parent.id
 
 -- a node's row, the trees below it, and its ancestors with the parent first
 pub record Spot : Type 0 where
@@ -25,6 +29,14 @@ spot_in n above (tree r kids after) =
 -- the spot of a number; none where no row has it
 abbrev pub spot : Trees → NodeId → Option Spot
 spot t n = spot_in n [] t
+
+-- the spots of all nodes in document order, where these ancestors are above the trees
+abbrev pub spots_in : List Row → Trees → List Spot
+spots_in above empty = []
+spots_in above (tree r kids after) = record { row = r; below = kids; above = above } ∷ spots_in (r ∷ above) kids ++ spots_in above after
+
+abbrev pub spots : Trees → List Spot
+spots t = spots_in [] t
 
 abbrev pub roots : Trees → List Row
 roots empty = []

@@ -1,15 +1,12 @@
 -- What holds of every tree that is built.
-use Rattle.std.specs.Prelude.{◌≡◌, ◌<◌, ◌≤◌, List, [], ◌∷◌, length, true, false, Option, Some, None}
+use Rattle.std.specs.Prelude.{◌≡◌, ◌<◌, ◌≤◌, List, [], ◌∷◌, length, true, false, None}
 use Rattle.std.specs.List.{list_any, AllByRecursion}
-use Rattle.snap_tree.specs.declared.row.NodeId.{NodeId}
 use Rattle.snap_tree.specs.declared.row.Row.{Row}
 use Rattle.snap_tree.specs.Trees.{Trees, empty, tree, rows_of, count}
 use Rattle.snap_tree.specs.Rows.{has_number, is_text, own_fault}
 use Rattle.snap_tree.specs.Faults.{most_nodes, most_depth}
-
-abbrev pub number_of : List Row → Option NodeId
-number_of [] = None
-number_of (parent ∷ above) = Some parent.id
+use Rattle.snap_tree.specs.Weight.{reference_weight, most_weight}
+pub use Rattle.snap_tree.specs.Spots.{number_of}
 
 -- a node in its place: it names the node above it, it isn't too deep, and a text has nothing below it
 pub record IsPlaced (above : List Row) (r : Row) (kids : Trees) : Type 0 where
@@ -43,3 +40,4 @@ pub record IsWell (t : Trees) : Type 0 where
   pub few : count t ≤ most_nodes
   pub apart : AreApart (rows_of t)
   pub rows_well : AllByRecursion IsWellRow (rows_of t)
+  pub light : reference_weight t ≤ most_weight

@@ -1,5 +1,5 @@
 ghost use Rattle.std.specs.Prelude.{◌≡◌, MatchOption};
-ghost use Rattle.snap_tree.specs.Trees.{empty, tree, sizes_of};
+ghost use Rattle.snap_tree.specs.Trees.{empty, tree, rows_of, sizes_of};
 ghost use Rattle.snap_tree.specs.Grown.{grown};
 
 use crate::row::Row;
@@ -51,6 +51,14 @@ impl<'a> Branches<'a> {
         ensures { result ≡ empty }
     {
         Branches::over(&[], &[])
+    }
+
+    /// The rows of the trees in document order.
+    #[tactic(auto, using(crate::proofs::Growth::rows_of_grown))]
+    pub fn rows(&self) -> &[Row]
+        ensures { result.now ≡ rows_of self.now }
+    {
+        self.rows
     }
 
     /// The first tree, or None where there is none.

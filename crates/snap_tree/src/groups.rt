@@ -1,11 +1,13 @@
 ghost use Rattle.std.specs.Prelude.{◌≡◌, [], IfOk, OnOk};
 ghost use Rattle.std.specs.String.{string_bytes};
-ghost use Rattle.std.specs.Option.{option_map};
+ghost use Rattle.std.specs.Option.{option_map, option_copied};
 ghost use Rattle.snap_tree.specs.Words.{folded};
 ghost use Rattle.snap_tree.specs.Groups.{key_of, AreGroups, HasPut, group_at};
 
+use crate::labels::{for_of, id_of};
 use crate::memory::OutOfMemory;
 use crate::row::{Body, NodeId, Row, Space};
+use crate::text::Text;
 use std::alloc::Global;
 use std::collections::BTreeMap;
 
@@ -14,6 +16,10 @@ use std::collections::BTreeMap;
 pub(crate) enum Key {
     /// The folded tag of an HTML element.
     Tag,
+    /// The id of an element.
+    Id,
+    /// The id that a label names.
+    For,
 }
 
 /// The numbers of the rows with each key, in document order.
@@ -40,6 +46,17 @@ fn key_of(alloc: Global, key: Key, row: &Row) -> Result<Option<String>, OutOfMem
             } => Ok(Some(folded(alloc, tag.as_str())?)),
             _ => Ok(None),
         },
+        Key::Id => string_of(alloc, id_of(row)),
+        Key::For => string_of(alloc, for_of(row)),
+    }
+}
+
+fn string_of(alloc: Global, text: Option<&Text>) -> Result<Option<String>, OutOfMemory>
+    ensures { IfOk result (λ string. option_map string_bytes string ≡ option_copied text.entry) }
+{
+    match text {
+        Some(text) => Ok(Some(String::from_str(alloc, text.as_str())?)),
+        None => Ok(None),
     }
 }
 

@@ -1,10 +1,13 @@
-ghost use Rattle.std.specs.Prelude.{◌≡◌, IfOk};
+ghost use Rattle.std.specs.Prelude.{◌≡◌, None, IfOk};
+ghost use Rattle.snap_tree.specs.Faults.{shape_fault};
 ghost use Rattle.snap_tree.specs.Places.{IsPlaces};
 ghost use Rattle.snap_tree.specs.Indexed.{IsIndex};
 
+use crate::branches::Branches;
 use crate::groups::{Groups, Key, groups_of};
+use crate::labels::labels_around;
 use crate::memory::OutOfMemory;
-use crate::row::Row;
+use crate::row::{NodeId, Row};
 use crate::sizes::sizes_of;
 use std::alloc::Global;
 use std::collections::BTreeMap;
@@ -21,20 +24,33 @@ pub(crate) struct Index {
     pub(crate) places: Places,
     /// The HTML elements of each folded tag.
     pub(crate) tags: Groups,
+    /// The elements of each id.
+    pub(crate) ids: Groups,
+    /// The labels that name each id.
+    pub(crate) fors: Groups,
+    /// For each node in document order the nearest label above it, where that counts for it.
+    pub(crate) outer: Vec<Option<NodeId>>,
 }
 
 impl Index {
     /// The index of rows whose places are known.
     pub(crate) fn of(alloc: Global, rows: &[Row], places: Places) -> Result<Self, OutOfMemory>
-        requires { IsPlaces places rows.now }
+        requires placed { IsPlaces places rows.now }
+        requires sound { shape_fault rows.now ≡ None }
         ensures { IfOk result (λ index. IsIndex rows.now index) }
     {
         let sizes = sizes_of(alloc, rows)?;
         let tags = groups_of(alloc, Key::Tag, rows)?;
+        let ids = groups_of(alloc, Key::Id, rows)?;
+        let fors = groups_of(alloc, Key::For, rows)?;
+        let outer = labels_around(alloc, Branches::over(rows, sizes.as_slice()))?;
         Ok(Index {
             sizes,
             places,
             tags,
+            ids,
+            fors,
+            outer,
         })
     }
 }

@@ -8,6 +8,7 @@ mod fault;
 mod groups;
 mod index;
 mod kids;
+mod labels;
 mod laws;
 mod limits;
 mod list;
@@ -16,6 +17,7 @@ mod row;
 mod sizes;
 mod text;
 mod tree;
+mod weight;
 mod words;
 
 pub use branches::{Branch, Branches};

@@ -2,12 +2,14 @@ ghost use Rattle.std.specs.Prelude.{◌≡◌, None, IfOk, IfErr, OnOk};
 ghost use Rattle.std.specs.Option.{option_copied, option_map};
 ghost use Rattle.snap_tree.specs.Trees.{rows_of};
 ghost use Rattle.snap_tree.specs.Grown.{grown};
-ghost use Rattle.snap_tree.specs.Faults.{tree_fault};
+ghost use Rattle.snap_tree.specs.Faults.{shape_fault, tree_fault};
 ghost use Rattle.snap_tree.specs.Well.{IsWell};
 ghost use Rattle.snap_tree.specs.Places.{IsPlaces, HasRun, run_below};
 ghost use Rattle.snap_tree.specs.Opened.{Breaks};
+ghost use Rattle.snap_tree.specs.Indexed.{IsIndex};
 ghost use Rattle.snap_tree.specs.Lookups.{node, tagged};
 ghost use Rattle.snap_tree.specs.Spots.{spot, parent, kids};
+ghost use Rattle.snap_tree.specs.Labels.{first_with_id, labels_for};
 
 use crate::branches::Branches;
 use crate::build::{MOST_NODES, places_of};
@@ -16,10 +18,12 @@ use crate::fault::{BuildFault, TreeFault};
 use crate::groups::{folded, group};
 use crate::index::{Index, Places};
 use crate::kids::Kids;
+use crate::labels::all_labels;
 use crate::list::List;
 use crate::memory::OutOfMemory;
 use crate::row::{NodeId, Raw, Row};
 use crate::text::Text;
+use crate::weight::{MOST_WEIGHT, reference_weight};
 use std::alloc::Global;
 use std::marker::Model;
 
@@ -47,12 +51,12 @@ impl Model for Tree {
     ghost invariant = { λ t. IsIndexed t.rows.items t.index };
 }
 
-// The place of each number of rows that make a tree, or their first fault.
-#[tactic(auto, unfolding(crate::specs::Faults::tree_fault))]
+// The place of each number of rows whose shape is sound, or their first fault.
+#[tactic(auto, unfolding(crate::specs::Faults::shape_fault))]
 fn sound_places(alloc: Global, rows: &[Row]) -> Result<Places, BuildFault>
     ensures places { IfOk result (λ places. IsPlaces places rows.now) }
-    ensures sound { OnOk result (tree_fault rows.now ≡ None) }
-    ensures fault { IfErr result (λ f. Breaks f (tree_fault rows.now)) }
+    ensures sound { OnOk result (shape_fault rows.now ≡ None) }
+    ensures fault { IfErr result (λ f. Breaks f (shape_fault rows.now)) }
 {
     if rows.is_empty() {
         return Err(BuildFault::Tree(TreeFault::Empty));
@@ -76,11 +80,27 @@ fn run_below<'a>(rows: &'a [Row], sizes: &'a [usize], place: usize) -> Branches<
     Branches::over(rows, sizes)
 }
 
+// The index of rows that make a tree, or their first fault.
+#[tactic(auto, using(crate::proofs::Weights::breaks_shape, crate::proofs::Weights::too_heavy, crate::proofs::Weights::light_enough))]
+fn sound_index(alloc: Global, rows: &[Row]) -> Result<Index, BuildFault>
+    ensures index { IfOk result (λ index. IsIndex rows.now index) }
+    ensures sound { OnOk result (tree_fault rows.now ≡ None) }
+    ensures fault { IfErr result (λ f. Breaks f (tree_fault rows.now)) }
+{
+    let places = sound_places(alloc, rows)?;
+    let index = Index::of(alloc, rows, places)?;
+    if reference_weight(alloc, rows, &index)? > MOST_WEIGHT {
+        return Err(BuildFault::Tree(TreeFault::ReferenceWeight));
+    }
+    Ok(index)
+}
+
 impl Tree {
     /// The tree whose rows in document order are the given ones.
     ///
     /// It is refused exactly where the rows have a fault, with the first one in the order of
-    /// `TreeFault`'s table: first of all the number of rows, then each row by itself in list order.
+    /// `TreeFault`'s table: first of all the number of rows, then each row by itself in list order, and
+    /// at last what references find.
     #[tactic(auto, using(crate::proofs::Wellness::well_from_sound))]
     pub fn build(alloc: Global, raw: Raw) -> Result<Self, BuildFault>
         ensures tree { IfOk result (λ t. t ≡ record { address = raw.address; trees = grown raw.rows }) }
@@ -90,8 +110,7 @@ impl Tree {
     {
         let Raw { address, rows } = raw;
         let rows = rows.into_vec();
-        let places = sound_places(alloc, rows.as_slice())?;
-        let index = Index::of(alloc, rows.as_slice(), places)?;
+        let index = sound_index(alloc, rows.as_slice())?;
         Ok(Tree {
             address,
             rows,
@@ -178,7 +197,32 @@ impl Tree {
         Ok(List::from_vec(Vec::from_slice(alloc, nodes)?))
     }
 
+    /// The first element in document order with this id, which compares exactly; None where no
+    /// element has it, and for the empty id.
+    pub fn first_with_id(&self, id: &Text) -> Option<NodeId>
+        ensures { result ≡ first_with_id self.now.trees id.now }
+    {
+        group(&self.index.ids, id.as_str()).first().copied()
+    }
+
+    /// The labels of a node: first, where it is the first element with its id, the HTML labels whose
+    /// `for` is that id, in document order; then the nearest label above it, where that has no `for`
+    /// and the node is the first labelable element below it. None for a node that isn't labelable, and
+    /// for a number that the tree doesn't hold.
+    pub fn labels_for(&self, alloc: Global, n: NodeId) -> Result<List<NodeId>, OutOfMemory>
+        ensures { IfOk result (λ labels. labels ≡ labels_for self.now.trees n) }
+    {
+        let Some(place) = self.index.places.get(&n.0) else {
+            return Ok(List::from_vec(Vec::new(alloc)));
+        };
+        let row = &self.rows[*place];
+        let outer = self.index.outer[*place];
+        let labels = all_labels(alloc, &self.index.ids, &self.index.fors, row, outer)?;
+        Ok(List::from_vec(labels))
+    }
+
     /// An equal tree.
+    #[tactic(auto, using(crate::proofs::Wellness::shape_of_sound))]
     pub fn copy(&self, alloc: Global) -> Result<Self, OutOfMemory>
         ensures { IfOk result (λ copy. copy ≡ self.now) }
     {
