@@ -7,7 +7,8 @@ use Rattle.snap_tree.specs.declared.row.Row.{Row}
 use Rattle.snap_tree.specs.Trees.{Document, rows_of}
 use Rattle.snap_tree.specs.Grown.{grown}
 use Rattle.snap_tree.specs.declared.fault.TreeFault.TheVariants.{Empty, TooMany}
-use Rattle.snap_tree.specs.Faults.{most_nodes, tree_fault, rows_fault}
+use Rattle.snap_tree.specs.Faults.{most_nodes, shape_fault, tree_fault, rows_fault}
+use Rattle.snap_tree.proofs.Wellness.{shape_of_sound}
 use Rattle.snap_json.specs.declared.limits.Limits.{Limits}
 use Rattle.snap_json.specs.Address.{web_text, address_of, IsWebAddress}
 use Rattle.snap_json.specs.Pages.{within, json_of, page_in, tree_in, sent, kept, sent_tree, kept_tree}
@@ -23,9 +24,9 @@ own_address text web = ap web_text web.parsed ∙ ap (λ b. cond b (Some (serial
 
 -- rows that make a tree have no fault
 rows_sound : (rows : List Row) → tree_fault rows ≡ None → rows_fault [] rows ≡ None
-unfolding tree_fault
+unfolding shape_fault
 rows_sound rows h =
-    chosen (nat_lt most_nodes (length rows)) TooMany (rows_fault [] rows) (chosen (length rows == 0) Empty (if nat_lt most_nodes (length rows) then Some TooMany else rows_fault [] rows) h)
+    chosen (nat_lt most_nodes (length rows)) TooMany (rows_fault [] rows) (chosen (length rows == 0) Empty (if nat_lt most_nodes (length rows) then Some TooMany else rows_fault [] rows) (shape_of_sound rows h))
 
 tree_back : (limits : Limits) (tree : Document) (bytes : List ℕ)
     → within limits.snapshot (length bytes) ≡ true → within limits.address (length tree.address) ≡ true
