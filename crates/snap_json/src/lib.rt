@@ -1,4 +1,18 @@
-//! Snapshots of pages as JSON: a flat list of rows in document order, beside the page's address.
+//! Snapshots of pages as JSON.
+//!
+//! A snapshot is an object with the page's address, `url`, and a flat list of rows in document order,
+//! `nodes`:
+//!
+//! ```json
+//! {"url":"https://example.org/","nodes":[
+//!  {"n":1,"p":null,"ns":"html","tag":"html","attrs":[["lang","en"]],"f":"rv"},
+//!  {"n":2,"p":1,"text":"Hello"}]}
+//! ```
+//!
+//! Start with [`read_snapshot`], which answers the tree that bytes are, or the first fault; which bytes
+//! are a snapshot is one definition, `sent_tree` of `specs/Pages.antt`, with the members of a row in
+//! `specs/Fields.antt`. [`write_snapshot`] writes a tree, and what it wrote is read back. The address is
+//! a URL of the scheme http or https by the URL Standard, and is kept as that standard writes it.
 #![tactic(auto)]
 
 mod address;
