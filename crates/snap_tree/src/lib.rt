@@ -25,11 +25,13 @@ pub use copies::Duplicate;
 pub use fault::{BuildFault, TreeFault};
 pub use kids::Kids;
 pub use laws::{laws_of_growth, laws_of_spots};
+pub use limits::own_fault;
 pub use list::List;
 pub use memory::OutOfMemory;
 pub use row::{Attr, Body, Facts, NodeId, Raw, Row, Space, same_folded};
+pub use sizes::sizes_of;
 pub use text::Text;
-pub use tree::Tree;
+pub use tree::{Tree, judge};
 pub use words::{blank, next_word, tidy};
 
 #[cfg(test)]

@@ -69,7 +69,7 @@ fn has_empty(body: &Body) -> bool
 
 /// The first fault of a row by itself, in the order of the table of faults; None where it has none.
 #[tactic(auto, unfolding(crate::specs::Rows::own_fault))]
-pub(crate) fn own_fault(row: &Row) -> Option<TreeFault>
+pub fn own_fault(row: &Row) -> Option<TreeFault>
     ensures { result ≡ own_fault row.now }
 {
     let node = row.id;

@@ -33,7 +33,7 @@ fn take_kids(waiting: &mut Vec<Waiting>, row: &Row, place: usize) -> usize
 }
 
 /// The size of each row's subtree, in document order, itself counted.
-pub(crate) fn sizes_of(alloc: Global, rows: &[Row]) -> Result<Vec<usize>, OutOfMemory>
+pub fn sizes_of(alloc: Global, rows: &[Row]) -> Result<Vec<usize>, OutOfMemory>
     ensures { IfOk result (λ sizes. sizes.items ≡ sizes_of (grown rows.now)) }
 {
     let mut sizes = Vec::with_capacity(alloc, rows.len())?;

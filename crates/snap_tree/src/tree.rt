@@ -95,6 +95,16 @@ fn sound_index(alloc: Global, rows: &[Row]) -> Result<Index, BuildFault>
     Ok(index)
 }
 
+/// Whether rows make a page: Ok, or their first fault in the order of `TreeFault`'s table. It is what
+/// `Tree::build` tries, without the tree.
+pub fn judge(alloc: Global, rows: &[Row]) -> Result<(), BuildFault>
+    ensures sound { OnOk result (tree_fault rows.now ≡ None) }
+    ensures fault { IfErr result (λ f. Breaks f (tree_fault rows.now)) }
+{
+    let _index = sound_index(alloc, rows)?;
+    Ok(())
+}
+
 impl Tree {
     /// The tree whose rows in document order are the given ones.
     ///
