@@ -13,7 +13,7 @@ use Rattle.snap_tree.proofs.Spotting.{spot_row}
 
 -- ---- numbers that are there, and that are not
 
-any_append : (n : NodeId) (xs ys : List Row) → list_any (has_number n) (xs ++ ys) ≡ (list_any (has_number n) xs || list_any (has_number n) ys)
+pub any_append : (n : NodeId) (xs ys : List Row) → list_any (has_number n) (xs ++ ys) ≡ (list_any (has_number n) xs || list_any (has_number n) ys)
 any_append n [] ys = refl
 any_append n (x ∷ xs) ys = by_number (has_number n x) refl (any_append n xs ys)
   where
@@ -21,18 +21,18 @@ any_append n (x ∷ xs) ys = by_number (has_number n x) refl (any_append n xs ys
     by_number true e h = rw e refl
     by_number false e h = rw e h
 
-or_false : (a b : Bool) → (a || b) ≡ false → (a ≡ false) × (b ≡ false)
+pub or_false : (a b : Bool) → (a || b) ≡ false → (a ≡ false) × (b ≡ false)
 or_false true b h = cc
 or_false false b h = (refl, h)
 
-apart_append : (xs ys : List Row) → AreApart (xs ++ ys) → AreApart xs × AreApart ys
+pub apart_append : (xs ys : List Row) → AreApart (xs ++ ys) → AreApart xs × AreApart ys
 apart_append [] ys h = (tt, h)
 apart_append (x ∷ xs) ys h =
     let rest = apart_append xs ys h.1 in
     let both = or_false _ _ (sym (any_append x.id xs ys) ∙ h.0) in
     ((both.0, rest.0), rest.1)
 
-found_any : (n : NodeId) (rows : List Row) (x : Row) → find (has_number n) rows ≡ Some x → list_any (has_number n) rows ≡ true
+pub found_any : (n : NodeId) (rows : List Row) (x : Row) → find (has_number n) rows ≡ Some x → list_any (has_number n) rows ≡ true
 found_any n [] x h = cc
 found_any n (r ∷ rows) x h = by_number (has_number n r) refl h (found_any n rows x)
   where
@@ -41,7 +41,7 @@ found_any n (r ∷ rows) x h = by_number (has_number n r) refl h (found_any n ro
     by_number false e h k = let h' : find (has_number n) rows ≡ Some x = rw e at h in rw e (k h')
 
 -- a number of the later rows isn't one of the earlier ones
-later_number : (n : NodeId) (xs ys : List Row) → AreApart (xs ++ ys) → list_any (has_number n) ys ≡ true → list_any (has_number n) xs ≡ false
+pub later_number : (n : NodeId) (xs ys : List Row) → AreApart (xs ++ ys) → list_any (has_number n) ys ≡ true → list_any (has_number n) xs ≡ false
 later_number n [] ys a h = refl
 later_number n (x ∷ xs) ys a h = by_number (has_number n x) refl (later_number n xs ys a.1 h)
   where
@@ -54,10 +54,10 @@ later_number n (x ∷ xs) ys a h = by_number (has_number n x) refl (later_number
         let clashes : true ≡ false = sym h ∙ sym (same_any ys e) ∙ clash in cc
     by_number false e k = rw e k
 
-spot_any : (n : NodeId) (above : List Row) (t : Trees) (s : Spot) → spot_in n above t ≡ Some s → list_any (has_number n) (rows_of t) ≡ true
+pub spot_any : (n : NodeId) (above : List Row) (t : Trees) (s : Spot) → spot_in n above t ≡ Some s → list_any (has_number n) (rows_of t) ≡ true
 spot_any n above t s e = found_any n (rows_of t) s.row (sym (spot_row n above t) ∙ ap (option_map (λ s. s.row)) e)
 
-none_any : (n : NodeId) (above : List Row) (t : Trees) → list_any (has_number n) (rows_of t) ≡ false → spot_in n above t ≡ None
+pub none_any : (n : NodeId) (above : List Row) (t : Trees) → list_any (has_number n) (rows_of t) ≡ false → spot_in n above t ≡ None
 none_any n above t h = by_spot (spot_in n above t) refl
   where
     by_spot : (o : Option Spot) → spot_in n above t ≡ o → spot_in n above t ≡ None
@@ -71,7 +71,7 @@ abbrev Climbs : List Row → Trees → List Row → Type 0
 Climbs above t [] = [] ≡ above
 Climbs above t (p ∷ rest) = ((p ∷ rest) ≡ above) ⊎ IsSpotOf p rest (spot_in p.id above t)
 
-same_id : (p : Row) → has_number p.id p ≡ true
+pub same_id : (p : Row) → has_number p.id p ≡ true
 same_id p = grind (arith, nat_tests)
 
 here : (p : Row) (kids after : Trees) (above : List Row) → IsSpotOf p above (spot_in p.id above (tree p kids after))
@@ -88,7 +88,7 @@ is_spot_any : (p : Row) (rest above : List Row) (t : Trees) (o : Option Spot) �
 is_spot_any p rest above t None e h = absurd h
 is_spot_any p rest above t (Some s) e h = spot_any p.id above t s e
 
-not_root : (n : NodeId) (r : Row) (rows : List Row) → list_any (has_number r.id) rows ≡ false → list_any (has_number n) rows ≡ true → has_number n r ≡ false
+pub not_root : (n : NodeId) (r : Row) (rows : List Row) → list_any (has_number r.id) rows ≡ false → list_any (has_number n) rows ≡ true → has_number n r ≡ false
 not_root n r rows a h = by_number (has_number n r) refl
   where
     by_number : (b : Bool) → has_number n r ≡ b → has_number n r ≡ false

@@ -76,7 +76,7 @@ takes_beside x (tree y k a) others h = by_name (names y x) refl (takes_beside x 
     by_name true e p = (rw e (ap (tree y k) p.0), rw e p.1)
     by_name false e p = (rw e refl, rw e refl)
 
-none_of : (x : Row) (rows : List Row) (others : Trees) → NamesNone others (x ∷ rows) → NamesNone others (x ∷ []) × NamesNone others rows
+pub none_of : (x : Row) (rows : List Row) (others : Trees) → NamesNone others (x ∷ rows) → NamesNone others (x ∷ []) × NamesNone others rows
 none_of x rows empty h = (tt, tt)
 none_of x rows (tree r kids after) h = by_name (names r x) refl h
   where
