@@ -10,6 +10,9 @@ pub length-rows_of : (t : Trees) → length (rows_of t) ≡ count t
 length-rows_of empty = refl
 length-rows_of (tree r kids after) = ap suc (length-append (rows_of kids) (rows_of after) ∙ omega (arith, length-rows_of kids, length-rows_of after))
 
+pub count_grown : (rows : List Row) → count (grown rows) ≡ length rows
+count_grown rows = sym (length-rows_of (grown rows)) ∙ ap length (rows_of_grown rows)
+
 pub length-sizes_of : (t : Trees) → length (sizes_of t) ≡ count t
 length-sizes_of empty = refl
 length-sizes_of (tree r kids after) = ap suc (length-append (sizes_of kids) (sizes_of after) ∙ omega (arith, length-sizes_of kids, length-sizes_of after))

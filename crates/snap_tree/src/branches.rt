@@ -1,5 +1,5 @@
-ghost use Rattle.std.specs.Prelude.{◌≡◌, MatchOption};
-ghost use Rattle.snap_tree.specs.Trees.{empty, tree, rows_of, sizes_of};
+ghost use Rattle.std.specs.Prelude.{◌≡◌, ◌==◌, MatchOption};
+ghost use Rattle.snap_tree.specs.Trees.{empty, tree, rows_of, count, sizes_of};
 ghost use Rattle.snap_tree.specs.Grown.{grown};
 
 use crate::row::Row;
@@ -59,6 +59,21 @@ impl<'a> Branches<'a> {
         ensures { result.now ≡ rows_of self.now }
     {
         self.rows
+    }
+
+    /// The number of nodes.
+    #[tactic(auto, using(crate::proofs::Cuts::count_grown))]
+    pub fn len(&self) -> usize
+        ensures { result ≡ count self.now }
+    {
+        self.rows.len()
+    }
+
+    /// Whether there is no tree.
+    pub fn is_empty(&self) -> bool
+        ensures { result ≡ (count self.now == 0) }
+    {
+        self.len() == 0
     }
 
     /// The first tree, or None where there is none.

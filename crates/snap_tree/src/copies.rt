@@ -14,7 +14,7 @@ pub trait Duplicate: Drop {
 }
 
 /// Copies of values, in their order.
-pub(crate) fn copies_of<T: Duplicate>(alloc: Global, items: &[T]) -> Result<Vec<T>, OutOfMemory>
+pub fn copies_of<T: Duplicate>(alloc: Global, items: &[T]) -> Result<Vec<T>, OutOfMemory>
     ensures { IfOk result (λ copies. copies.items ≡ items.now) }
 {
     let mut copies = Vec::with_capacity(alloc, items.len())?;

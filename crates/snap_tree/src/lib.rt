@@ -21,7 +21,7 @@ mod weight;
 mod words;
 
 pub use branches::{Branch, Branches};
-pub use copies::Duplicate;
+pub use copies::{Duplicate, copies_of};
 pub use fault::{BuildFault, TreeFault};
 pub use kids::Kids;
 pub use laws::{laws_of_growth, laws_of_spots};
@@ -31,7 +31,7 @@ pub use memory::OutOfMemory;
 pub use row::{Attr, Body, Facts, NodeId, Raw, Row, Space, same_folded};
 pub use sizes::sizes_of;
 pub use text::Text;
-pub use tree::{Tree, judge};
+pub use tree::{Tree, judge, run_below};
 pub use words::{blank, next_word, tidy};
 
 #[cfg(test)]

@@ -67,8 +67,9 @@ fn sound_places(alloc: Global, rows: &[Row]) -> Result<Places, BuildFault>
     places_of(alloc, rows)
 }
 
-// The trees below the node at a place: the run of rows behind it.
-fn run_below<'a>(rows: &'a [Row], sizes: &'a [usize], place: usize) -> Branches<'a>
+/// The trees below the node at a place, given the size of each subtree in document order: the run of
+/// rows behind it.
+pub fn run_below<'a>(rows: &'a [Row], sizes: &'a [usize], place: usize) -> Branches<'a>
     requires { HasRun place rows.now sizes.now }
     ensures { result ≡ grown (run_below place rows.now sizes.now) }
 {
