@@ -1,3 +1,8 @@
+mod copies;
+mod fault;
+mod labels;
+mod weight;
+
 use crate::fault::{BuildFault, TreeFault};
 use crate::list::List;
 use crate::memory::OutOfMemory;
