@@ -7,14 +7,14 @@ use Rattle.snap_tree.specs.declared.row.Row.{Row}
 use Rattle.snap_tree.specs.Trees.{Document, rows_of}
 use Rattle.snap_tree.specs.Grown.{grown}
 use Rattle.snap_tree.specs.declared.fault.TreeFault.TheVariants.{Empty, TooMany}
-use Rattle.snap_tree.specs.Faults.{most_nodes, tree_fault, rows_fault}
+use Rattle.snap_tree.specs.Faults.{most_nodes, rows_fault, shape_fault, weight_fault, tree_fault}
 use Rattle.snap_json.specs.declared.limits.Limits.{Limits}
 use Rattle.snap_json.specs.Address.{web_text, address_of, IsWebAddress}
 use Rattle.snap_json.specs.Pages.{within, json_of, page_in, tree_in, sent, kept, sent_tree, kept_tree}
 use Rattle.snap_json.specs.Small.{IsSmall}
 use Rattle.snap_json.specs.Written.{page_data}
 use Rattle.snap_json.proofs.ReadBack.{page_back}
-use Rattle.snap_json.proofs.Readable.{chosen, readable}
+use Rattle.snap_json.proofs.Readable.{chosen, both_none, readable}
 
 -- a web address stands for itself
 own_address : (text : List ℕ) → IsWebAddress text → address_of text ≡ Some text
@@ -22,10 +22,14 @@ unfolding address_of
 own_address text web = ap web_text web.parsed ∙ ap (λ b. cond b (Some (serialize web.url)) None) web.web ∙ ap Some (sym web.same)
 
 -- rows that make a tree have no fault
+shape_sound : (rows : List Row) → shape_fault rows ≡ None → rows_fault [] rows ≡ None
+unfolding shape_fault
+shape_sound rows h =
+    chosen (nat_lt most_nodes (length rows)) TooMany (rows_fault [] rows) (chosen (length rows == 0) Empty (if nat_lt most_nodes (length rows) then Some TooMany else rows_fault [] rows) h)
+
 rows_sound : (rows : List Row) → tree_fault rows ≡ None → rows_fault [] rows ≡ None
 unfolding tree_fault
-rows_sound rows h =
-    chosen (nat_lt most_nodes (length rows)) TooMany (rows_fault [] rows) (chosen (length rows == 0) Empty (if nat_lt most_nodes (length rows) then Some TooMany else rows_fault [] rows) h)
+rows_sound rows h = shape_sound rows (both_none (shape_fault rows) (weight_fault (grown rows)) h).0
 
 tree_back : (limits : Limits) (tree : Document) (bytes : List ℕ)
     → within limits.snapshot (length bytes) ≡ true → within limits.address (length tree.address) ≡ true
