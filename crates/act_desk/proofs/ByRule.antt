@@ -1,6 +1,6 @@
 -- The outcomes of a page stand by rule.
-use Rattle.std.proofs.Common.{◌≡◌, ℕ, Bool, true, false, cond, eqb, ltb, ◌&&◌, List, [], ◌∷◌, ◌++◌, filter, IsTrue, Option, Some, None, option_map, refl, sym, ap, ◌∙◌, append-nil, arith}
-use Rattle.std.specs.List.{flat_map, filter_map, list_all, cons_option}
+use Rattle.std.proofs.Common.{◌≡◌, ℕ, Bool, true, false, cond, eqb, ltb, ◌&&◌, List, [], ◌∷◌, ◌++◌, filter, IsTrue, Option, Some, None, option_map, refl, ap, ◌∙◌, append-nil, arith}
+use Rattle.std.specs.List.{filter_map, list_all, cons_option}
 use Rattle.std.proofs.lemmas.Bool.Decides.{nat_tests}
 use Rattle.snap_tree.specs.declared.row.NodeId.{NodeId}
 use Rattle.snap_tree.specs.declared.row.Row.{Row}

@@ -1,7 +1,7 @@
 -- Rows that stand by rule: a rule's rows are the leading ones of what is left.
 use Rattle.std.proofs.Common.{◌≡◌, ℕ, zero, suc, ◌+◌, ◌<◌, ◌≤◌, Bool, true, false, cond, eqb, ltb, ◌&&◌, List, [], ◌∷◌, ◌++◌, length, take, drop, get_or, refl, sym, ap, ◌∙◌, subst, arith, add-one, filter, ◌==◌}
 use Rattle.std.proofs.Math.Seq.{drop-append_seam, take-append_seam, drop-cons}
-use Rattle.std.specs.List.{prefix_len, flat_map, list_all}
+use Rattle.std.specs.List.{prefix_len, list_all}
 use Rattle.std.proofs.lemmas.List.Sums.{sum_by_more}
 use Rattle.act_desk.proofs.RowLists.{flat_map_more}
 use Rattle.std.proofs.lemmas.Bool.Decides.{nat_tests}

@@ -1,9 +1,8 @@
 -- What each status says, from what a run has found and what it has written of it.
-use Rattle.std.proofs.Common.{◌≡◌, ◌≢◌, ◌==◌, ℕ, zero, suc, ◌+◌, ◌-◌, ◌^◌, ◌<◌, ◌≤◌, ◌⊎◌, inl, inr, min, Bool, true, false, cond, List, [], ◌∷◌, ◌++◌, length, take, codes, Option, Some, None, IfSome, Result, Ok, Err, IsTrue, refl, sym, ap, ◌∙◌, subst, append-nil, length-append, arith}
+use Rattle.std.proofs.Common.{◌≡◌, ◌≢◌, ℕ, ◌<◌, ◌≤◌, ◌⊎◌, inl, inr, Bool, true, false, cond, List, [], ◌++◌, length, codes, Option, Some, None, IfSome, Ok, Err, refl, sym, ap, ◌∙◌, subst, append-nil, length-append, arith}
 use Rattle.std.proofs.Math.Seq.{take-length}
 use Rattle.std.proofs.lemmas.List.{take_all}
 use Rattle.std.proofs.lemmas.Bool.{cases_lt, lt-leb}
-use Rattle.std.specs.List.{list_any}
 use Rattle.std.specs.Io.KnownBytes.{Appends, Consumes, Keeps, IsAtEnd}
 use Rattle.snap_tree.specs.Trees.{Document}
 use Rattle.snap_json.specs.declared.fault.SnapFault.{SnapFault}
@@ -12,9 +11,9 @@ use Rattle.snap_json.specs.Pages.{sent_tree, tree_in, page_in}
 use Rattle.act_desk.specs.declared.found.Found.{Found}
 use Rattle.act_desk.specs.declared.found.Found.TheVariants.{Audited, Usage, ReadFault, NotSnapshot, NoMemory}
 use Rattle.act_desk.specs.Counts.{greatest, next, Rose, StoodStill}
-use Rattle.act_desk.specs.Streams.{AppendsFront, IsReadTo}
-use Rattle.act_desk.specs.Audit.{Book, report_of, fails, limit, Input, Gave, ReportsOn, Refuses, IsFound}
-use Rattle.act_desk.specs.Telling.{Output, Took, BrokeOff, command, Finds, report_in, line_on, write_fault, status_of, IsWritten, IsReportCut, IsLineCut, Tells}
+use Rattle.act_desk.specs.Streams.{AppendsFront}
+use Rattle.act_desk.specs.Audit.{Book, report_of, fails, limit, Input, Gave, ReportsOn}
+use Rattle.act_desk.specs.Telling.{Output, Took, BrokeOff, command, Finds, report_in, line_on, write_fault, status_of, IsReportCut, IsLineCut, Tells}
 use Rattle.act_desk.specs.Run.{Outside, Stays, IsStatus, GaveAll, Audits, RefusesWords, MetReadFault, HasFront, IsLine, HasLineFront, FailedOnce, MetWriteFault, RefusesInput, WantsMemory, NoFaults, IsComplete, Runs}
 
 -- ---- sinks

@@ -1,5 +1,5 @@
 -- The line that names what is wrong with a snapshot.
-use Rattle.std.specs.Prelude.{ℕ, List, [], ◌++◌, codes, decimal, Option, Some, None, unwrap_or}
+use Rattle.std.specs.Prelude.{ℕ, List, [], ◌++◌, codes, decimal}
 use Rattle.snap_tree.specs.declared.row.NodeId.{NodeId}
 use Rattle.snap_tree.specs.declared.fault.TreeFault.{TreeFault}
 use Rattle.snap_tree.specs.declared.fault.TreeFault.TheVariants.{Empty, TooMany, DoubleNumber, ParentUnknownOrNotOpen, TooDeep, TooManyAttrs, TextTooLong, DoubleAttr, TextHasKids, ReferenceWeight, RootNotElement, EmptyName}

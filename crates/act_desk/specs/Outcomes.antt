@@ -1,5 +1,5 @@
 -- The outcomes of a page: what each rule of a book says of each node.
-use Rattle.std.specs.Prelude.{ℕ, ◌*◌, List, [], map, if◌then◌else◌, Option, option_map, count_by, length}
+use Rattle.std.specs.Prelude.{ℕ, ◌*◌, List, [], if◌then◌else◌, Option, option_map, count_by, length}
 use Rattle.std.specs.List.{flat_map, filter_map}
 use Rattle.snap_tree.specs.declared.row.NodeId.{NodeId}
 use Rattle.snap_tree.specs.Trees.{Document, rows_of}

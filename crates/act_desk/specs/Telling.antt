@@ -1,5 +1,5 @@
 -- What a run writes of what it has found, and what the sinks hold then.
-use Rattle.std.specs.Prelude.{◌≡◌, ◌≢◌, ℕ, List, [], ◌∷◌, codes, ◌⊎◌, Bool, true, false, if◌then◌else◌, Option}
+use Rattle.std.specs.Prelude.{◌≡◌, ◌≢◌, ℕ, List, [], ◌∷◌, codes, ◌⊎◌, if◌then◌else◌, Option}
 use Rattle.std.specs.Io.KnownBytes.{Appends}
 use Rattle.act_desk.specs.declared.found.Found.{Found}
 use Rattle.act_desk.specs.declared.found.Found.TheVariants.{Audited, Usage, ReadFault, NotSnapshot, NoMemory}

@@ -1,7 +1,6 @@
 -- The text report of a page.
 use Rattle.std.specs.Prelude.{◌≡◌, IsTrue, ℕ, List, [], ◌∷◌, ◌++◌, ◌==◌, length, codes, decimal, filter, count_by, Bool, true, false, if◌then◌else◌}
 use Rattle.std.specs.List.{flat_map}
-use Rattle.rule_core.specs.declared.info.RuleNo.{RuleNo}
 use Rattle.rule_core.specs.declared.info.RuleInfo.{RuleInfo}
 use Rattle.rule_core.specs.declared.verdict.Auto.{Auto}
 use Rattle.rule_core.specs.declared.verdict.Auto.TheVariants.{Passed, Failed, CantTell}

@@ -1,4 +1,3 @@
-use Rattle.std.proofs.Common.{sym}
 use Rattle.act_desk.proofs.RowLists.{take_more_some}
 use Rattle.act_desk.proofs.audit.infos_of.Goals as goal
 

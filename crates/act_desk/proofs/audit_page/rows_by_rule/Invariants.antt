@@ -1,7 +1,4 @@
-use Rattle.std.proofs.Common.{◌≡◌, ◌+◌, ◌*◌, ◌≤◌, count_by, take, length}
-use Rattle.std.specs.List.{flat_map}
-use Rattle.snap_tree.specs.Trees.{rows_of}
-use Rattle.rule_core.specs.Infos.{is_atomic}
+use Rattle.std.proofs.Common.{◌≡◌, ◌+◌, ◌≤◌, take}
 use Rattle.act_desk.specs.Outcomes.{outcomes, judgings}
 use Rattle.act_desk.proofs.audit_page.rows_by_rule.Given as goal
 

@@ -1,4 +1,4 @@
-use Rattle.std.proofs.Common.{◌∙◌, ap, sym, List, [], ◌∷◌, get_or, ℕ, arith}
+use Rattle.std.proofs.Common.{◌∙◌, ap, List, [], ◌∷◌, get_or, ℕ, arith}
 use Rattle.act_desk.proofs.RowLists.{only_one}
 use Rattle.act_desk.proofs.run.is_audit.Goals as goal
 
