@@ -1,4 +1,5 @@
-ghost use Rattle.std.specs.Prelude.{◌≡◌};
+ghost use Rattle.std.specs.Prelude.{◌≡◌, ◌<◌, length, IfOk};
+ghost use Rattle.act_desk.specs.declared.start.Refusal.TheVariants.{NoMemory as Full};
 ghost use Rattle.act_desk.specs.Start.{refusal_line, refusal_status};
 
 use snap_tree::{List, Text};
@@ -42,6 +43,8 @@ impl Refusal {
 }
 
 impl<T: Drop> From<AllocFailed<T>> for Refusal {
+    ghost from_gives = { λ _ refusal. refusal ≡ Full };
+
     fn from(_error: AllocFailed<T>) -> Self {
         Refusal::NoMemory
     }
@@ -58,7 +61,9 @@ impl From<io::Error> for Refusal {
 
 /// The words of a command, which stand after the program's name and the store's: `-` is the store in
 /// memory, and no other opens yet.
-pub fn command_words<R: Env + AllocGlobal>(rt: &R) -> Result<List<Text>, Refusal> {
+pub fn command_words<R: Env + AllocGlobal>(rt: &R) -> Result<List<Text>, Refusal>
+    ensures { IfOk result (λ words. 0 < length words) }
+{
     let mut args = env::args(rt)?;
     let _program = args.next();
     match args.next() {

@@ -1,4 +1,4 @@
-ghost use Rattle.std.specs.Prelude.{◌<◌, None, length};
+ghost use Rattle.std.specs.Prelude.{◌≡◌, ◌<◌, None, length};
 ghost use Rattle.act_desk.specs.Counts.{Counts};
 ghost use Rattle.act_desk.specs.Streams.{Reads, Writes};
 
@@ -15,7 +15,10 @@ pub struct Reader<R: Read + Drop> {
 }
 
 impl<R: Read + Drop> Reader<R> {
-    pub fn new(stream: R) -> Self {
+    /// A source that has met no fault.
+    pub fn new(stream: R) -> Self
+        ensures { result ≡ record { stream = stream; faults = 0 } }
+    {
         Reader { stream, faults: 0 }
     }
 }
@@ -44,7 +47,10 @@ pub struct Writer<W: Write + Drop> {
 }
 
 impl<W: Write + Drop> Writer<W> {
-    pub fn new(stream: W) -> Self {
+    /// A sink that has met no fault.
+    pub fn new(stream: W) -> Self
+        ensures { result ≡ record { stream = stream; faults = 0 } }
+    {
         Writer { stream, faults: 0 }
     }
 }
