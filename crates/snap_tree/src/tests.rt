@@ -1,6 +1,7 @@
 mod copies;
 mod fault;
 mod labels;
+mod sketch;
 mod weight;
 
 use crate::fault::{BuildFault, TreeFault};

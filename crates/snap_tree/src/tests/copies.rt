@@ -1,4 +1,4 @@
-use super::labels::built;
+use super::sketch::built;
 use super::words;
 use crate::row::{Body, Facts, NodeId};
 use crate::text::Text;
@@ -7,14 +7,7 @@ use std::test::Fail;
 #[test]
 fn copies_are_equal(rt: HostRuntime) -> Result<(), Fail> {
     let alloc = rt.alloc();
-    let tree = built(
-        alloc,
-        &[
-            (1, 0, "form", &[]),
-            (2, 1, "label", &[("for", "q"), ("class", "c")]),
-            (3, 1, "input", &[("id", "q")]),
-        ],
-    )?;
+    let tree = built(alloc, "1 0 form;2 1 label for=q class=c;3 1 input id=q")?;
     let copy = tree.copy(alloc)?;
     assert_eq!(rt; copy.address().as_str(), tree.address().as_str());
     assert_eq!(rt; copy.rows().len(), 3);

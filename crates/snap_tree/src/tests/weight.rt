@@ -1,54 +1,38 @@
-use super::{attr, element, fault_of, long, raw, words};
+use super::sketch::sketched;
+use super::{fault_of, long};
 use crate::fault::TreeFault;
 use crate::memory::OutOfMemory;
-use crate::row::{NodeId, Raw, Row, Space};
+use crate::row::{NodeId, Raw};
 use crate::tree::Tree;
 use std::alloc::Global;
 use std::test::Fail;
 
-// The word, this many times, with spaces between.
-fn listed(alloc: Global, word: &str, count: usize) -> Result<String, OutOfMemory> {
+// The id `t`, so often.
+fn listed(alloc: Global, count: usize) -> Result<String, OutOfMemory> {
     let mut text = String::new(alloc);
     for _ in 0..count {
-        text.push_str(word)?;
-        text.push(' ')?;
+        text.push_str("t~")?;
     }
     Ok(text)
 }
 
-fn html(
-    alloc: Global,
-    number: u32,
-    parent: u32,
-    tag: &str,
-    pairs: &[(&str, &str)],
-) -> Result<Row, OutOfMemory> {
-    let mut attrs = Vec::new(alloc);
-    for (name, value) in pairs {
-        attrs.push(attr(alloc, name, value)?)?;
-    }
-    element(alloc, number, parent, Space::Html, tag, attrs)
-}
-
-// A link that refers to `t` so often, and a p with that id which holds a text of so many bytes; where
-// `before` is, a span with that id stands before the p.
+// A link whose attribute names `t` so often, these rows, and a p with that id which holds a text of so
+// many bytes.
 fn referring(
     alloc: Global,
     name: &str,
     count: usize,
+    rows: &str,
     bytes: usize,
-    before: bool,
-) -> Result<Raw, OutOfMemory> {
-    let list = listed(alloc, "t", count)?;
-    let mut rows = Vec::new(alloc);
-    rows.push(html(alloc, 1, 0, "html", &[])?)?;
-    rows.push(html(alloc, 2, 1, "a", &[(name, list.as_str())])?)?;
-    if before {
-        rows.push(html(alloc, 5, 1, "span", &[("id", "t")])?)?;
-    }
-    rows.push(html(alloc, 3, 1, "p", &[("id", "t")])?)?;
-    rows.push(words(alloc, 4, 3, long(alloc, bytes)?.as_str())?)?;
-    raw(alloc, rows)
+) -> Result<Raw, Fail> {
+    let list = listed(alloc, count)?;
+    let text = long(alloc, bytes)?;
+    let mut page = format!(in alloc; "1 0 html;2 1 a {name}=")?;
+    page.push_str(list.as_str())?;
+    page.push_str(rows)?;
+    page.push_str(";3 1 p id=t;4 3 #")?;
+    page.push_str(text.as_str())?;
+    sketched(alloc, page.as_str())
 }
 
 const HEAVY: Option<TreeFault> = Some(TreeFault::ReferenceWeight);
@@ -56,76 +40,58 @@ const HEAVY: Option<TreeFault> = Some(TreeFault::ReferenceWeight);
 #[test]
 fn weighs_what_ids_find(rt: HostRuntime) -> Result<(), Fail> {
     let alloc = rt.alloc();
-    // the p and its text weigh 1 + 1 + 1,024, and 1 + 1 + 998 with 63,872 bytes
+    let span = ";5 1 span id=t";
+    let empty = Some(TreeFault::EmptyName { node: NodeId(0) });
+    // the p and its text weigh 1 + 1 + 1,024, and 1 + 1 + 998 where the text has 63,872 bytes
     let cases = [
-        ("aria-labelledby", 97, 65_536, false, None),
-        ("aria-labelledby", 98, 65_536, false, HEAVY),
-        ("aria-owns", 97, 65_536, false, None),
-        ("ARIA-OWNS", 98, 65_536, false, HEAVY),
-        ("aria-describedby", 98, 65_536, false, None),
-        ("aria-labelledby", 98, 65_536, true, None),
-        ("aria-labelledby", 100, 63_872, false, None),
-        ("aria-labelledby", 100, 63_935, false, None),
-        ("aria-labelledby", 100, 63_936, false, HEAVY),
-        ("aria-labelledby", 101, 63_872, false, HEAVY),
+        ("aria-labelledby", 97, "", 65_536, None),
+        ("aria-labelledby", 98, "", 65_536, HEAVY),
+        ("aria-owns", 97, "", 65_536, None),
+        ("ARIA-OWNS", 98, "", 65_536, HEAVY),
+        ("aria-describedby", 98, "", 65_536, None),
+        ("aria-labelledby", 98, span, 65_536, None),
+        ("aria-labelledby", 98, ";0 1 p", 65_536, empty),
+        ("aria-labelledby", 100, "", 63_872, None),
+        ("aria-labelledby", 100, "", 63_935, None),
+        ("aria-labelledby", 100, "", 63_936, HEAVY),
+        ("aria-labelledby", 101, "", 63_872, HEAVY),
     ];
-    for (name, count, bytes, before, fault) in cases {
-        let built = Tree::build(alloc, referring(alloc, name, count, bytes, before)?);
-        assert_eq!(rt; fault_of(built)?, fault, "{name} {count} {bytes} {before}");
+    for (name, count, rows, bytes, fault) in cases {
+        let built = Tree::build(alloc, referring(alloc, name, count, rows, bytes)?);
+        assert_eq!(rt; fault_of(built)?, fault, "{name} {count} {rows} {bytes}");
     }
     Ok(())
 }
 
-// A label with the id `t` and this attribute, which holds a text of 65,536 bytes and an input that
-// refers to `t` so often.
-fn labelled(
-    alloc: Global,
-    pair: (&str, &str),
-    kind: &str,
-    count: usize,
-) -> Result<Raw, OutOfMemory> {
-    let list = listed(alloc, "t", count)?;
-    let input = [
-        ("id", "q"),
-        ("type", kind),
-        ("aria-labelledby", list.as_str()),
-    ];
-    let mut rows = Vec::new(alloc);
-    rows.push(html(alloc, 1, 0, "html", &[])?)?;
-    rows.push(html(alloc, 2, 1, "label", &[("id", "t"), pair])?)?;
-    rows.push(words(alloc, 3, 2, long(alloc, 65_536)?.as_str())?)?;
-    rows.push(html(alloc, 4, 2, "input", &input)?)?;
-    raw(alloc, rows)
+// A label with the id `t` and this attribute, which holds a text of 65,536 bytes and an input that names
+// `t` so often.
+fn labelled(alloc: Global, attr: &str, kind: &str, count: usize) -> Result<Raw, Fail> {
+    let list = listed(alloc, count)?;
+    let text = long(alloc, 65_536)?;
+    let mut page = format!(in alloc; "1 0 html;2 1 label id=t {attr};3 2 #")?;
+    page.push_str(text.as_str())?;
+    let input = format!(in alloc; ";4 2 input id=q type={kind} aria-labelledby=")?;
+    page.push_str(input.as_str())?;
+    page.push_str(list.as_str())?;
+    sketched(alloc, page.as_str())
 }
 
 #[test]
 fn weighs_what_labels_find(rt: HostRuntime) -> Result<(), Fail> {
     let alloc = rt.alloc();
-    // the label weighs 1 + 1,025 + 4: the input has 1 + 6 + 194 or 1 + 4 + 192 bytes
+    // the label weighs 1 + 1,025 + 4, since the input's values have from 197 to 201 bytes
     let cases = [
-        (("for", "q"), "hidden", 97, None),
-        (("for", "q"), "text", 97, HEAVY),
-        (("for", "q"), "text", 96, None),
-        (("class", "q"), "text", 97, HEAVY),
-        (("class", "q"), "text", 96, None),
-        (("for", ""), "text", 97, None),
-        (("for", "x"), "text", 97, None),
+        ("for=q", "hidden", 97, None),
+        ("for=q", "text", 97, HEAVY),
+        ("for=q", "text", 96, None),
+        ("class=q", "text", 97, HEAVY),
+        ("class=q", "text", 96, None),
+        ("for=", "text", 97, None),
+        ("for=x", "text", 97, None),
     ];
-    for (pair, kind, count, fault) in cases {
-        let built = Tree::build(alloc, labelled(alloc, pair, kind, count)?);
-        assert_eq!(rt; fault_of(built)?, fault, "{pair:?} {kind} {count}");
+    for (attr, kind, count, fault) in cases {
+        let built = Tree::build(alloc, labelled(alloc, attr, kind, count)?);
+        assert_eq!(rt; fault_of(built)?, fault, "{attr} {kind} {count}");
     }
-    Ok(())
-}
-
-#[test]
-fn weighs_last(rt: HostRuntime) -> Result<(), Fail> {
-    let alloc = rt.alloc();
-    let mut page = referring(alloc, "aria-owns", 98, 65_536, false)?;
-    let mut rows = page.rows.into_vec();
-    rows.push(html(alloc, 0, 1, "p", &[])?)?;
-    page = raw(alloc, rows)?;
-    let empty = Some(TreeFault::EmptyName { node: NodeId(0) });
-    assert_eq!(rt; fault_of(Tree::build(alloc, page))?, empty);
     Ok(())
 }

@@ -1,0 +1,67 @@
+use super::{attr, element, raw, words};
+use crate::memory::OutOfMemory;
+use crate::row::{Raw, Row, Space};
+use crate::tree::Tree;
+use std::alloc::Global;
+use std::test::Fail;
+
+// A page in a table of tests is rows with `;` between. A row has a number, its parent's (0 for none), a
+// tag and attributes, or `#` with a text, as in `3 1 input id=q type=~hidden`. A tag after `svg:` is one
+// of that space, and a `~` in a value is a space.
+pub(super) fn sketched(alloc: Global, page: &str) -> Result<Raw, Fail> {
+    let mut rows = Vec::new(alloc);
+    for row in page.split(';') {
+        rows.push(row_of(alloc, row)?)?;
+    }
+    Ok(raw(alloc, rows)?)
+}
+
+pub(super) fn built(alloc: Global, page: &str) -> Result<Tree, Fail> {
+    match Tree::build(alloc, sketched(alloc, page)?) {
+        Ok(tree) => Ok(tree),
+        Err(_) => Err(Fail::from("the page is well")),
+    }
+}
+
+fn row_of(alloc: Global, row: &str) -> Result<Row, Fail> {
+    let mut number = 0;
+    let mut parent = 0;
+    let mut tag = "";
+    let mut attrs = Vec::new(alloc);
+    for (place, part) in row.split(' ').enumerate() {
+        match place {
+            0 => number = number_of(part)?,
+            1 => parent = number_of(part)?,
+            2 => tag = part,
+            _ => {
+                if let Some((name, value)) = part.split_once('=') {
+                    let value = spaced(alloc, value)?;
+                    attrs.push(attr(alloc, name, value.as_str())?)?;
+                }
+            }
+        }
+    }
+    if let Some(text) = tag.strip_prefix('#') {
+        return Ok(words(alloc, number, parent, text)?);
+    }
+    let (space, tag) = match tag.strip_prefix("svg:") {
+        Some(tag) => (Space::Svg, tag),
+        None => (Space::Html, tag),
+    };
+    Ok(element(alloc, number, parent, space, tag, attrs)?)
+}
+
+pub(super) fn number_of(text: &str) -> Result<u32, Fail> {
+    match text.parse::<u32>() {
+        Ok(number) => Ok(number),
+        Err(_) => Err(Fail::from("a number")),
+    }
+}
+
+fn spaced(alloc: Global, value: &str) -> Result<String, OutOfMemory> {
+    let mut text = String::new(alloc);
+    for c in value.chars() {
+        text.push(if c == '~' { ' ' } else { c })?;
+    }
+    Ok(text)
+}
