@@ -1,4 +1,10 @@
-//! Page snapshots as trees.
+//! Pages as trees: an address, and the tree of a document's nodes in document order (DOM Standard,
+//! "tree order"), with the look-ups that audits need.
+//!
+//! Start with [`Tree::build`], which takes the rows of a page and accepts exactly those without a fault;
+//! contracts see a [`Tree`] as an address and nested trees. Go over it by [`Tree::branches`], and look
+//! nodes up by number, tag, id and label. [`blank`], [`tidy`] and [`next_word`] cut texts at Unicode's
+//! White_Space.
 #![tactic(auto)]
 
 mod branches;
