@@ -1,6 +1,6 @@
+use super::has_kids;
 use super::sketch::built;
-use super::words;
-use crate::row::{Body, Facts, NodeId};
+use crate::row::NodeId;
 use crate::text::Text;
 use std::test::Fail;
 
@@ -11,7 +11,7 @@ fn copies_are_equal(rt: HostRuntime) -> Result<(), Fail> {
     let copy = tree.copy(alloc)?;
     assert_eq!(rt; copy.address().as_str(), tree.address().as_str());
     assert_eq!(rt; copy.rows().len(), 3);
-    assert_eq!(rt; copy.kids(NodeId(1)).count(), 2);
+    assert!(rt; has_kids(&copy, 1, [2, 3].as_slice()));
     let id = Text::from_str(alloc, "q")?;
     assert_eq!(rt; copy.first_with_id(&id), Some(NodeId(3)));
     let labels = copy.labels_for(alloc, NodeId(3))?;
@@ -23,27 +23,5 @@ fn copies_are_equal(rt: HostRuntime) -> Result<(), Fail> {
     };
     let class = label.attribute("class").map(|value| value.as_str());
     assert_eq!(rt; class, Some("c"));
-    Ok(())
-}
-
-#[test]
-fn a_copied_row_keeps_its_facts(rt: HostRuntime) -> Result<(), Fail> {
-    let alloc = rt.alloc();
-    let facts = Facts {
-        rendered: false,
-        visible: true,
-        focusable: true,
-        tabbable: false,
-    };
-    let mut row = words(alloc, 7, 3, "Agree")?;
-    row.facts = facts;
-    let copy = row.copy(alloc)?;
-    assert_eq!(rt; copy.id, NodeId(7));
-    assert_eq!(rt; copy.parent, Some(NodeId(3)));
-    assert_eq!(rt; copy.facts, facts);
-    let Body::Words { text } = &copy.body else {
-        return Err(Fail::from("the copy is a text"));
-    };
-    assert_eq!(rt; text.as_str(), "Agree");
     Ok(())
 }

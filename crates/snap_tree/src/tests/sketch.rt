@@ -1,6 +1,6 @@
 use super::{attr, element, raw, words};
 use crate::memory::OutOfMemory;
-use crate::row::{Raw, Row, Space};
+use crate::row::{Attr, Raw, Row, Space};
 use crate::tree::Tree;
 use std::alloc::Global;
 use std::test::Fail;
@@ -24,23 +24,11 @@ pub(super) fn built(alloc: Global, page: &str) -> Result<Tree, Fail> {
 }
 
 fn row_of(alloc: Global, row: &str) -> Result<Row, Fail> {
-    let mut number = 0;
-    let mut parent = 0;
-    let mut tag = "";
-    let mut attrs = Vec::new(alloc);
-    for (place, part) in row.split(' ').enumerate() {
-        match place {
-            0 => number = number_of(part)?,
-            1 => parent = number_of(part)?,
-            2 => tag = part,
-            _ => {
-                if let Some((name, value)) = part.split_once('=') {
-                    let value = spaced(alloc, value)?;
-                    attrs.push(attr(alloc, name, value.as_str())?)?;
-                }
-            }
-        }
-    }
+    let (number, row) = cut(row);
+    let (parent, row) = cut(row);
+    let (tag, attrs) = cut(row);
+    let number = number_of(number)?;
+    let parent = number_of(parent)?;
     if let Some(text) = tag.strip_prefix('#') {
         return Ok(words(alloc, number, parent, text)?);
     }
@@ -48,7 +36,27 @@ fn row_of(alloc: Global, row: &str) -> Result<Row, Fail> {
         Some(tag) => (Space::Svg, tag),
         None => (Space::Html, tag),
     };
+    let attrs = attrs_of(alloc, attrs)?;
     Ok(element(alloc, number, parent, space, tag, attrs)?)
+}
+
+// A text before its first space, and what follows it.
+fn cut(text: &str) -> (&str, &str) {
+    match text.split_once(' ') {
+        Some(parts) => parts,
+        None => (text, ""),
+    }
+}
+
+fn attrs_of(alloc: Global, text: &str) -> Result<Vec<Attr>, Fail> {
+    let mut attrs = Vec::new(alloc);
+    for part in text.split(' ') {
+        if let Some((name, value)) = part.split_once('=') {
+            let value = spaced(alloc, value)?;
+            attrs.push(attr(alloc, name, value.as_str())?)?;
+        }
+    }
+    Ok(attrs)
 }
 
 pub(super) fn number_of(text: &str) -> Result<u32, Fail> {
