@@ -100,8 +100,7 @@ fn has_tagged(alloc: Global, tree: &Tree, tag: &str, nodes: &[NodeId]) -> Result
 #[test]
 fn looks_nodes_up(rt: HostRuntime) -> Result<(), Fail> {
     let alloc = rt.alloc();
-    let page =
-        "1 0 html;2 1 head;3 2 title;4 3 #Home;5 1 body;6 5 svg:svg;7 6 svg:title;8 5 TITLE";
+    let page = "1 0 html;2 1 head;3 2 title;4 3 #Home;5 1 body;6 5 svg:svg;7 6 svg:title;8 5 TITLE";
     let tree = built(alloc, page)?;
     let cases: [(u32, u32, &[u32]); 6] = [
         (1, 0, &[2, 5]),
