@@ -5,6 +5,17 @@ use crate::tree::Tree;
 use std::alloc::Global;
 use std::test::Fail;
 
+// Whether the first element with an id has this number, or there is none.
+pub(super) fn is_first(
+    alloc: Global,
+    tree: &Tree,
+    id: &str,
+    number: Option<u32>,
+) -> Result<bool, Fail> {
+    let id = Text::from_str(alloc, id)?;
+    Ok(tree.first_with_id(&id) == number.map(NodeId))
+}
+
 #[test]
 fn finds_the_first_element_of_an_id(rt: HostRuntime) -> Result<(), Fail> {
     let alloc = rt.alloc();
@@ -23,14 +34,18 @@ fn finds_the_first_element_of_an_id(rt: HostRuntime) -> Result<(), Fail> {
         ("c", None),
     ];
     for (id, number) in cases {
-        let found = tree.first_with_id(&Text::from_str(alloc, id)?);
-        assert_eq!(rt; found, number.map(NodeId), "{id:?}");
+        assert!(rt; is_first(alloc, &tree, id, number)?, "{id:?}");
     }
     Ok(())
 }
 
 // Whether a node has these labels, in this order.
-fn has_labels(alloc: Global, tree: &Tree, number: u32, labels: &str) -> Result<bool, Fail> {
+pub(super) fn has_labels(
+    alloc: Global,
+    tree: &Tree,
+    number: u32,
+    labels: &str,
+) -> Result<bool, Fail> {
     let mut wanted = Vec::new(alloc);
     for label in labels.split_whitespace() {
         wanted.push(NodeId(number_of(label)?))?;
