@@ -129,7 +129,7 @@ says book words old new ReadFault f out err = record { rose = rose_to old.input.
 says book words old new (NotSnapshot line) f out err =
     let P : List ℕ → Type 0 = λ l. Took old.err new.err l in
     record { bytes = f.1.0; fault = f.1.2.fault; input = f.1.1; is_refused = f.1.2.is_refused; out = stays old.out new.out out; err = subst P f.1.2.line_is err }
-says book words old new NoMemory f out err = record { out = stays old.out new.out out; err = err }
+says book words old new NoMemory f out err = record { no_fault = f.1; out = stays old.out new.out out; err = err }
 
 -- ---- what broke off
 

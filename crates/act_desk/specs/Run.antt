@@ -99,8 +99,9 @@ pub record RefusesInput (old new : Outside) : Type 0 where
   pub out : Stays old.out new.out
   pub err : Took old.err new.err (fault_line fault)
 
--- 8: want of memory
+-- 8: want of memory, and neither the source nor a sink met a fault
 pub record WantsMemory (old new : Outside) : Type 0 where
+  pub no_fault : new.input.faults ≡ old.input.faults
   pub out : Stays old.out new.out
   pub err : Took old.err new.err (codes "no memory\n")
 

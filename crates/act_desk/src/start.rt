@@ -1,9 +1,12 @@
-ghost use Rattle.std.specs.Prelude.{◌≡◌, ◌<◌, length, IfOk};
-ghost use Rattle.act_desk.specs.declared.start.Refusal.TheVariants.{NoMemory as Full};
-ghost use Rattle.act_desk.specs.Start.{refusal_line, refusal_status};
+ghost use Rattle.std.specs.Prelude.{◌≡◌, ◌<◌, ◌↔◌, length, map, codes, IfOk, IsTrue};
+ghost use Rattle.std.specs.String.{string_bytes};
+ghost use Rattle.std.specs.IoError.{error_kind};
+ghost use Rattle.std.specs.Vec.Iter.{into_iter_items};
+ghost use Rattle.act_desk.specs.Start.{refusal_line, refusal_status, refusal_of, Starts};
 
-use snap_tree::{List, Text};
-use std::alloc::AllocFailed;
+use snap_tree::{List, OutOfMemory, Text};
+use std::alloc::Global;
+use std::env::Args;
 use std::io::ErrorKind;
 use std::rt::Env;
 use std::{env, io};
@@ -42,15 +45,9 @@ impl Refusal {
     }
 }
 
-impl<T: Drop> From<AllocFailed<T>> for Refusal {
-    ghost from_gives = { λ _ refusal. refusal ≡ Full };
-
-    fn from(_error: AllocFailed<T>) -> Self {
-        Refusal::NoMemory
-    }
-}
-
 impl From<io::Error> for Refusal {
+    ghost from_gives = { λ error refusal. refusal ≡ refusal_of (error_kind error) };
+
     fn from(error: io::Error) -> Self {
         match error.kind() {
             ErrorKind::OutOfMemory => Refusal::NoMemory,
@@ -64,19 +61,92 @@ impl From<io::Error> for Refusal {
 pub fn command_words<R: Env + AllocGlobal>(rt: &R) -> Result<List<Text>, Refusal>
     ensures { IfOk result (λ words. 0 < length words) }
 {
-    let mut args = env::args(rt)?;
-    let _program = args.next();
-    match args.next() {
-        None => return Err(Refusal::Usage),
-        Some(store) if store.as_str() != "-" => return Err(Refusal::Store),
-        Some(_) => {}
+    words_in(rt.alloc(), env::args(rt)?)
+}
+
+// The words of a command among a program's arguments, or why they give none.
+fn words_in(alloc: Global, mut args: Args) -> Result<List<Text>, Refusal>
+    ensures { Starts (map string_bytes (into_iter_items args)) result }
+{
+    let Some(_program) = args.next() else {
+        return Err(Refusal::Usage);
+    };
+    let Some(store) = args.next() else {
+        return Err(Refusal::Usage);
+    };
+    if !is_memory(store.as_str()) {
+        return Err(Refusal::Store);
     }
-    let mut words = Vec::new(rt.alloc());
-    for word in args {
-        words.push(Text::from_string(word))?;
-    }
+    let Ok(words) = texts_of(alloc, args) else {
+        return Err(Refusal::NoMemory);
+    };
     if words.is_empty() {
         return Err(Refusal::Usage);
     }
     Ok(List::from_vec(words))
+}
+
+// Whether that is the name of the store in memory.
+fn is_memory(store: &str) -> bool
+    ensures { IsTrue result ↔ (store.now ≡ codes "-") }
+{
+    store == "-"
+}
+
+// The same texts, in order.
+fn texts_of(alloc: Global, strings: Args) -> Result<Vec<Text>, OutOfMemory>
+    ensures { IfOk result (λ texts. texts.items ≡ map string_bytes (into_iter_items strings)) }
+{
+    let mut texts = Vec::new(alloc);
+    for string in strings {
+        texts.push(Text::from_string(string))?;
+    }
+    Ok(texts)
+}
+
+#[cfg(test)]
+mod tests {
+    use super::*;
+    use std::test::Fail;
+
+    // The status that the program ends with by these arguments; none where it has the words of a command.
+    fn status_by(alloc: Global, args: &[&str]) -> Result<Option<u8>, Fail> {
+        let mut strings = Vec::new(alloc);
+        for arg in args {
+            strings.push(String::from_str(alloc, arg)?)?;
+        }
+        Ok(status_of(words_in(alloc, strings.into_iter())))
+    }
+
+    fn status_of(words: Result<List<Text>, Refusal>) -> Option<u8> {
+        match words {
+            Ok(_) => None,
+            Err(refusal) => Some(refusal.status()),
+        }
+    }
+
+    #[test]
+    fn arguments_give_words_or_a_status(rt: HostRuntime) -> Result<(), Fail> {
+        let rows: [(&[&str], Option<u8>); 7] = [
+            (&["act_desk", "-", "audit"], None),
+            (&["act_desk", "-", "audit", "x"], None),
+            (&[], Some(2)),
+            (&["act_desk"], Some(2)),
+            (&["act_desk", "-"], Some(2)),
+            (&["act_desk", "", "audit"], Some(6)),
+            (&["act_desk", "store"], Some(6)),
+        ];
+        for (args, status) in rows {
+            assert_eq!(rt; status_by(rt.alloc(), args)?, status);
+        }
+        Ok(())
+    }
+
+    #[test]
+    fn an_error_of_the_arguments_has_its_status(rt: HostRuntime) {
+        // a word that is no text, and want of memory
+        for (kind, status) in [(ErrorKind::InvalidData, 2), (ErrorKind::OutOfMemory, 8)] {
+            assert_eq!(rt; Refusal::from(io::Error::from(kind)).status(), status);
+        }
+    }
 }

@@ -1,5 +1,6 @@
 //! `run` over a source and sinks in memory, with the book of the rules that are built.
 use crate::early::Early;
+use crate::failed::Failed;
 use crate::mem_sink::MemSink;
 use crate::mem_source::MemSource;
 use crate::run::run;
@@ -281,5 +282,13 @@ fn an_audit_stops_reading_after_one_byte_too_many(rt: HostRuntime) -> Result<(),
         assert_eq!(rt; end.status, 5);
         assert_eq!(rt; end.err.bytes(), b"snapshot fault 5 TooLong\n".as_slice());
     }
+    Ok(())
+}
+
+#[test]
+fn a_fault_says_so(rt: HostRuntime) -> Result<(), Fail> {
+    let fault = Failed;
+    let text = format!(in rt.alloc(); "{fault}")?;
+    assert_eq!(rt; text.as_str(), "fault");
     Ok(())
 }
