@@ -15,7 +15,7 @@ use crate::branches::Branches;
 use crate::build::{MOST_NODES, places_of};
 use crate::copies::copies_of;
 use crate::fault::{BuildFault, TreeFault};
-use crate::groups::{folded, group};
+use crate::groups::{Groups, Key, folded, group, groups_of};
 use crate::index::{Index, Places};
 use crate::kids::Kids;
 use crate::labels::all_labels;
@@ -33,6 +33,8 @@ pub struct Tree {
     address: Text,
     rows: Vec<Row>,
     index: Index,
+    // The HTML elements of each folded tag.
+    tags: Groups,
 }
 
 impl Model for Tree {
@@ -44,11 +46,11 @@ impl Model for Tree {
     ghost coded = { coded_document };
 
     ghost use Rattle.snap_tree.specs.Grown.{grown};
-    ghost use Rattle.snap_tree.specs.Indexed.{IsIndexed};
+    ghost use Rattle.snap_tree.specs.Indexed.{IsKept};
 
     ghost view = { λ t. record { address = t.address; trees = grown t.rows.items } };
 
-    ghost invariant = { λ t. IsIndexed t.rows.items t.index };
+    ghost invariant = { λ t. IsKept t.rows.items t.index t.tags };
 }
 
 // The place of each number of rows whose shape is sound, or their first fault.
@@ -122,10 +124,12 @@ impl Tree {
         let Raw { address, rows } = raw;
         let rows = rows.into_vec();
         let index = sound_index(alloc, rows.as_slice())?;
+        let tags = groups_of(alloc, Key::Tag, rows.as_slice())?;
         Ok(Tree {
             address,
             rows,
             index,
+            tags,
         })
     }
 
@@ -204,7 +208,7 @@ impl Tree {
         ensures { IfOk result (λ nodes. nodes ≡ tagged self.now.trees tag.now) }
     {
         let key = folded(alloc, tag.as_str())?;
-        let nodes = group(&self.index.tags, key.as_str());
+        let nodes = group(&self.tags, key.as_str());
         Ok(List::from_vec(Vec::from_slice(alloc, nodes)?))
     }
 
@@ -241,10 +245,12 @@ impl Tree {
         let rows = copies_of(alloc, self.rows.as_slice())?;
         let places = self.index.places.clone()?;
         let index = Index::of(alloc, rows.as_slice(), places)?;
+        let tags = groups_of(alloc, Key::Tag, rows.as_slice())?;
         Ok(Tree {
             address,
             rows,
             index,
+            tags,
         })
     }
 }
