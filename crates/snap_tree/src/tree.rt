@@ -1,4 +1,4 @@
-ghost use Rattle.std.specs.Prelude.{◌≡◌, None, IfOk, IfErr, OnOk};
+ghost use Rattle.std.specs.Prelude.{◌≡◌, [], None, IfSome, IfOk, IfErr, OnOk};
 ghost use Rattle.std.specs.Option.{option_copied, option_map};
 ghost use Rattle.snap_tree.specs.Trees.{rows_of};
 ghost use Rattle.snap_tree.specs.Grown.{grown};
@@ -9,6 +9,7 @@ ghost use Rattle.snap_tree.specs.Opened.{Breaks};
 ghost use Rattle.snap_tree.specs.Indexed.{IsIndex};
 ghost use Rattle.snap_tree.specs.Lookups.{node, tagged};
 ghost use Rattle.snap_tree.specs.Spots.{spot, parent, kids};
+ghost use Rattle.snap_tree.specs.SpotLaws.{IsAbsent, ClimbsAbove, WalksAbove};
 ghost use Rattle.snap_tree.specs.Labels.{first_with_id, labels_for};
 
 use crate::branches::Branches;
@@ -158,9 +159,12 @@ impl Tree {
         Branches::over(self.rows.as_slice(), self.index.sizes.as_slice())
     }
 
-    /// The row of a number; None exactly where the tree doesn't hold the number.
+    /// The row of a number, which is the row of its spot; None exactly where the tree doesn't hold the
+    /// number.
     pub fn node(&self, n: NodeId) -> Option<&Row>
-        ensures { option_copied result ≡ node self.now.trees n }
+        ensures row { option_copied result ≡ node self.now.trees n }
+        ensures spot { option_copied result ≡ option_map (λ s. s.row) (spot self.now.trees n) }
+        ensures absent { IsAbsent self.now.trees n → result ≡ None }
     {
         match self.index.places.get(&n.0) {
             Some(place) => Some(&self.rows[*place]),
@@ -169,8 +173,15 @@ impl Tree {
     }
 
     /// The number of a node's parent; None for the root and for a number that the tree doesn't hold.
+    ///
+    /// It is the number that the node names, and the first of those above it. That one stands in the
+    /// tree with the others above it, so that a walk by `parent` goes over the list above.
     pub fn parent(&self, n: NodeId) -> Option<NodeId>
-        ensures { result ≡ parent self.now.trees n }
+        ensures parent { result ≡ parent self.now.trees n }
+        ensures named { IfSome (spot self.now.trees n) (λ s. s.row.parent ≡ result) }
+        ensures climbs { ClimbsAbove self.now.trees n }
+        ensures walks { WalksAbove self.now.trees n }
+        ensures absent { IsAbsent self.now.trees n → result ≡ None }
     {
         let _well = &self.rows;
         match self.node(n) {
@@ -181,7 +192,8 @@ impl Tree {
 
     /// The trees below a node; None exactly where the tree doesn't hold the number.
     pub fn below(&self, n: NodeId) -> Option<Branches<'_>>
-        ensures { result ≡ option_map (λ s. s.below) (spot self.now.trees n) }
+        ensures below { result ≡ option_map (λ s. s.below) (spot self.now.trees n) }
+        ensures absent { IsAbsent self.now.trees n → result ≡ None }
     {
         match self.index.places.get(&n.0) {
             Some(place) => Some(run_below(
@@ -195,7 +207,8 @@ impl Tree {
 
     /// The numbers of a node's children in order; none for a number that the tree doesn't hold.
     pub fn kids(&self, n: NodeId) -> Kids<'_>
-        ensures { result ≡ kids self.now.trees n }
+        ensures kids { result ≡ kids self.now.trees n }
+        ensures absent { IsAbsent self.now.trees n → result ≡ [] }
     {
         match self.below(n) {
             Some(below) => Kids::of(below),
