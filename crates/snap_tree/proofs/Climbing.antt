@@ -1,5 +1,5 @@
 -- The ancestors of a node are the nodes that its parent leads to.
-use Rattle.std.proofs.Common.{◌≡◌, ◌==◌, List, [], ◌∷◌, ◌++◌, Bool, true, false, ◌||◌, Option, Some, None, refl, sym, ◌∙◌, ap, subst, arith, inl, inr, ◌⊎◌}
+use Rattle.std.proofs.Common.{◌≡◌, ◌==◌, List, [], ◌∷◌, ◌++◌, Bool, true, false, ◌||◌, Option, Some, None, IfSome, option_and_then, refl, sym, ◌∙◌, ap, subst, arith, inl, inr, ◌⊎◌}
 use Rattle.std.proofs.lemmas.Bool.Decides.{nat_tests}
 use Rattle.std.specs.Option.{option_map, option_map_or}
 use Rattle.std.specs.List.{list_any, find}
@@ -7,7 +7,9 @@ use Rattle.snap_tree.specs.declared.row.NodeId.{NodeId}
 use Rattle.snap_tree.specs.declared.row.Row.{Row}
 use Rattle.snap_tree.specs.Trees.{Trees, empty, tree, rows_of}
 use Rattle.snap_tree.specs.Rows.{has_number}
-use Rattle.snap_tree.specs.Spots.{Spot, spot_in, spot, IsSpotOf, ClimbsBy}
+use Rattle.snap_tree.specs.Lookups.{node}
+use Rattle.snap_tree.specs.Spots.{Spot, spot_in, spot, number_of, IsSpotOf, ClimbsBy}
+use Rattle.snap_tree.specs.SpotLaws.{IsAbsent, ClimbsAbove, WalksOver, WalksAbove}
 use Rattle.snap_tree.specs.Well.{AreApart}
 use Rattle.snap_tree.proofs.Spotting.{spot_row}
 
@@ -63,6 +65,14 @@ none_any n above t h = by_spot (spot_in n above t) refl
     by_spot : (o : Option Spot) → spot_in n above t ≡ o → spot_in n above t ≡ None
     by_spot None e = e
     by_spot (Some s) e = let no : true ≡ false = sym (spot_any n above t s e) ∙ h in cc
+
+pub absent_row : (t : Trees) (n : NodeId) → IsAbsent t n → node t n ≡ None
+absent_row t n h = sym (spot_row n [] t) ∙ ap (option_map (λ s. s.row)) (none_any n [] t h)
+
+-- a node names what its row does
+pub named_row : (o : Option Spot) (row : Option Row) → row ≡ option_map (λ s. s.row) o → IfSome o (λ s. s.row.parent ≡ option_and_then (λ (r : Row). r.parent) row)
+named_row None row e = tt
+named_row (Some s) row e = ap (option_and_then (λ (r : Row). r.parent)) (sym e)
 
 -- ---- climbing
 
@@ -144,3 +154,28 @@ climbs_top t (p ∷ rest) (inr h) = h
 -- climbing by the parent's number goes over the list above
 pub climbs : (t : Trees) (n : NodeId) (s : Spot) → AreApart (rows_of t) → spot t n ≡ Some s → ClimbsBy s.above t
 climbs t n s a e = climbs_top t s.above (climbs_in n [] t s a e)
+
+pub climbs_above : (t : Trees) (n : NodeId) → AreApart (rows_of t) → ClimbsAbove t n
+climbs_above t n a = by_spot (spot t n) refl
+  where
+    by_spot : (o : Option Spot) → spot t n ≡ o → IfSome o (λ s. ClimbsBy s.above t)
+    by_spot None e = tt
+    by_spot (Some s) e = climbs t n s a e
+
+-- ---- walking on by the parent
+
+walks_over : (t : Trees) (n : NodeId) (above : List Row) (s : Spot) → AreApart (rows_of t) → spot t n ≡ Some s → s.above ≡ above → WalksOver t n above
+walks_over t n [] s a e h = ap (option_and_then (λ (x : Spot). number_of x.above)) e ∙ ap number_of h
+walks_over t n (p ∷ above) s a e h =
+    (ap (option_and_then (λ (x : Spot). number_of x.above)) e ∙ ap number_of h, from_next (spot t p.id) refl (subst (λ up. ClimbsBy up t) h (climbs t n s a e)) (λ s'. walks_over t p.id above s' a))
+  where
+    from_next : (o : Option Spot) → spot t p.id ≡ o → IsSpotOf p above o → ((s' : Spot) → spot t p.id ≡ Some s' → s'.above ≡ above → WalksOver t p.id above) → WalksOver t p.id above
+    from_next None e' h' k = absurd h'
+    from_next (Some s') e' h' k = k s' e' h'.1
+
+pub walks_above : (t : Trees) (n : NodeId) → AreApart (rows_of t) → WalksAbove t n
+walks_above t n a = by_spot (spot t n) refl
+  where
+    by_spot : (o : Option Spot) → spot t n ≡ o → IfSome o (λ s. WalksOver t n s.above)
+    by_spot None e = tt
+    by_spot (Some s) e = walks_over t n s.above s a e refl

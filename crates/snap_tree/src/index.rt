@@ -15,15 +15,13 @@ use std::collections::BTreeMap;
 /// The place of each number in a list of rows.
 pub(crate) type Places = BTreeMap<u32, usize>;
 
-/// What a tree keeps beside its rows, so that no look-up walks the page.
+/// By what rows are weighed and looked up, so that no look-up walks the page.
 #[derive(Drop)]
 pub(crate) struct Index {
     /// The size of each row's subtree, in document order, itself counted.
     pub(crate) sizes: Vec<usize>,
     /// The place of each number.
     pub(crate) places: Places,
-    /// The HTML elements of each folded tag.
-    pub(crate) tags: Groups,
     /// The elements of each id.
     pub(crate) ids: Groups,
     /// The labels that name each id.
@@ -40,14 +38,12 @@ impl Index {
         ensures { IfOk result (λ index. IsIndex rows.now index) }
     {
         let sizes = sizes_of(alloc, rows)?;
-        let tags = groups_of(alloc, Key::Tag, rows)?;
         let ids = groups_of(alloc, Key::Id, rows)?;
         let fors = groups_of(alloc, Key::For, rows)?;
         let outer = labels_around(alloc, Branches::over(rows, sizes.as_slice()))?;
         Ok(Index {
             sizes,
             places,
-            tags,
             ids,
             fors,
             outer,

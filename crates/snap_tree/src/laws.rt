@@ -1,13 +1,11 @@
-ghost use Rattle.std.specs.Prelude.{◌≡◌, List, [], ◌∷◌, ◌++◌, Some, None};
-ghost use Rattle.std.specs.Option.{option_map, IfSome};
+ghost use Rattle.std.specs.Prelude.{◌≡◌, List, [], ◌∷◌, ◌++◌, None};
 ghost use Rattle.snap_tree.specs.declared.row.NodeId.{NodeId};
 ghost use Rattle.snap_tree.specs.declared.row.Row.{Row};
-ghost use Rattle.snap_tree.specs.Trees.{Trees, rows_of, beside};
+ghost use Rattle.snap_tree.specs.Trees.{Trees, rows_of};
 ghost use Rattle.snap_tree.specs.Grown.{grown, planted};
 ghost use Rattle.snap_tree.specs.Faults.{tree_fault};
-ghost use Rattle.snap_tree.specs.Well.{IsWell, number_of};
-ghost use Rattle.snap_tree.specs.Lookups.{node};
-ghost use Rattle.snap_tree.specs.Spots.{Spot, spot, NamesNone, ClimbsBy};
+ghost use Rattle.snap_tree.specs.Well.{IsWell};
+ghost use Rattle.snap_tree.specs.SpotLaws.{AbsentHasNoSpot, SpotHasRow, NamesFirstAbove, ClimbsAbove, WalksAbove, GrowBeside};
 
 /// Laws of the trees that rows make. It does nothing: the clauses are what it is for.
 ///
@@ -23,12 +21,15 @@ pub fn laws_of_growth()
 
 /// Laws of the spot of a node: its row, what is below it, and what is above it.
 ///
-/// A number has a spot exactly where a row has the number, and the spot's row is that row. In a well
-/// tree a node names the first of those above it, and climbing by the parent's number goes over the
-/// list above. Rows that name none of the rows before them grow to trees of their own beside those.
+/// A number of no row has no spot, and the row of a spot is the row of its number. In a well tree a node
+/// names the first of those above it, that one stands in the tree with the others above it, and so a
+/// walk by the parent's number goes over the list above. Rows that name none of the rows before them
+/// grow to trees of their own beside those.
 pub fn laws_of_spots()
-    ensures row { (t : Trees) (n : NodeId) → option_map (λ s. s.row) (spot t n) ≡ node t n }
-    ensures named { (t : Trees) (n : NodeId) → IsWell t → IfSome (spot t n) (λ s. s.row.parent ≡ number_of s.above) }
-    ensures climbs { (t : Trees) (n : NodeId) (s : Spot) → IsWell t → spot t n ≡ Some s → ClimbsBy s.above t }
-    ensures beside { (rows others : List Row) → NamesNone (grown others) rows → grown (rows ++ others) ≡ beside (grown rows) (grown others) }
+    ensures absent { (t : Trees) (n : NodeId) → AbsentHasNoSpot t n }
+    ensures row { (t : Trees) (n : NodeId) → SpotHasRow t n }
+    ensures named { (t : Trees) (n : NodeId) → IsWell t → NamesFirstAbove t n }
+    ensures climbs { (t : Trees) (n : NodeId) → IsWell t → ClimbsAbove t n }
+    ensures walks { (t : Trees) (n : NodeId) → IsWell t → WalksAbove t n }
+    ensures beside { (rows others : List Row) → GrowBeside rows others }
 {}

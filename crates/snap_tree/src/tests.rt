@@ -1,7 +1,9 @@
 mod copies;
 mod fault;
 mod labels;
+mod limits;
 mod sketch;
+mod weight;
 
 use self::sketch::built;
 use crate::list::List;

@@ -1,4 +1,4 @@
-ghost use Rattle.std.specs.Prelude.{◌≡◌, None, IfOk, IfErr, OnOk};
+ghost use Rattle.std.specs.Prelude.{◌≡◌, [], None, IfSome, IfOk, IfErr, OnOk};
 ghost use Rattle.std.specs.Option.{option_copied, option_map};
 ghost use Rattle.snap_tree.specs.Trees.{rows_of};
 ghost use Rattle.snap_tree.specs.Grown.{grown};
@@ -9,13 +9,14 @@ ghost use Rattle.snap_tree.specs.Opened.{Breaks};
 ghost use Rattle.snap_tree.specs.Indexed.{IsIndex};
 ghost use Rattle.snap_tree.specs.Lookups.{node, tagged};
 ghost use Rattle.snap_tree.specs.Spots.{spot, parent, kids};
+ghost use Rattle.snap_tree.specs.SpotLaws.{IsAbsent, ClimbsAbove, WalksAbove};
 ghost use Rattle.snap_tree.specs.Labels.{first_with_id, labels_for};
 
 use crate::branches::Branches;
 use crate::build::{MOST_NODES, places_of};
 use crate::copies::copies_of;
 use crate::fault::{BuildFault, TreeFault};
-use crate::groups::{folded, group};
+use crate::groups::{Groups, Key, folded, group, groups_of};
 use crate::index::{Index, Places};
 use crate::kids::Kids;
 use crate::labels::all_labels;
@@ -33,6 +34,8 @@ pub struct Tree {
     address: Text,
     rows: Vec<Row>,
     index: Index,
+    // The HTML elements of each folded tag.
+    tags: Groups,
 }
 
 impl Model for Tree {
@@ -44,11 +47,11 @@ impl Model for Tree {
     ghost coded = { coded_document };
 
     ghost use Rattle.snap_tree.specs.Grown.{grown};
-    ghost use Rattle.snap_tree.specs.Indexed.{IsIndexed};
+    ghost use Rattle.snap_tree.specs.Indexed.{IsKept};
 
     ghost view = { λ t. record { address = t.address; trees = grown t.rows.items } };
 
-    ghost invariant = { λ t. IsIndexed t.rows.items t.index };
+    ghost invariant = { λ t. IsKept t.rows.items t.index t.tags };
 }
 
 // The place of each number of rows whose shape is sound, or their first fault.
@@ -122,10 +125,12 @@ impl Tree {
         let Raw { address, rows } = raw;
         let rows = rows.into_vec();
         let index = sound_index(alloc, rows.as_slice())?;
+        let tags = groups_of(alloc, Key::Tag, rows.as_slice())?;
         Ok(Tree {
             address,
             rows,
             index,
+            tags,
         })
     }
 
@@ -154,9 +159,12 @@ impl Tree {
         Branches::over(self.rows.as_slice(), self.index.sizes.as_slice())
     }
 
-    /// The row of a number; None exactly where the tree doesn't hold the number.
+    /// The row of a number, which is the row of its spot; None exactly where the tree doesn't hold the
+    /// number.
     pub fn node(&self, n: NodeId) -> Option<&Row>
-        ensures { option_copied result ≡ node self.now.trees n }
+        ensures row { option_copied result ≡ node self.now.trees n }
+        ensures spot { option_copied result ≡ option_map (λ s. s.row) (spot self.now.trees n) }
+        ensures absent { IsAbsent self.now.trees n → result ≡ None }
     {
         match self.index.places.get(&n.0) {
             Some(place) => Some(&self.rows[*place]),
@@ -165,8 +173,15 @@ impl Tree {
     }
 
     /// The number of a node's parent; None for the root and for a number that the tree doesn't hold.
+    ///
+    /// It is the number that the node names, and the first of those above it. That one stands in the
+    /// tree with the others above it, so that a walk by `parent` goes over the list above.
     pub fn parent(&self, n: NodeId) -> Option<NodeId>
-        ensures { result ≡ parent self.now.trees n }
+        ensures parent { result ≡ parent self.now.trees n }
+        ensures named { IfSome (spot self.now.trees n) (λ s. s.row.parent ≡ result) }
+        ensures climbs { ClimbsAbove self.now.trees n }
+        ensures walks { WalksAbove self.now.trees n }
+        ensures absent { IsAbsent self.now.trees n → result ≡ None }
     {
         let _well = &self.rows;
         match self.node(n) {
@@ -177,7 +192,8 @@ impl Tree {
 
     /// The trees below a node; None exactly where the tree doesn't hold the number.
     pub fn below(&self, n: NodeId) -> Option<Branches<'_>>
-        ensures { result ≡ option_map (λ s. s.below) (spot self.now.trees n) }
+        ensures below { result ≡ option_map (λ s. s.below) (spot self.now.trees n) }
+        ensures absent { IsAbsent self.now.trees n → result ≡ None }
     {
         match self.index.places.get(&n.0) {
             Some(place) => Some(run_below(
@@ -191,7 +207,8 @@ impl Tree {
 
     /// The numbers of a node's children in order; none for a number that the tree doesn't hold.
     pub fn kids(&self, n: NodeId) -> Kids<'_>
-        ensures { result ≡ kids self.now.trees n }
+        ensures kids { result ≡ kids self.now.trees n }
+        ensures absent { IsAbsent self.now.trees n → result ≡ [] }
     {
         match self.below(n) {
             Some(below) => Kids::of(below),
@@ -204,7 +221,7 @@ impl Tree {
         ensures { IfOk result (λ nodes. nodes ≡ tagged self.now.trees tag.now) }
     {
         let key = folded(alloc, tag.as_str())?;
-        let nodes = group(&self.index.tags, key.as_str());
+        let nodes = group(&self.tags, key.as_str());
         Ok(List::from_vec(Vec::from_slice(alloc, nodes)?))
     }
 
@@ -241,10 +258,12 @@ impl Tree {
         let rows = copies_of(alloc, self.rows.as_slice())?;
         let places = self.index.places.clone()?;
         let index = Index::of(alloc, rows.as_slice(), places)?;
+        let tags = groups_of(alloc, Key::Tag, rows.as_slice())?;
         Ok(Tree {
             address,
             rows,
             index,
+            tags,
         })
     }
 }

@@ -1,8 +1,9 @@
 use super::labels::{has_labels, is_first};
 use super::sketch::built;
-use super::{has_kids, has_tagged};
-use crate::row::NodeId;
+use super::{has_kids, has_tagged, words};
+use crate::row::{Facts, NodeId};
 use crate::tree::Tree;
+use std::alloc::Global;
 use std::test::Fail;
 
 fn has_value(tree: &Tree, number: u32, name: &str, value: &str) -> bool {
@@ -26,5 +27,30 @@ fn copies_are_equal(rt: HostRuntime) -> Result<(), Fail> {
     assert!(rt; is_first(alloc, &copy, "q", Some(3))?);
     assert!(rt; has_labels(alloc, &copy, 3, "2")?);
     assert!(rt; has_tagged(alloc, &copy, "form", [NodeId(1)].as_slice())?);
+    Ok(())
+}
+
+fn copied_facts(alloc: Global, facts: Facts) -> Result<Facts, Fail> {
+    let mut row = words(alloc, 7, 3, "Agree")?;
+    row.facts = facts;
+    Ok(row.copy(alloc)?.facts)
+}
+
+#[test]
+fn a_copied_row_keeps_its_facts(rt: HostRuntime) -> Result<(), Fail> {
+    let cases = [
+        (true, false, true, false),
+        (false, true, true, false),
+        (false, false, false, true),
+    ];
+    for (rendered, visible, focusable, tabbable) in cases {
+        let facts = Facts {
+            rendered,
+            visible,
+            focusable,
+            tabbable,
+        };
+        assert_eq!(rt; copied_facts(rt.alloc(), facts)?, facts);
+    }
     Ok(())
 }

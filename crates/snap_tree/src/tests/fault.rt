@@ -1,32 +1,51 @@
-use super::sketch::sketched;
-use crate::fault::{BuildFault, TreeFault};
+use super::sketch::fault_of;
+use crate::fault::TreeFault;
 use crate::row::NodeId;
-use crate::tree::Tree;
 use std::test::Fail;
 
 #[test]
 fn names_the_first_fault(rt: HostRuntime) -> Result<(), Fail> {
     let alloc = rt.alloc();
     let cases = [
-        ("1 0 p;1 9 p", 3, 1),
-        ("1 9 #x", 4, 1),
+        ("1 0 p;2 1 p;3 2 #x;4 1 p", 0, 0),
+        ("1 0 p;7 1 p;7 7 p", 3, 7),
+        ("1 9 p", 4, 1),
         ("1 0 p;2 0 p", 4, 2),
+        ("1 0 p;2 9 p", 4, 2),
         ("1 0 p;2 1 p;3 1 p;4 2 p", 4, 4),
         ("1 0 p;2 2 p", 4, 2),
         ("1 0 #x", 11, 1),
         ("1 0 p;2 1 #x;3 2 #y", 9, 3),
-        ("1 0 p href=a;2 1 p href=a HREF=b", 8, 2),
+        ("1 0 p;2 1 p href=a HREF=b", 8, 2),
+        ("1 0 p \u{c4}= \u{e4}=", 0, 0),
         ("0 0 p", 12, 0),
         ("1 0 p;2 1  id=a", 12, 2),
+        ("1 0 p;2 1 p =a", 12, 2),
     ];
     for (page, number, node) in cases {
-        match Tree::build(alloc, sketched(alloc, page)?) {
-            Err(BuildFault::Tree(fault)) => {
-                assert_eq!(rt; fault.number(), number, "{page}");
-                assert_eq!(rt; fault.node(), Some(NodeId(node)), "{page}");
-            }
-            _ => return Err(Fail::from("the page has a fault")),
-        }
+        assert_eq!(rt; fault_of(alloc, page)?, (number, node), "{page}");
+    }
+    Ok(())
+}
+
+// Rows with two faults.
+#[test]
+fn names_the_first_of_two_faults(rt: HostRuntime) -> Result<(), Fail> {
+    let alloc = rt.alloc();
+    let cases = [
+        ("1 0 p;1 9 p", 3, 1),
+        ("1 0 p;1 1 ", 3, 1),
+        ("1 9 #x", 4, 1),
+        ("1 0 p;2 9 ", 4, 2),
+        ("0 0 #x", 11, 0),
+        ("1 0 p;2 1 #x;3 2 ", 9, 3),
+        ("1 0 p;2 1 #x;3 2 p href=a HREF=b", 9, 3),
+        ("1 0 p;2 1  href=a HREF=b", 8, 2),
+        ("1 0 p;2 1 ;1 1 p", 12, 2),
+        ("1 0 p;2 1 p href=a HREF=b;3 9 p", 8, 2),
+    ];
+    for (page, number, node) in cases {
+        assert_eq!(rt; fault_of(alloc, page)?, (number, node), "{page}");
     }
     Ok(())
 }

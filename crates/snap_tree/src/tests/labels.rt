@@ -115,3 +115,25 @@ fn finds_the_label_around_an_element(rt: HostRuntime) -> Result<(), Fail> {
     }
     Ok(())
 }
+
+#[test]
+fn knows_what_can_have_a_label(rt: HostRuntime) -> Result<(), Fail> {
+    let cases = [
+        ("1 0 label;2 1 button", "1"),
+        ("1 0 label;2 1 meter", "1"),
+        ("1 0 label;2 1 output", "1"),
+        ("1 0 label;2 1 progress", "1"),
+        ("1 0 label;2 1 SELECT", "1"),
+        ("1 0 label;2 1 textarea", "1"),
+        ("1 0 label;2 1 input", "1"),
+        ("1 0 label;2 1 svg:button", ""),
+        ("1 0 label;2 1 fieldset", ""),
+        ("1 0 label;2 1 a", ""),
+    ];
+    let alloc = rt.alloc();
+    for (page, labels) in cases {
+        let tree = built(alloc, page)?;
+        assert!(rt; has_labels(alloc, &tree, 2, labels)?, "{page}");
+    }
+    Ok(())
+}

@@ -1,4 +1,5 @@
 use super::{attr, element, raw, words};
+use crate::fault::BuildFault;
 use crate::memory::OutOfMemory;
 use crate::row::{Attr, Raw, Row, Space};
 use crate::tree::Tree;
@@ -21,6 +22,27 @@ pub(super) fn built(alloc: Global, page: &str) -> Result<Tree, Fail> {
         Ok(tree) => Ok(tree),
         Err(_) => Err(Fail::from("the page is well")),
     }
+}
+
+// The number of the page's first fault and that of its node; 0 where there is none.
+pub(super) fn fault_of(alloc: Global, page: &str) -> Result<(u8, u32), Fail> {
+    match Tree::build(alloc, sketched(alloc, page)?) {
+        Ok(_) => Ok((0, 0)),
+        Err(BuildFault::Tree(fault)) => match fault.node() {
+            Some(node) => Ok((fault.number(), node.0)),
+            None => Ok((fault.number(), 0)),
+        },
+        Err(BuildFault::OutOfMemory) => Err(Fail::from("no memory")),
+    }
+}
+
+// A text so many times.
+pub(super) fn repeated(alloc: Global, text: &str, count: usize) -> Result<String, OutOfMemory> {
+    let mut texts = String::new(alloc);
+    for _ in 0..count {
+        texts.push_str(text)?;
+    }
+    Ok(texts)
 }
 
 fn row_of(alloc: Global, row: &str) -> Result<Row, Fail> {

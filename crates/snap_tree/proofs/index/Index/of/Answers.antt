@@ -9,7 +9,6 @@ pub returns : goal.returns
 returns c = record {
   sized = c.in_ok-sizes.ensures;
   placed = c.requires.placed;
-  tagged = c.in_ok-tags.ensures;
   ids = c.in_ok-ids.ensures;
   fors = c.in_ok-fors.ensures;
   outer = c.in_ok-outer.ensures ∙ ap (labels_around None) c.over.ensures ∙ outer_labels (grown c.args.rows.now) (shaped c.args.rows.now c.requires.sound).apart;

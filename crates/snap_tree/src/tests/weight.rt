@@ -1,0 +1,88 @@
+use super::sketch::{fault_of, repeated};
+use crate::memory::OutOfMemory;
+use std::alloc::Global;
+use std::test::Fail;
+
+// A link whose attribute names `t` so often, these rows, and a p with that id which holds a text of so
+// many bytes.
+fn referring(
+    alloc: Global,
+    name: &str,
+    count: usize,
+    rows: &str,
+    bytes: usize,
+) -> Result<String, OutOfMemory> {
+    let list = repeated(alloc, "t~", count)?;
+    let text = repeated(alloc, "a", bytes)?;
+    let mut page = format!(in alloc; "1 0 html;2 1 a {name}=")?;
+    page.push_str(list.as_str())?;
+    page.push_str(rows)?;
+    page.push_str(";3 1 p id=t;4 3 #")?;
+    page.push_str(text.as_str())?;
+    Ok(page)
+}
+
+#[test]
+fn weighs_what_ids_find(rt: HostRuntime) -> Result<(), Fail> {
+    let alloc = rt.alloc();
+    // the p and its text weigh 1 + 1 + 1,024, and 1 + 1 + 998 where the text has 63,872 bytes
+    let cases = [
+        ("aria-labelledby", 97, "", 65_536, 0),
+        ("aria-labelledby", 98, "", 65_536, 10),
+        ("aria-owns", 97, "", 65_536, 0),
+        ("ARIA-OWNS", 98, "", 65_536, 10),
+        ("aria-describedby", 98, "", 65_536, 0),
+        ("aria-labelledby", 98, ";5 1 span id=t", 65_536, 0),
+        ("aria-labelledby", 98, ";0 1 p", 65_536, 12),
+        ("aria-labelledby", 100, "", 63_872, 0),
+        ("aria-labelledby", 100, "", 63_935, 0),
+        ("aria-labelledby", 100, "", 63_936, 10),
+        ("aria-labelledby", 101, "", 63_872, 10),
+    ];
+    for (name, count, rows, bytes, number) in cases {
+        let page = referring(alloc, name, count, rows, bytes)?;
+        assert_eq!(rt;
+            fault_of(alloc, page.as_str())?,
+            (number, 0),
+            "{name} {count} {rows} {bytes}"
+        );
+    }
+    Ok(())
+}
+
+// A label with the id `t` and this attribute, which holds a text of 65,536 bytes and an input that names
+// `t` so often.
+fn labelled(alloc: Global, attr: &str, kind: &str, count: usize) -> Result<String, OutOfMemory> {
+    let list = repeated(alloc, "t~", count)?;
+    let text = repeated(alloc, "a", 65_536)?;
+    let mut page = format!(in alloc; "1 0 html;2 1 label id=t {attr};3 2 #")?;
+    page.push_str(text.as_str())?;
+    let input = format!(in alloc; ";4 2 input id=q type={kind} aria-labelledby=")?;
+    page.push_str(input.as_str())?;
+    page.push_str(list.as_str())?;
+    Ok(page)
+}
+
+#[test]
+fn weighs_what_labels_find(rt: HostRuntime) -> Result<(), Fail> {
+    let alloc = rt.alloc();
+    // the label weighs 1 + 1,025 + 4, since the input's values have from 197 to 201 bytes
+    let cases = [
+        ("for=q", "hidden", 97, 0),
+        ("for=q", "text", 97, 10),
+        ("for=q", "text", 96, 0),
+        ("class=q", "text", 97, 10),
+        ("class=q", "text", 96, 0),
+        ("for=", "text", 97, 0),
+        ("for=x", "text", 97, 0),
+    ];
+    for (attr, kind, count, number) in cases {
+        let page = labelled(alloc, attr, kind, count)?;
+        assert_eq!(rt;
+            fault_of(alloc, page.as_str())?,
+            (number, 0),
+            "{attr} {kind} {count}"
+        );
+    }
+    Ok(())
+}
