@@ -17,3 +17,4 @@ pub mod Weighing
 pub mod Lookups
 pub mod Well
 pub mod Spots
+pub mod Naming
