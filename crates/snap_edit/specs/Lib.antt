@@ -1,0 +1,4 @@
+pub mod Attrs
+pub mod Trees
+pub mod Edits
+pub mod Numbers

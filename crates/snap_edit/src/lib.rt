@@ -1,0 +1,13 @@
+//! Edits of a page: seven kinds, applied one after another, or refused by the first fault with its index.
+//!
+//! Start with [`apply`]. Contracts say it on the nested tree: `specs/Edits.antt` has one clause for each
+//! kind.
+#![tactic(auto)]
+
+mod edit;
+mod fault;
+mod laws;
+
+pub use edit::{Edit, MOST_EDITS};
+pub use fault::{EditFault, EditKind};
+pub use laws::laws_of_edits;
