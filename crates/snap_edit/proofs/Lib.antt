@@ -1,1 +1,3 @@
 pub mod Replacing
+pub mod Setting
+pub mod Standing

@@ -2,3 +2,5 @@ pub mod Attrs
 pub mod Trees
 pub mod Edits
 pub mod Numbers
+pub mod Made
+pub mod AttrPlaces

@@ -4,9 +4,12 @@
 //! kind.
 #![tactic(auto)]
 
+mod attrs;
+mod changes;
 mod edit;
 mod fault;
 mod laws;
+mod place;
 
 pub use edit::{Edit, MOST_EDITS};
 pub use fault::{EditFault, EditKind};
