@@ -1,24 +1,24 @@
 -- A node by its place among a page's rows, and the rows of a page in which it is changed.
-use Rattle.std.proofs.Common.{◌≡◌, ℕ, ◌+◌, ◌-◌, ◌<◌, List, [], ◌∷◌, ◌++◌, length, get_or, set, Bool, true, false, Option, Some, None, Result, Ok, Err, unwrap_or, if◌then◌else◌, refl, sym, ◌∙◌, ap, subst, arith}
+use Rattle.std.proofs.Common.{◌≡◌, ℕ, suc, ◌+◌, ◌-◌, ◌<◌, List, [], ◌∷◌, ◌++◌, length, get_or, set, Bool, true, false, Option, Some, None, Result, Ok, Err, unwrap_or, if◌then◌else◌, refl, sym, ◌∙◌, ap, subst, arith}
 use Rattle.std.proofs.lemmas.List.{append-nil}
-use Rattle.std.specs.Option.{option_map_or}
+use Rattle.std.specs.Option.{option_map_or, option_map}
 use Rattle.snap_tree.specs.declared.row.NodeId.{NodeId}
 use Rattle.snap_tree.specs.declared.row.Row.{Row}
 use Rattle.snap_tree.specs.declared.row.Attr.{Attr}
 use Rattle.snap_tree.specs.declared.row.Body.{Body}
 use Rattle.snap_tree.specs.declared.row.Body.TheVariants.{Element, Words}
-use Rattle.snap_tree.specs.Trees.{Trees, empty, tree, rows_of}
+use Rattle.snap_tree.specs.Trees.{Trees, empty, tree, rows_of, count, sizes_of}
 use Rattle.snap_tree.specs.Grown.{grown}
 use Rattle.snap_tree.specs.Rows.{is_text, attrs_of}
 use Rattle.snap_tree.specs.Spots.{Spot, spot}
-use Rattle.snap_tree.specs.Places.{place_from}
+use Rattle.snap_tree.specs.Places.{place_from, HasRun, run_below}
 use Rattle.snap_tree.specs.Faults.{tree_fault}
 use Rattle.snap_tree.specs.Well.{AreApart}
 use Rattle.snap_tree.specs.Naming.{AreNamed}
 use Rattle.snap_tree.proofs.Growth.{rows_of_grown}
 use Rattle.snap_tree.proofs.Wellness.{well_from_sound}
 use Rattle.snap_tree.proofs.Naming.{named_well}
-use Rattle.snap_tree.proofs.Spotting.{spotted, stranger}
+use Rattle.snap_tree.proofs.Spotting.{spotted, stranger, runs_at}
 use Rattle.snap_edit.specs.declared.fault.EditKind.{EditKind}
 use Rattle.snap_edit.specs.declared.fault.EditKind.TheVariants.{NoNode}
 use Rattle.snap_edit.specs.Attrs.{body_with, with_attrs}
@@ -47,6 +47,9 @@ pub record Stands (rows : List Row) (n : NodeId) (place : ℕ) : Type 0 where
   pub at : length parts.before ≡ place
   pub in_range : place < length rows
   pub row : (d : Row) → get_or rows place d ≡ there.row
+  pub size : get_or (sizes_of (grown rows)) place 0 ≡ suc (count there.below)
+  pub run : HasRun place rows (sizes_of (grown rows))
+  pub below : grown (run_below place rows (sizes_of (grown rows))) ≡ there.below
 
 pub stands : (rows : List Row) (n : NodeId) (place : ℕ) → AreApart rows → place_from 0 n.0 rows ≡ Some place → Stands rows n place
 stands rows n place apart e =
@@ -56,6 +59,7 @@ stands rows n place apart e =
     let rows_are : rows ≡ p.before ++ s.there.row ∷ (rows_of s.there.below ++ p.later) = sym (rows_of_grown rows) ∙ p.rows_are in
     let first : Some (0 + length p.before) ≡ Some place = sym (place_after 0 n p.before s.there.row (rows_of s.there.below ++ p.later) p.unlike p.number) ∙ ap (place_from 0 n.0) (sym rows_are) ∙ e in
     let at : 0 + length p.before ≡ place = ap (λ o. unwrap_or o place) first in
+    let runs = runs_at rows n place e in
     record {
       there = s.there;
       is = s.is;
@@ -65,6 +69,9 @@ stands rows n place apart e =
       at = omega (arith, at);
       in_range = s.stands.in_range;
       row = s.stands.row;
+      size = s.stands.size;
+      run = runs.run;
+      below = sym (ap (λ o. option_map_or (λ t. t) o empty) (ap (option_map (λ (s : Spot). s.below)) (sym s.is) ∙ runs.below));
     }
 
 -- ---- what is said of a node by its number

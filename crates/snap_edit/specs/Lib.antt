@@ -4,3 +4,5 @@ pub mod Edits
 pub mod Numbers
 pub mod Made
 pub mod AttrPlaces
+pub mod Places
+pub mod Taken

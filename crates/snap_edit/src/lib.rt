@@ -4,12 +4,15 @@
 //! kind.
 #![tactic(auto)]
 
+mod alone;
 mod attrs;
 mod changes;
 mod edit;
 mod fault;
 mod laws;
 mod place;
+mod subtree;
+mod taken;
 
 pub use edit::{Edit, MOST_EDITS};
 pub use fault::{EditFault, EditKind};
