@@ -2,6 +2,8 @@ pub mod Replacing
 pub mod Setting
 pub mod Standing
 pub mod Putting
+pub mod Placing
+pub mod Moving
 pub mod Taking
 pub mod Numbers
 pub mod TakenAlone

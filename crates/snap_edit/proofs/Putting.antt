@@ -16,7 +16,8 @@ use Rattle.snap_edit.specs.Trees.{put_at, inserted, with_parent, hung}
 use Rattle.snap_edit.specs.Places.{after_first, child_place, hung_rows}
 use Rattle.snap_tree.proofs.Cuts.{length-rows_of, count_grown}
 use Rattle.snap_edit.proofs.Replacing.{replaced_named, spot_named, named_beside}
-use Rattle.snap_edit.proofs.Standing.{IsPage, Stands}
+use Rattle.snap_edit.specs.Made.{IsPage}
+use Rattle.snap_edit.proofs.Standing.{Stands}
 
 -- ---- trees cut after some of them
 
@@ -55,7 +56,7 @@ pub kids_of : (t : Trees) (n : NodeId) (s : Spot) → spot t n ≡ Some s → le
 kids_of t n s e = ap (λ o. length (option_map_or (λ (s : Spot). map (λ (r : Row). r.id) (roots s.below)) o [])) e ∙ length-map (roots s.below) (λ (r : Row). r.id)
 
 -- a place exceeds the number of a node's children, or the child has a place among the rows
-abbrev PutAt : List Row → NodeId → ℕ → Option ℕ → Type 0
+abbrev pub PutAt : List Row → NodeId → ℕ → Option ℕ → Type 0
 PutAt rows p k None = nat_lt (length (kids (grown rows) p)) k ≡ true
 PutAt rows p k (Some at) =
     (nat_lt (length (kids (grown rows) p)) k ≡ false) × ((at ≤ length rows) × ((others : Trees) → rows_of (inserted p k others (grown rows)) ≡ take at rows ++ (rows_of others ++ drop at rows)))

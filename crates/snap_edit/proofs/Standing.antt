@@ -24,13 +24,8 @@ use Rattle.snap_edit.specs.declared.fault.EditKind.TheVariants.{NoNode}
 use Rattle.snap_edit.specs.Attrs.{body_with, with_attrs}
 use Rattle.snap_edit.specs.Trees.{replaced, changed}
 use Rattle.snap_edit.specs.Edits.{at}
-use Rattle.snap_edit.specs.Made.{Makes}
+use Rattle.snap_edit.specs.Made.{IsPage, Makes}
 use Rattle.snap_edit.proofs.Replacing.{Finds, finds, Parts, parts, replaced_named, spot_named, place_after, set_after}
-
--- rows whose numbers differ and which name the nodes above them, as a page's do
-pub record IsPage (rows : List Row) : Type 0 where
-  pub apart : AreApart rows
-  pub named : AreNamed None (grown rows)
 
 pub page_of_sound : (rows : List Row) → tree_fault rows ≡ None → IsPage rows
 page_of_sound rows h =

@@ -19,10 +19,11 @@ use Rattle.snap_edit.specs.Trees.{without}
 use Rattle.snap_edit.specs.Edits.{is_root, is_within}
 use Rattle.snap_edit.specs.Places.{size_at, subtree_at, rest_without}
 use Rattle.snap_edit.proofs.Replacing.{replaced_named, spot_named}
-use Rattle.snap_edit.proofs.Standing.{IsPage, Stands}
+use Rattle.snap_edit.specs.Made.{IsPage}
+use Rattle.snap_edit.proofs.Standing.{Stands}
 
 -- the first and the last of three runs of rows whose numbers differ
-any_less : (n : NodeId) (xs ys zs : List Row) → list_any (has_number n) (xs ++ (ys ++ zs)) ≡ false → list_any (has_number n) (xs ++ zs) ≡ false
+pub any_less : (n : NodeId) (xs ys zs : List Row) → list_any (has_number n) (xs ++ (ys ++ zs)) ≡ false → list_any (has_number n) (xs ++ zs) ≡ false
 any_less n xs ys zs h =
     let outer = or_false (list_any (has_number n) xs) (list_any (has_number n) (ys ++ zs)) (sym (any_append n xs (ys ++ zs)) ∙ h) in
     let inner = or_false (list_any (has_number n) ys) (list_any (has_number n) zs) (sym (any_append n ys zs) ∙ outer.1) in

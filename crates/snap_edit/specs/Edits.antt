@@ -39,9 +39,9 @@ is_within n s = list_any (has_number n) (s.row ∷ rows_of s.below)
 abbrev pub has_taken : Trees → List Row → Bool
 has_taken t rows = list_any (λ r. is_some (spot t r.id)) rows
 
--- other trees go below a node that the trees hold, where it has so many children
-abbrev pub put_in : Trees → NodeId → ℕ → Trees → Result Trees EditKind
-put_in t p place others = if nat_lt (length (kids t p)) place then Err PlaceOut else Ok (inserted p place others t)
+-- what follows where the trees have an element of this number with so many children
+abbrev pub in_place : Trees → NodeId → ℕ → Result Trees EditKind → Result Trees EditKind
+in_place t p place next = at t p (λ parent. if is_text parent.row then Err NotElement else (if nat_lt (length (kids t p)) place then Err PlaceOut else next))
 
 -- the first fault of rows whose first row is a text, where a text may be the root: the later ones have
 -- no parent that is open but a text, and a text alone refers to nothing
@@ -66,20 +66,14 @@ effect t (SetAttr n name value) = at t n (λ s. if is_text s.row then Err NotEle
 effect t (DropAttr n name) = at t n (λ s. if is_text s.row then Err NotElement else Ok (changed n (with_attrs (attrs_without name)) t))
 effect t (SetText n text) = at t n (λ s. if is_text s.row then Ok (changed n (with_text text) t) else Err NotText)
 effect t (SetFacts n facts) = at t n (λ s. Ok (changed n (with_facts facts) t))
-effect t (Insert p place rows) =
-    at t p (λ parent.
-    if is_text parent.row then Err NotElement
-    else (if nat_lt (length (kids t p)) place then Err PlaceOut
-    else (if has_taken t rows then Err NumberTaken
-    else taken_alone rows (λ others. Ok (inserted p place (hung p others) t)))))
+effect t (Insert p place rows) = in_place t p place (if has_taken t rows then Err NumberTaken else taken_alone rows (λ others. Ok (inserted p place (hung p others) t)))
 effect t (Remove n) = at t n (λ s. if is_root s then Err RootMoved else Ok (without n t))
 effect t (Move n p place) =
     at t n (λ s.
     if is_root s then Err RootMoved
-    else at t p (λ parent.
+    else at t p (λ _.
     if is_within p s then Err IntoItself
-    else (if is_text parent.row then Err NotElement
-    else put_in (without n t) p place (hung p (tree s.row s.below empty)))))
+    else in_place (without n t) p place (Ok (inserted p place (hung p (tree s.row s.below empty)) (without n t)))))
 
 -- trees without a fault, or the first one of their rows
 unfoldable pub settled : Trees → Result Trees EditKind

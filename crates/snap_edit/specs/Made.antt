@@ -2,10 +2,17 @@
 use Rattle.std.specs.Prelude.{◌≡◌, List, None, Result, Ok, Err}
 use Rattle.snap_tree.specs.declared.row.Row.{Row}
 use Rattle.snap_tree.specs.Trees.{Trees, rows_of}
+use Rattle.snap_tree.specs.Grown.{grown}
+use Rattle.snap_tree.specs.Well.{AreApart}
 use Rattle.snap_tree.specs.Naming.{AreNamed}
 use Rattle.snap_edit.specs.declared.fault.EditKind.{EditKind}
 use Rattle.snap_edit.specs.declared.fault.Refusal.{Refusal}
 use Rattle.snap_edit.specs.declared.fault.Refusal.TheVariants.{Kind, OutOfMemory}
+
+-- rows whose numbers differ and which name the nodes above them, as a page's do
+pub record IsPage (rows : List Row) : Type 0 where
+  pub apart : AreApart rows
+  pub named : AreNamed None (grown rows)
 
 -- these are the rows of the answered trees, in which each node names the one above it
 abbrev pub Makes : List Row → Result Trees EditKind → Type 0

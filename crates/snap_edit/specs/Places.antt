@@ -1,11 +1,14 @@
 -- Places among the rows of a page.
-use Rattle.std.specs.Prelude.{ℕ, zero, suc, ◌+◌, ◌-◌, List, [], ◌∷◌, ◌++◌, take, drop, slice_index, Option, Some, None}
+use Rattle.std.specs.Prelude.{◌≡◌, ◌≤◌, ℕ, zero, suc, ◌+◌, ◌-◌, List, [], ◌∷◌, ◌++◌, length, take, drop, slice_index, Option, Some, None, Result}
 use Rattle.std.specs.Option.{option_map}
 use Rattle.snap_tree.specs.declared.row.NodeId.{NodeId}
 use Rattle.snap_tree.specs.declared.row.Row.{Row}
-use Rattle.snap_tree.specs.Trees.{Trees, empty, tree, count, sizes_of}
+use Rattle.snap_tree.specs.Trees.{Trees, empty, tree, rows_of, count, sizes_of}
 use Rattle.snap_tree.specs.Grown.{grown}
-use Rattle.snap_edit.specs.Trees.{with_parent}
+use Rattle.snap_tree.specs.Naming.{AreNamed}
+use Rattle.snap_edit.specs.declared.fault.EditKind.{EditKind}
+use Rattle.snap_edit.specs.Trees.{inserted, with_parent}
+use Rattle.snap_edit.specs.Edits.{in_place}
 
 -- the trees after this many, where there are so many
 abbrev pub after_first : ℕ → Trees → Option Trees
@@ -33,3 +36,10 @@ rest_without rows place = take place rows ++ drop (size_at rows place) (drop pla
 abbrev pub hung_rows : NodeId → List Row → List Row
 hung_rows p [] = []
 hung_rows p (r ∷ rows) = with_parent p r ∷ rows
+
+-- where other trees are put in below a node as a child that has so many before it, their rows begin here
+pub record IsPlaceIn (rows : List Row) (p : NodeId) (k at : ℕ) : Type 0 where
+  pub follows : (next : Result Trees EditKind) → in_place (grown rows) p k next ≡ next
+  pub fits : at ≤ length rows
+  pub rows_are : (others : Trees) → rows_of (inserted p k others (grown rows)) ≡ take at rows ++ (rows_of others ++ drop at rows)
+  pub named : (others : Trees) → AreNamed (Some p) others → AreNamed None (inserted p k others (grown rows))

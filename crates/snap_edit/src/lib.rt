@@ -10,6 +10,7 @@ mod changes;
 mod edit;
 mod fault;
 mod laws;
+mod moves;
 mod place;
 mod subtree;
 mod taken;

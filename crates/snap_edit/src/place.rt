@@ -1,4 +1,4 @@
-ghost use Rattle.std.specs.Prelude.{◌≡◌};
+ghost use Rattle.std.specs.Prelude.{◌≡◌, ◌<◌, length, slice_index_or};
 ghost use Rattle.snap_tree.specs.Places.{place_from};
 
 use snap_tree::{NodeId, Row};
@@ -17,4 +17,12 @@ pub(crate) fn place_of(rows: &[Row], n: NodeId) -> Option<usize>
         rest = later;
     }
     None
+}
+
+/// The row at a place.
+pub(crate) fn row_at(rows: &[Row], place: usize) -> &Row
+    requires { place < length rows.now }
+    ensures { result.now ≡ slice_index_or rows.now place result.now }
+{
+    &rows[place]
 }

@@ -1,9 +1,14 @@
-ghost use Rattle.std.specs.Prelude.{◌≡◌, ◌≤◌, ◌++◌, IfOk, OnOk, take, drop, vec_len};
-ghost use Rattle.snap_tree.specs.Trees.{sizes_of};
+ghost use Rattle.std.specs.Prelude.{◌≡◌, ◌≤◌, ◌++◌, Result, IfOk, IfErr, OnOk, take, drop, vec_len};
+ghost use Rattle.snap_tree.specs.Trees.{Trees, sizes_of};
 ghost use Rattle.snap_tree.specs.Grown.{grown};
 ghost use Rattle.snap_tree.specs.Places.{HasRun, run_below};
-ghost use Rattle.snap_edit.specs.Places.{after_first, child_place, subtree_at, rest_without, hung_rows};
+ghost use Rattle.snap_edit.specs.Places.{after_first, child_place, subtree_at, rest_without, hung_rows, IsPlaceIn};
+ghost use Rattle.snap_edit.specs.declared.fault.EditKind.{EditKind};
+ghost use Rattle.snap_edit.specs.Edits.{in_place};
+ghost use Rattle.snap_edit.specs.Made.{IsPage, Declines};
 
+use crate::fault::{EditKind, Refusal};
+use crate::place::{place_of, row_at};
 use snap_tree::{Branches, NodeId, OutOfMemory, Row, run_below, sizes_of};
 use std::alloc::Global;
 
@@ -39,9 +44,9 @@ fn after_first(trees: Branches<'_>, count: u32) -> Option<Branches<'_>>
     Some(rest)
 }
 
-/// The place of the row where a child begins that has so many before it, given its parent's place; None
+// The place of the row where a child begins that has so many before it, given its parent's place; None
 /// where the parent has fewer children.
-pub(crate) fn place_below(
+fn place_below(
     alloc: Global,
     rows: &[Row],
     parent: usize,
@@ -59,23 +64,46 @@ pub(crate) fn place_below(
     }
 }
 
-/// Puts rows in at a place.
-pub(crate) fn put_rows(rows: &mut Vec<Row>, place: usize, new: Vec<Row>) -> Result<(), OutOfMemory>
-    requires { place ≤ vec_len rows.old }
-    ensures { OnOk result (rows.new.items ≡ take place rows.old.items ++ (new.items ++ drop place rows.old.items)) }
+/// The place where a new child of a node begins that has so many before it; or its NoNode, NotElement or
+/// PlaceOut.
+pub(crate) fn place_in(
+    alloc: Global,
+    rows: &[Row],
+    parent: NodeId,
+    count: u32,
+) -> Result<usize, Refusal>
+    requires { IsPage rows.now }
+    ensures place { IfOk result (λ place. IsPlaceIn rows.now parent count place) }
+    ensures refused { IfErr result (λ f. (next : Result Trees EditKind) → Declines f (in_place (grown rows.now) parent count next)) }
 {
-    let mut new = new;
-    let mut later = rows.split_off(place)?;
-    rows.append(&mut new)?;
-    rows.append(&mut later)?;
-    Ok(())
+    let Some(above) = place_of(rows, parent) else {
+        return Err(Refusal::Kind(EditKind::NoNode));
+    };
+    if row_at(rows, above).is_text() {
+        return Err(Refusal::Kind(EditKind::NotElement));
+    }
+    match place_below(alloc, rows, above, count)? {
+        Some(place) => Ok(place),
+        None => Err(Refusal::Kind(EditKind::PlaceOut)),
+    }
 }
 
-/// Makes the first row a child of a node.
-pub(crate) fn hang(rows: &mut Vec<Row>, parent: NodeId)
-    ensures { rows.new.items ≡ hung_rows parent rows.old.items }
+/// Puts rows in at a place, as a node's child.
+pub(crate) fn put_in(
+    rows: &mut Vec<Row>,
+    place: usize,
+    subtree: Vec<Row>,
+    parent: NodeId,
+) -> Result<(), OutOfMemory>
+    requires { place ≤ vec_len rows.old }
+    ensures { OnOk result (rows.new.items ≡ take place rows.old.items ++ (hung_rows parent subtree.items ++ drop place rows.old.items)) }
 {
-    if let Some(root) = rows.first_mut() {
+    let mut subtree = subtree;
+    if let Some(root) = subtree.first_mut() {
         root.parent = Some(parent);
     }
+    let mut later = rows.split_off(place)?;
+    rows.append(&mut subtree)?;
+    rows.append(&mut later)?;
+    Ok(())
 }
