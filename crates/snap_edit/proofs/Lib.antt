@@ -4,6 +4,7 @@ pub mod Standing
 pub mod Putting
 pub mod Placing
 pub mod Moving
+pub mod Settling
 pub mod Taking
 pub mod Numbers
 pub mod TakenAlone

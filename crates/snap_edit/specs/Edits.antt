@@ -97,6 +97,11 @@ abbrev pub edited_from : ℕ → List Edit → Trees → Result Trees EditFault
 edited_from index [] t = Ok t
 edited_from index (e ∷ edits) t = followed index (edited_from (index + 1) edits) (edited t e)
 
+-- a list's answer, and then more edits
+abbrev pub continued : ℕ → List Edit → Result Trees EditFault → Result Trees EditFault
+continued index edits (Err fault) = Err fault
+continued index edits (Ok t) = edited_from index edits t
+
 -- the trees after a list of edits, or the first fault with its index
 abbrev pub edited_all : Trees → List Edit → Result Trees EditFault
 edited_all t edits = if nat_lt most_edits (length edits) then Err (At most_edits TooManyEdits) else edited_from 0 edits t

@@ -6,3 +6,4 @@ pub mod Made
 pub mod AttrPlaces
 pub mod Places
 pub mod Taken
+pub mod Laws

@@ -4,7 +4,8 @@ ghost use Rattle.snap_tree.specs.Rows.{is_text};
 ghost use Rattle.snap_tree.specs.Faults.{rows_fault};
 ghost use Rattle.snap_edit.specs.Edits.{text_fault, alone_fault};
 
-use snap_tree::{BuildFault, MOST_NODES, OutOfMemory, Row, TreeFault, judge, own_fault};
+use crate::judged::tree_fault;
+use snap_tree::{MOST_NODES, OutOfMemory, Row, TreeFault, own_fault};
 use std::alloc::Global;
 
 // Whether a row names another as its parent.
@@ -60,9 +61,5 @@ pub(crate) fn alone_fault(alloc: Global, rows: &[Row]) -> Result<Option<TreeFaul
             return Ok(text_fault(root, later));
         }
     }
-    match judge(alloc, rows) {
-        Ok(()) => Ok(None),
-        Err(BuildFault::Tree(fault)) => Ok(Some(fault)),
-        Err(BuildFault::OutOfMemory) => Err(OutOfMemory),
-    }
+    tree_fault(alloc, rows)
 }

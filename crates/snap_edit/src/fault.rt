@@ -1,5 +1,6 @@
 ghost use Rattle.std.specs.Prelude.{◌≡◌};
 ghost use Rattle.snap_edit.specs.declared.fault.Refusal.TheVariants.{OutOfMemory};
+ghost use Rattle.snap_edit.specs.declared.fault.EditFault.TheVariants as fault;
 ghost use Rattle.snap_edit.specs.Numbers.{kind_number};
 
 use snap_tree::TreeFault;
@@ -53,6 +54,14 @@ pub enum EditFault {
     /// The edit of this index, counted from 0, has the fault.
     At { index: u32, kind: EditKind },
     OutOfMemory,
+}
+
+impl From<snap_tree::OutOfMemory> for EditFault {
+    ghost from_gives = { λ _ f. f ≡ fault.OutOfMemory };
+
+    fn from(_error: snap_tree::OutOfMemory) -> Self {
+        EditFault::OutOfMemory
+    }
 }
 
 /// Why one edit isn't carried out.

@@ -5,16 +5,20 @@
 #![tactic(auto)]
 
 mod alone;
+
 mod attrs;
 mod changes;
 mod edit;
+mod edits;
 mod fault;
+mod judged;
 mod laws;
 mod moves;
 mod place;
 mod subtree;
 mod taken;
 
+pub use edits::apply;
 pub use edit::{Edit, MOST_EDITS};
 pub use fault::{EditFault, EditKind};
 pub use laws::laws_of_edits;
