@@ -5,6 +5,7 @@ pub mod Putting
 pub mod Placing
 pub mod Moving
 pub mod Settling
+pub mod Undoing
 pub mod Taking
 pub mod Numbers
 pub mod TakenAlone

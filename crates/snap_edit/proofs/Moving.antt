@@ -1,13 +1,13 @@
 -- Subtrees removed, inserted and moved.
-use Rattle.std.proofs.Common.{◌≡◌, ◌==◌, ℕ, ◌≤◌, List, [], ◌∷◌, ◌++◌, length, get_or, take, drop, Bool, true, false, ◌||◌, Option, Some, None, Result, Ok, Err, if◌then◌else◌, refl, sym, ◌∙◌, ap, subst}
-use Rattle.std.specs.Option.{is_none, is_some, option_map, option_map_or, option_or}
-use Rattle.std.specs.List.{list_any, find}
+use Rattle.std.proofs.Common.{◌≡◌, ℕ, List, [], ◌∷◌, ◌++◌, get_or, take, drop, Bool, true, false, ◌||◌, Option, Some, None, Result, Ok, Err, if◌then◌else◌, refl, sym, ◌∙◌, ap, subst}
+use Rattle.std.specs.Option.{is_none, is_some, option_map_or}
+use Rattle.std.specs.List.{list_any}
 use Rattle.snap_tree.specs.declared.row.NodeId.{NodeId}
 use Rattle.snap_tree.specs.declared.row.Row.{Row}
 use Rattle.snap_tree.specs.Trees.{Trees, empty, tree, rows_of}
 use Rattle.snap_tree.specs.Grown.{grown}
 use Rattle.snap_tree.specs.Rows.{has_number}
-use Rattle.snap_tree.specs.Spots.{Spot, spot, number_of}
+use Rattle.snap_tree.specs.Spots.{Spot, spot}
 use Rattle.snap_tree.specs.Places.{place_from}
 use Rattle.snap_tree.specs.Naming.{AreNamed}
 use Rattle.snap_tree.proofs.Growth.{rows_of_grown}
@@ -15,7 +15,7 @@ use Rattle.snap_edit.specs.declared.fault.EditKind.{EditKind}
 use Rattle.snap_edit.specs.declared.fault.EditKind.TheVariants.{NoNode, NumberTaken, RootMoved, IntoItself, Tree}
 use Rattle.snap_edit.specs.Trees.{without, inserted, hung}
 use Rattle.snap_edit.specs.Edits.{at, is_root, is_within, in_place, has_taken, alone_fault, taken_alone}
-use Rattle.snap_edit.specs.Places.{subtree_at, rest_without, hung_rows, IsPlaceIn}
+use Rattle.snap_edit.specs.Places.{rest_without, hung_rows, IsPlaceIn}
 use Rattle.snap_edit.specs.Made.{IsPage, Makes}
 use Rattle.snap_edit.proofs.Standing.{Stands, at_found}
 use Rattle.snap_edit.proofs.Putting.{hung_rows_of}

@@ -7,7 +7,7 @@ use Rattle.std.specs.Ordering.{nat_cmp}
 use Rattle.std.specs.BTreeSet.{BTreeSet, contains}
 use Rattle.snap_tree.specs.declared.row.NodeId.{NodeId}
 use Rattle.snap_tree.specs.declared.row.Row.{Row}
-use Rattle.snap_tree.specs.Trees.{Trees, rows_of}
+use Rattle.snap_tree.specs.Trees.{rows_of}
 use Rattle.snap_tree.specs.Grown.{grown}
 use Rattle.snap_tree.specs.Rows.{has_number}
 use Rattle.snap_tree.specs.Spots.{Spot, spot}

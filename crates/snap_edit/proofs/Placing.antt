@@ -1,16 +1,14 @@
 -- The place of a new child among the rows of a page.
-use Rattle.std.proofs.Common.{◌≡◌, ℕ, ◌≤◌, List, length, get_or, take, drop, ◌++◌, Bool, true, false, nat_lt, Option, Some, None, Result, Ok, Err, if◌then◌else◌, refl, sym, ◌∙◌, ap, subst}
+use Rattle.std.proofs.Common.{◌≡◌, ℕ, List, length, get_or, true, false, nat_lt, Option, Some, None, Result, Err, if◌then◌else◌, sym, ◌∙◌, ap, subst}
 use Rattle.snap_tree.specs.declared.row.NodeId.{NodeId}
 use Rattle.snap_tree.specs.declared.row.Row.{Row}
-use Rattle.snap_tree.specs.Trees.{Trees, rows_of, sizes_of}
+use Rattle.snap_tree.specs.Trees.{Trees, sizes_of}
 use Rattle.snap_tree.specs.Grown.{grown}
 use Rattle.snap_tree.specs.Rows.{is_text}
 use Rattle.snap_tree.specs.Spots.{kids}
 use Rattle.snap_tree.specs.Places.{run_below}
-use Rattle.snap_tree.specs.Naming.{AreNamed}
 use Rattle.snap_edit.specs.declared.fault.EditKind.{EditKind}
 use Rattle.snap_edit.specs.declared.fault.EditKind.TheVariants.{NotElement, PlaceOut}
-use Rattle.snap_edit.specs.Trees.{inserted}
 use Rattle.snap_edit.specs.Edits.{in_place}
 use Rattle.snap_edit.specs.Places.{child_place, IsPlaceIn}
 use Rattle.snap_edit.specs.Made.{IsPage}

@@ -1,18 +1,18 @@
 -- Trees put in below a node, and the rows that this gives.
-use Rattle.std.proofs.Common.{◌≡◌, ◌==◌, ℕ, zero, suc, ◌+◌, ◌-◌, ◌<◌, ◌≤◌, List, [], ◌∷◌, ◌++◌, length, map, take, drop, slice_index, Bool, true, false, nat_lt, Option, Some, None, if◌then◌else◌, refl, sym, ◌∙◌, ap, subst, arith, append_assoc}
+use Rattle.std.proofs.Common.{◌≡◌, ℕ, zero, suc, ◌+◌, ◌-◌, ◌<◌, ◌≤◌, List, [], ◌∷◌, ◌++◌, length, map, take, drop, slice_index, true, false, nat_lt, Option, Some, None, refl, sym, ◌∙◌, ap, subst, arith, append_assoc}
 use Rattle.std.proofs.lemmas.List.{append-nil, take_at, drop_at, length-append, length-map, length-take-le, length-drop}
 use Rattle.std.proofs.lemmas.Bool.Decides.{nat_tests}
 use Rattle.std.specs.Option.{option_map, option_map_or}
 use Rattle.snap_tree.specs.declared.row.NodeId.{NodeId}
 use Rattle.snap_tree.specs.declared.row.Row.{Row}
-use Rattle.snap_tree.specs.Trees.{Trees, empty, tree, rows_of, count, beside}
+use Rattle.snap_tree.specs.Trees.{Trees, empty, tree, rows_of, count}
 use Rattle.snap_tree.specs.Grown.{grown}
 use Rattle.snap_tree.specs.Rows.{has_number}
-use Rattle.snap_tree.specs.Spots.{Spot, spot, roots, kids, number_of}
+use Rattle.snap_tree.specs.Spots.{Spot, spot, roots, kids}
 use Rattle.snap_tree.specs.Places.{HasRun, run_below}
 use Rattle.snap_tree.specs.Naming.{AreNamed}
 use Rattle.snap_tree.proofs.Growth.{rows_of-beside}
-use Rattle.snap_edit.specs.Trees.{put_at, inserted, with_parent, hung}
+use Rattle.snap_edit.specs.Trees.{put_at, inserted, hung}
 use Rattle.snap_edit.specs.Places.{after_first, child_place, hung_rows}
 use Rattle.snap_tree.proofs.Cuts.{length-rows_of, count_grown}
 use Rattle.snap_edit.proofs.Replacing.{replaced_named, spot_named, named_beside}
@@ -68,16 +68,21 @@ put_found rows p place k h rest s =
     let ends = rows_of rest ++ h.parts.later in
     let at = place + 1 + (count h.there.below - count rest) in
     let cut : rows ≡ begins ++ ends =
-        h.rows_are ∙ ap (λ below. h.parts.before ++ r ∷ (below ++ h.parts.later)) s.rows_are ∙ ap (λ rows. h.parts.before ++ r ∷ rows) (append_assoc s.front (rows_of rest) h.parts.later) ∙ sym (append_assoc h.parts.before (r ∷ s.front) ends)
+    h.rows_are ∙ ap (λ below. h.parts.before ++ r ∷ (below ++ h.parts.later)) s.rows_are ∙ ap (λ rows. h.parts.before ++ r ∷ rows) (append_assoc s.front (rows_of rest) h.parts.later) ∙ sym (append_assoc h.parts.before (r ∷ s.front) ends)
     in
     let long : length begins ≡ at = omega (arith, length-append h.parts.before (r ∷ s.front), h.at, s.counted) in
     let first : take at rows ≡ begins = ap (take at) cut ∙ take_at begins ends at long in
     let last : drop at rows ≡ ends = ap (drop at) cut ∙ drop_at begins ends at long in
-    let few : k ≤ length (kids (grown rows) p) = omega (arith, s.enough, kids_of (grown rows) p h.there h.is) in
-    (grind (arith, nat_tests, few), (omega (arith, long, ap length cut, length-append begins ends), λ others.
-    h.parts.new_rows (λ r kids. tree r (put_at k others kids) empty) ∙ ap (λ rows. h.parts.before ++ r ∷ (rows ++ h.parts.later)) (append-nil (rows_of (put_at k others h.there.below)) ∙ s.put others)
-    ∙ ap (λ rows. h.parts.before ++ r ∷ rows) (append_assoc s.front (rows_of others ++ rows_of rest) h.parts.later ∙ ap (λ rows. s.front ++ rows) (append_assoc (rows_of others) (rows_of rest) h.parts.later))
-    ∙ sym (append_assoc h.parts.before (r ∷ s.front) (rows_of others ++ ends)) ∙ ap (λ front. front ++ (rows_of others ++ ends)) (sym first) ∙ ap (λ back. take at rows ++ (rows_of others ++ back)) (sym last)))
+    let few : k ≤ length (kids (grown rows) p) = omega (arith, s.enough, kids_of (grown rows) p h.there h.is) in (
+      grind (arith, nat_tests, few),
+      (
+        omega (arith, long, ap length cut, length-append begins ends),
+        λ others.
+            h.parts.new_rows (λ r kids. tree r (put_at k others kids) empty) ∙ ap (λ rows. h.parts.before ++ r ∷ (rows ++ h.parts.later)) (append-nil (rows_of (put_at k others h.there.below)) ∙ s.put others)
+            ∙ ap (λ rows. h.parts.before ++ r ∷ rows) (append_assoc s.front (rows_of others ++ rows_of rest) h.parts.later ∙ ap (λ rows. s.front ++ rows) (append_assoc (rows_of others) (rows_of rest) h.parts.later))
+            ∙ sym (append_assoc h.parts.before (r ∷ s.front) (rows_of others ++ ends)) ∙ ap (λ front. front ++ (rows_of others ++ ends)) (sym first) ∙ ap (λ back. take at rows ++ (rows_of others ++ back)) (sym last),
+      ),
+    )
 
 put_by : (rows : List Row) (p : NodeId) (place k : ℕ) (h : Stands rows p place) (o : Option Trees) → after_first k h.there.below ≡ o → PutAt rows p k (option_map (λ rest. place + 1 + (count h.there.below - count rest)) o)
 put_by rows p place k h None e =
@@ -116,7 +121,7 @@ pub rest_fits : (k : ℕ) (t rest : Trees) → after_first k t ≡ Some rest →
 rest_fits k t rest e = omega (arith, (split k t rest e).counted)
 
 pub run_fits : (place : ℕ) (rows : List Row) (sizes : List ℕ) → HasRun place rows sizes → place + 1 + count (grown (run_below place rows sizes)) ≤ length rows
-run_fits place rows sizes run = 
+run_fits place rows sizes run =
     let back : length (drop (place + 1) rows) ≡ length rows - (place + 1) = length-drop (place + 1) rows in
     let enough : slice_index sizes place - 1 ≤ length (drop (place + 1) rows) = omega (arith, run.counted, run.fits) in
     omega (arith, run.counted, run.fits, count_grown (run_below place rows sizes), length-take-le (slice_index sizes place - 1) (drop (place + 1) rows) enough)

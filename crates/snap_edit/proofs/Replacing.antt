@@ -1,6 +1,5 @@
 -- The first node of a number, and the rows of trees in which others stand in its place.
 use Rattle.std.proofs.Common.{◌≡◌, ℕ, ◌+◌, ◌==◌, List, [], ◌∷◌, ◌++◌, length, set, Bool, true, false, ◌||◌, Option, Some, None, unwrap_or, refl, sym, ◌∙◌, ap, subst, arith, inl, inr, ◌⊎◌, append_assoc, add-zero}
-use Rattle.std.proofs.lemmas.List.{append-nil}
 use Rattle.std.specs.List.{list_any}
 use Rattle.snap_tree.specs.declared.row.NodeId.{NodeId}
 use Rattle.snap_tree.specs.declared.row.Row.{Row}
@@ -12,7 +11,7 @@ use Rattle.snap_tree.specs.Well.{AreApart}
 use Rattle.snap_tree.specs.Naming.{AreNamed}
 use Rattle.snap_tree.proofs.Growth.{rows_of-beside}
 use Rattle.snap_tree.proofs.Climbing.{any_append, or_false, apart_append, later_number, spot_any}
-use Rattle.snap_edit.specs.Trees.{replaced, changed}
+use Rattle.snap_edit.specs.Trees.{replaced}
 
 -- the trees hold this spot of the number, and no other node of it
 abbrev pub Finds : NodeId → List Row → Trees → Spot → Type 0

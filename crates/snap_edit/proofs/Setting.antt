@@ -1,5 +1,5 @@
 -- Attributes set and taken out at the place of their name.
-use Rattle.std.proofs.Common.{◌≡◌, ℕ, suc, ◌+◌, ◌-◌, ◌<◌, ◌≤◌, List, [], ◌∷◌, ◌++◌, length, get_or, set, Bool, true, false, Option, Some, None, if◌then◌else◌, refl, sym, ◌∙◌, ap, subst, arith, add-zero}
+use Rattle.std.proofs.Common.{◌≡◌, ℕ, suc, ◌+◌, ◌-◌, ◌<◌, ◌≤◌, List, [], ◌∷◌, ◌++◌, length, get_or, set, Bool, true, false, Some, None, refl, ap, subst, arith}
 use Rattle.std.specs.List.{remove}
 use Rattle.snap_tree.specs.declared.row.Attr.{Attr}
 use Rattle.snap_tree.specs.Rows.{same_folded}

@@ -1,5 +1,5 @@
 -- A node by its place among a page's rows, and the rows of a page in which it is changed.
-use Rattle.std.proofs.Common.{◌≡◌, ℕ, suc, ◌+◌, ◌-◌, ◌<◌, List, [], ◌∷◌, ◌++◌, length, get_or, set, Bool, true, false, Option, Some, None, Result, Ok, Err, unwrap_or, if◌then◌else◌, refl, sym, ◌∙◌, ap, subst, arith}
+use Rattle.std.proofs.Common.{◌≡◌, ℕ, suc, ◌+◌, ◌<◌, List, [], ◌∷◌, ◌++◌, length, get_or, set, Bool, Some, None, Result, Ok, Err, unwrap_or, if◌then◌else◌, refl, sym, ◌∙◌, ap, subst, arith}
 use Rattle.std.proofs.lemmas.List.{append-nil}
 use Rattle.std.specs.Option.{option_map_or, option_map}
 use Rattle.snap_tree.specs.declared.row.NodeId.{NodeId}
@@ -22,7 +22,7 @@ use Rattle.snap_tree.proofs.Spotting.{spotted, stranger, runs_at}
 use Rattle.snap_edit.specs.declared.fault.EditKind.{EditKind}
 use Rattle.snap_edit.specs.declared.fault.EditKind.TheVariants.{NoNode}
 use Rattle.snap_edit.specs.Attrs.{body_with, with_attrs}
-use Rattle.snap_edit.specs.Trees.{replaced, changed}
+use Rattle.snap_edit.specs.Trees.{changed}
 use Rattle.snap_edit.specs.Edits.{at}
 use Rattle.snap_edit.specs.Made.{IsPage, Makes}
 use Rattle.snap_edit.proofs.Replacing.{Finds, finds, Parts, parts, replaced_named, spot_named, place_after, set_after}
@@ -117,7 +117,7 @@ pub makes_attrs : (rows new : List Row) (n : NodeId) (place : ℕ) (f : List Att
     → new ≡ set rows place (with_attrs (λ _. attrs) (get_or rows place row)) → answer ≡ Ok (changed n (with_attrs f) (grown rows)) → Makes new answer
 makes_attrs rows new n place f row attrs answer sound h r a e ans =
     let is : new ≡ set rows place (with_attrs f h.there.row) =
-        e ∙ ap (λ r. set rows place (with_attrs (λ _. attrs) r)) (sym r) ∙ ap (λ attrs. set rows place (with_attrs (λ _. attrs) row)) a ∙ ap (set rows place) (with_found f row) ∙ ap (λ r. set rows place (with_attrs f r)) (r ∙ h.row row)
+    e ∙ ap (λ r. set rows place (with_attrs (λ _. attrs) r)) (sym r) ∙ ap (λ attrs. set rows place (with_attrs (λ _. attrs) row)) a ∙ ap (set rows place) (with_found f row) ∙ ap (λ r. set rows place (with_attrs f r)) (r ∙ h.row row)
     in
     subst (λ rs. Makes rs answer) (sym is) (makes_changed rows n place (with_attrs f) answer (page_of_sound rows sound) h (record { id = refl; parent = refl }) ans)
 

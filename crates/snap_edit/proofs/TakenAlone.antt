@@ -1,5 +1,5 @@
 -- Rows taken alone: the faults of those below a text, and the trees of those without a fault.
-use Rattle.std.proofs.Common.{◌≡◌, ◌==◌, ℕ, suc, ◌+◌, ◌<◌, ◌≤◌, List, [], ◌∷◌, ◌++◌, length, Bool, true, false, ◌||◌, nat_lt, Option, Some, None, if◌then◌else◌, refl, sym, ◌∙◌, ap, subst, arith}
+use Rattle.std.proofs.Common.{◌≡◌, ◌==◌, ℕ, List, [], ◌∷◌, length, Bool, true, false, ◌||◌, nat_lt, Option, Some, None, if◌then◌else◌, refl, sym, ◌∙◌, ap, subst, arith}
 use Rattle.std.proofs.lemmas.Bool.Decides.{nat_tests}
 use Rattle.std.specs.Option.{option_or, is_some}
 use Rattle.std.specs.List.{list_any}
@@ -7,17 +7,16 @@ use Rattle.snap_tree.specs.declared.row.NodeId.{NodeId}
 use Rattle.snap_tree.specs.declared.row.Row.{Row}
 use Rattle.snap_tree.specs.declared.fault.TreeFault.{TreeFault}
 use Rattle.snap_tree.specs.declared.fault.TreeFault.TheVariants.{DoubleNumber, ParentUnknownOrNotOpen, TextHasKids, TooMany}
-use Rattle.snap_tree.specs.Trees.{Trees, empty, tree, rows_of}
+use Rattle.snap_tree.specs.Trees.{Trees, empty, tree}
 use Rattle.snap_tree.specs.Grown.{names, grown}
 use Rattle.snap_tree.specs.Rows.{has_number, is_text, own_fault}
-use Rattle.snap_tree.specs.Faults.{from_parent, place_fault, row_fault, rows_fault, tree_fault, most_nodes}
-use Rattle.snap_tree.specs.Well.{IsWell, HasRoot}
+use Rattle.snap_tree.specs.Faults.{place_fault, row_fault, rows_fault, tree_fault, most_nodes}
+use Rattle.snap_tree.specs.Well.{HasRoot}
 use Rattle.snap_tree.specs.Naming.{AreNamed}
-use Rattle.snap_tree.proofs.Growth.{rows_of_grown}
 use Rattle.snap_tree.proofs.Entering.{row_fault_double, row_fault_new}
 use Rattle.snap_tree.proofs.Wellness.{well_from_sound}
 use Rattle.snap_tree.proofs.Naming.{named_well}
-use Rattle.snap_edit.specs.Trees.{with_parent, hung}
+use Rattle.snap_edit.specs.Trees.{hung}
 use Rattle.snap_edit.specs.Edits.{text_fault, alone_fault}
 
 -- ---- below a text

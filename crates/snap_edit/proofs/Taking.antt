@@ -1,22 +1,21 @@
 -- A subtree taken out, and the rows that this leaves.
-use Rattle.std.proofs.Common.{◌≡◌, ◌==◌, ℕ, suc, ◌+◌, ◌-◌, ◌<◌, ◌≤◌, List, [], ◌∷◌, ◌++◌, length, get_or, take, drop, Bool, true, false, ◌||◌, Option, Some, None, if◌then◌else◌, refl, sym, ◌∙◌, ap, subst, arith, append_assoc}
-use Rattle.std.proofs.lemmas.List.{take_at, drop_at, length-append}
-use Rattle.std.specs.Option.{option_map, option_or, option_map_or, is_none}
-use Rattle.std.specs.List.{list_any, find}
+use Rattle.std.proofs.Common.{◌≡◌, ℕ, List, [], ◌∷◌, ◌++◌, length, take, drop, false, ◌||◌, None, sym, ◌∙◌, ap, subst, arith}
+use Rattle.std.proofs.lemmas.List.{take_at, drop_at}
+use Rattle.std.specs.Option.{is_none}
+use Rattle.std.specs.List.{list_any}
 use Rattle.snap_tree.specs.declared.row.NodeId.{NodeId}
 use Rattle.snap_tree.specs.declared.row.Row.{Row}
-use Rattle.snap_tree.specs.Trees.{Trees, empty, tree, rows_of, count}
+use Rattle.snap_tree.specs.Trees.{empty, rows_of}
 use Rattle.snap_tree.specs.Grown.{grown}
 use Rattle.snap_tree.specs.Rows.{has_number}
-use Rattle.snap_tree.specs.Spots.{Spot, spot, number_of}
+use Rattle.snap_tree.specs.Spots.{Spot}
 use Rattle.snap_tree.specs.Well.{AreApart}
 use Rattle.snap_tree.specs.Naming.{AreNamed}
-use Rattle.snap_tree.proofs.Growth.{rows_of_grown}
 use Rattle.snap_tree.proofs.Cuts.{length-rows_of}
 use Rattle.snap_tree.proofs.Naming.{regrown}
 use Rattle.snap_tree.proofs.Climbing.{any_append, or_false, apart_append}
 use Rattle.snap_edit.specs.Trees.{without}
-use Rattle.snap_edit.specs.Edits.{is_root, is_within}
+use Rattle.snap_edit.specs.Edits.{is_root}
 use Rattle.snap_edit.specs.Places.{size_at, subtree_at, rest_without}
 use Rattle.snap_edit.proofs.Replacing.{replaced_named, spot_named}
 use Rattle.snap_edit.specs.Made.{IsPage}

@@ -1,6 +1,6 @@
 -- Trees with a node changed, taken out or put in. A page's numbers differ, so that the first node of a
 -- number is the only one.
-use Rattle.std.specs.Prelude.{ℕ, zero, suc, if◌then◌else◌, Option, Some}
+use Rattle.std.specs.Prelude.{ℕ, zero, suc, if◌then◌else◌, Some}
 use Rattle.snap_tree.specs.declared.row.NodeId.{NodeId}
 use Rattle.snap_tree.specs.declared.row.Row.{Row}
 use Rattle.snap_tree.specs.Trees.{Trees, empty, tree, beside}

@@ -93,11 +93,7 @@ pub(crate) fn set_text(
 }
 
 /// Replaces the facts of a node.
-pub(crate) fn set_facts(
-    mut rows: Vec<Row>,
-    node: NodeId,
-    facts: Facts,
-) -> Result<Vec<Row>, Refusal>
+pub(crate) fn set_facts(mut rows: Vec<Row>, node: NodeId, facts: Facts) -> Result<Vec<Row>, Refusal>
     requires { tree_fault rows.items ≡ None }
     ensures made { IfOk result (λ new. Makes new.items (effect (grown rows.items) (SetFacts node facts))) }
     ensures refused { IfErr result (λ f. Declines f (effect (grown rows.items) (SetFacts node facts))) }

@@ -14,11 +14,20 @@ pub enum Edit {
         value: Text,
     },
     /// Takes the element's attribute of this name out; one that isn't there changes nothing.
-    DropAttr { node: NodeId, name: Text },
+    DropAttr {
+        node: NodeId,
+        name: Text,
+    },
     /// Replaces the text of a text.
-    SetText { node: NodeId, text: Text },
+    SetText {
+        node: NodeId,
+        text: Text,
+    },
     /// Replaces the browser's facts of a node.
-    SetFacts { node: NodeId, facts: Facts },
+    SetFacts {
+        node: NodeId,
+        facts: Facts,
+    },
     /// Puts rows in as a subtree at this place among the parent's children, counted from 0. The first
     /// row has no parent of its own.
     Insert {
@@ -27,7 +36,9 @@ pub enum Edit {
         rows: List<Row>,
     },
     /// Takes the node out, and all that is below it.
-    Remove { node: NodeId },
+    Remove {
+        node: NodeId,
+    },
     /// Takes the node out with all that is below it, and puts it in at this place among the parent's
     /// children, counted without it.
     Move {

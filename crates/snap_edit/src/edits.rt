@@ -104,12 +104,7 @@ fn built(alloc: Global, address: Text, rows: Vec<Row>, index: u32) -> Result<Tre
 }
 
 // The page after at least one edit. The rows of the last are judged as the page is built.
-fn apply_some(
-    alloc: Global,
-    tree: &Tree,
-    earlier: &[Edit],
-    last: &Edit,
-) -> Result<Tree, EditFault>
+fn apply_some(alloc: Global, tree: &Tree, earlier: &[Edit], last: &Edit) -> Result<Tree, EditFault>
     requires { length earlier.now ≤ most_edits }
     ensures edited { IfOk result (λ t. edited_from 0 (earlier.now ++ last.now ∷ []) tree.now.trees ≡ Ok t.trees) }
     ensures address { IfOk result (λ t. t.address ≡ tree.now.address) }

@@ -5,7 +5,6 @@
 #![tactic(auto)]
 
 mod alone;
-
 mod attrs;
 mod changes;
 mod edit;
@@ -18,7 +17,7 @@ mod place;
 mod subtree;
 mod taken;
 
-pub use edits::apply;
 pub use edit::{Edit, MOST_EDITS};
+pub use edits::apply;
 pub use fault::{EditFault, EditKind};
 pub use laws::laws_of_edits;

@@ -21,11 +21,7 @@ fn is_root(row: &Row) -> bool
 }
 
 /// Takes a node out, and all that is below it.
-pub(crate) fn remove(
-    alloc: Global,
-    mut rows: Vec<Row>,
-    node: NodeId,
-) -> Result<Vec<Row>, Refusal>
+pub(crate) fn remove(alloc: Global, mut rows: Vec<Row>, node: NodeId) -> Result<Vec<Row>, Refusal>
     requires { tree_fault rows.items ≡ None }
     ensures made { IfOk result (λ new. Makes new.items (effect (grown rows.items) (Remove node))) }
     ensures refused { IfErr result (λ f. Declines f (effect (grown rows.items) (Remove node))) }

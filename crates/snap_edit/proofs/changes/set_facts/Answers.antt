@@ -1,10 +1,8 @@
-use Rattle.std.proofs.Common.{Ok, Err, true, false, refl, sym, ◌∙◌, ap, arith}
+use Rattle.std.proofs.Common.{refl, sym, ◌∙◌, ap, arith}
 use Rattle.snap_tree.specs.Grown.{grown}
 use Rattle.snap_tree.specs.Places.{place_from}
-use Rattle.snap_edit.specs.declared.fault.EditKind.TheVariants.{NotElement, NotText}
 use Rattle.snap_edit.specs.Attrs.{with_facts}
-use Rattle.snap_edit.specs.Trees.{changed}
-use Rattle.snap_edit.proofs.Standing.{page_of_sound, stands, at_stranger, at_found, at_text, makes_attrs, makes_set}
+use Rattle.snap_edit.proofs.Standing.{page_of_sound, stands, at_stranger, at_found, makes_set}
 use Rattle.snap_edit.proofs.changes.set_facts.Goals as goal
 
 pub returns-in_default-clause-refused : goal.returns-in_default-clause-refused

@@ -1,10 +1,10 @@
 use Rattle.std.proofs.Common.{Ok, Err, true, false, set, refl, sym, ◌∙◌, ap, arith}
 use Rattle.snap_tree.specs.Grown.{grown}
 use Rattle.snap_tree.specs.Places.{place_from}
-use Rattle.snap_edit.specs.declared.fault.EditKind.TheVariants.{NotElement, NotText}
+use Rattle.snap_edit.specs.declared.fault.EditKind.TheVariants.{NotText}
 use Rattle.snap_edit.specs.Attrs.{with_text}
 use Rattle.snap_edit.specs.Trees.{changed}
-use Rattle.snap_edit.proofs.Standing.{page_of_sound, stands, at_stranger, at_found, at_text, makes_attrs, makes_set}
+use Rattle.snap_edit.proofs.Standing.{page_of_sound, stands, at_stranger, at_text, makes_set}
 use Rattle.snap_edit.proofs.changes.set_text.Goals as goal
 
 pub returns-in_default-clause-refused : goal.returns-in_default-clause-refused

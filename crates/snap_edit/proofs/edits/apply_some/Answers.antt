@@ -1,5 +1,4 @@
 use Rattle.std.proofs.Common.{[], ◌∷◌, ◌++◌, length, Ok, sym, ◌∙◌, ap, subst}
-use Rattle.snap_tree.specs.Trees.{Trees}
 use Rattle.snap_tree.specs.Grown.{grown}
 use Rattle.snap_edit.specs.Edits.{effect, edited_from, Refuses}
 use Rattle.snap_edit.proofs.Settling.{refused_earlier, at_last, refused_at, declined, refused_last, settled_last}

@@ -1,4 +1,4 @@
-use Rattle.std.proofs.Common.{[], ◌∷◌, sym, ◌∙◌, ap, subst, arith}
+use Rattle.std.proofs.Common.{sym, ◌∙◌, ap, subst, arith}
 use Rattle.std.specs.Option.{is_some}
 use Rattle.snap_tree.specs.Grown.{grown}
 use Rattle.snap_tree.specs.Places.{place_from}
@@ -34,7 +34,7 @@ returns-then-is_some-clause-refused c =
     let out = taken_out c.args.rows.items c.args.node c.in-Some.from (page_of_sound c.args.rows.items c.requires) h in
     let subtree = c.in_ok-subtree.ensures.subtree ∙ out.subtree in
     let within =
-        is_within_by c.args.parent h.there c.in_ok-subtree.subtree.items subtree ∙ ap (λ rs. is_some (place_from 0 c.args.parent.0 rs)) (sym c.as_slice-2.ensures.value) ∙ ap is_some (sym c.place_of-2.ensures) ∙ sym c.is_some.ensures
+    is_within_by c.args.parent h.there c.in_ok-subtree.subtree.items subtree ∙ ap (λ rs. is_some (place_from 0 c.args.parent.0 rs)) (sym c.as_slice-2.ensures.value) ∙ ap is_some (sym c.place_of-2.ensures) ∙ sym c.is_some.ensures
     in
     let moved = not_root c.args.rows.items c.args.node c.in-Some.from (page_of_sound c.args.rows.items c.requires) h c.index.result.now _ c.index.ensures (sym c.is_root.ensures ∙ c.if-is_root.false) in
     moved ∙ into_itself c.args.rows.items c.args.node c.args.parent c.in-Some.from h _ (within ∙ c.if-is_some.true)
@@ -50,7 +50,7 @@ returns-in-Err-clause-refused c =
     let out = taken_out c.args.rows.items c.args.node c.in-Some.from (page_of_sound c.args.rows.items c.requires) h in
     let subtree = c.in_ok-subtree.ensures.subtree ∙ out.subtree in
     let within =
-        is_within_by c.args.parent h.there c.in_ok-subtree.subtree.items subtree ∙ ap (λ rs. is_some (place_from 0 c.args.parent.0 rs)) (sym c.as_slice-2.ensures.value) ∙ ap is_some (sym c.place_of-2.ensures) ∙ sym c.is_some.ensures
+    is_within_by c.args.parent h.there c.in_ok-subtree.subtree.items subtree ∙ ap (λ rs. is_some (place_from 0 c.args.parent.0 rs)) (sym c.as_slice-2.ensures.value) ∙ ap is_some (sym c.place_of-2.ensures) ∙ sym c.is_some.ensures
     in
     let moved = not_root c.args.rows.items c.args.node c.in-Some.from (page_of_sound c.args.rows.items c.requires) h c.index.result.now _ c.index.ensures (sym c.is_root.ensures ∙ c.if-is_root.false) in
     let there = elsewhere c.args.rows.items c.args.node c.args.parent c.in-Some.from c.args.place (page_of_sound c.args.rows.items c.requires) h (within ∙ c.if-is_some.false) in
@@ -63,7 +63,7 @@ returns-clause-made c =
     let out = taken_out c.args.rows.items c.args.node c.in-Some.from (page_of_sound c.args.rows.items c.requires) h in
     let subtree = c.in_ok-subtree.ensures.subtree ∙ out.subtree in
     let within =
-        is_within_by c.args.parent h.there c.in_ok-subtree.subtree.items subtree ∙ ap (λ rs. is_some (place_from 0 c.args.parent.0 rs)) (sym c.as_slice-2.ensures.value) ∙ ap is_some (sym c.place_of-2.ensures) ∙ sym c.is_some.ensures
+    is_within_by c.args.parent h.there c.in_ok-subtree.subtree.items subtree ∙ ap (λ rs. is_some (place_from 0 c.args.parent.0 rs)) (sym c.as_slice-2.ensures.value) ∙ ap is_some (sym c.place_of-2.ensures) ∙ sym c.is_some.ensures
     in
     let moved = not_root c.args.rows.items c.args.node c.in-Some.from (page_of_sound c.args.rows.items c.requires) h c.index.result.now _ c.index.ensures (sym c.is_root.ensures ∙ c.if-is_root.false) in
     let there = elsewhere c.args.rows.items c.args.node c.args.parent c.in-Some.from c.args.place (page_of_sound c.args.rows.items c.requires) h (within ∙ c.if-is_some.false) in

@@ -1,4 +1,4 @@
-use Rattle.std.proofs.Common.{sym, ◌∙◌, ap, arith}
+use Rattle.std.proofs.Common.{sym, ◌∙◌, arith}
 use Rattle.snap_edit.proofs.Standing.{stands, at_stranger}
 use Rattle.snap_edit.proofs.Placing.{text_parent, child_out, child_in}
 use Rattle.snap_edit.proofs.subtree.place_in.Goals as goal
