@@ -3,48 +3,66 @@
 //! much there was, and on standard error what processor time each step took. `bench/parts` runs it.
 #![tactic(auto)]
 
+mod clock;
+mod edits;
+
+use crate::clock::{Stopped, tell, time_of};
+use crate::edits::time_edits;
 use snap_json::{read_raw, read_snapshot, write_snapshot};
-use snap_tree::{OutOfMemory, Tree};
+use snap_tree::{OutOfMemory, Raw, Tree};
+use std::alloc::Global;
 use std::io::Read;
 use std::process::ExitCode;
-use std::time::{CpuClock, Duration};
+use std::time::CpuClock;
 
-/// The step that failed.
-#[derive(Drop)]
-struct Stopped(&'static str);
-
-impl From<OutOfMemory> for Stopped {
-    fn from(_error: OutOfMemory) -> Self {
-        Stopped("memory")
-    }
+fn raw_of(alloc: Global, bytes: &[u8]) -> Result<Raw, Stopped> {
+    read_raw(alloc, bytes).map_err(|_| Stopped("snapshot"))
 }
 
-fn time_of(rt: &impl CpuClock) -> Result<Duration, Stopped> {
-    rt.thread_cpu_time().map_err(|_| Stopped("clock"))
+fn tree_of(alloc: Global, raw: Raw) -> Result<Tree, Stopped> {
+    Tree::build(alloc, raw).map_err(|_| Stopped("tree"))
 }
 
-// Says what processor time a step took.
-fn tell<R: CpuClock + Eprint>(rt: &R, step: &'static str, start: Duration) -> Result<(), Stopped> {
-    let spent = time_of(rt)?.saturating_sub(start).as_micros();
-    eprintln!(rt; "{step} {spent} us").map_err(|_| Stopped("standard error"))
+fn copy_of(alloc: Global, tree: &Tree) -> Result<Tree, OutOfMemory> {
+    tree.copy(alloc)
 }
 
-fn time_tree<R: CpuClock + Eprint + AllocGlobal>(rt: &R, bytes: &[u8]) -> Result<usize, Stopped> {
+fn bytes_of(alloc: Global, tree: &Tree) -> Result<Vec<u8>, OutOfMemory> {
+    write_snapshot(alloc, tree)
+}
+
+fn tree_in(alloc: Global, bytes: &[u8]) -> Result<Tree, Stopped> {
+    read_snapshot(alloc, bytes).map_err(|_| Stopped("written"))
+}
+
+// Reading a snapshot and building its tree.
+fn time_reading<R: CpuClock + Eprint + AllocGlobal>(rt: &R, bytes: &[u8]) -> Result<Tree, Stopped> {
     let start = time_of(rt)?;
-    let raw = read_raw(rt.alloc(), bytes).map_err(|_| Stopped("snapshot"))?;
+    let raw = raw_of(rt.alloc(), bytes)?;
     tell(rt, "read", start)?;
     let start = time_of(rt)?;
-    let tree = Tree::build(rt.alloc(), raw).map_err(|_| Stopped("tree"))?;
+    let tree = tree_of(rt.alloc(), raw)?;
     tell(rt, "build", start)?;
+    Ok(tree)
+}
+
+// Copying a tree, writing it, and reading what was written.
+fn time_writing<R: CpuClock + Eprint + AllocGlobal>(rt: &R, tree: &Tree) -> Result<(), Stopped> {
     let start = time_of(rt)?;
-    let _copy = tree.copy(rt.alloc())?;
+    let _copy = copy_of(rt.alloc(), tree)?;
     tell(rt, "copy", start)?;
     let start = time_of(rt)?;
-    let written = write_snapshot(rt.alloc(), &tree)?;
+    let written = bytes_of(rt.alloc(), tree)?;
     tell(rt, "write", start)?;
     let start = time_of(rt)?;
-    let _again = read_snapshot(rt.alloc(), written.as_slice()).map_err(|_| Stopped("written"))?;
-    tell(rt, "read and build", start)?;
+    let _again = tree_in(rt.alloc(), written.as_slice())?;
+    tell(rt, "read and build", start)
+}
+
+fn time_steps<R: CpuClock + Eprint + AllocGlobal>(rt: &R, bytes: &[u8]) -> Result<usize, Stopped> {
+    let tree = time_reading(rt, bytes)?;
+    time_writing(rt, &tree)?;
+    time_edits(rt, &tree)?;
     Ok(tree.rows().len())
 }
 
@@ -54,7 +72,7 @@ fn measure<R: Input + Print + CpuClock + Eprint + AllocGlobal>(rt: &R) -> Result
     input
         .read_to_end(&mut bytes)
         .map_err(|_| Stopped("standard input"))?;
-    let nodes = time_tree(rt, bytes.as_slice())?;
+    let nodes = time_steps(rt, bytes.as_slice())?;
     let count = bytes.len();
     println!(rt; "nodes {nodes} bytes {count}").map_err(|_| Stopped("standard output"))
 }

@@ -10,3 +10,4 @@ pub mod Labelled
 pub mod Spotting
 pub mod Climbing
 pub mod Weights
+pub mod Naming

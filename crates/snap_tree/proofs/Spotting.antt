@@ -68,7 +68,7 @@ not_taken x (tree y k a) h = by_name (names y x) refl h
     by_name false e h = (rw e refl, rw e refl)
     by_name true e h = let no : true ≡ false = rw e at h in cc
 
-takes_beside : (x : Row) (t others : Trees) → NamesNone others (x ∷ []) → (taken x (beside t others) ≡ taken x t) × (left x (beside t others) ≡ beside (left x t) others)
+pub takes_beside : (x : Row) (t others : Trees) → NamesNone others (x ∷ []) → (taken x (beside t others) ≡ taken x t) × (left x (beside t others) ≡ beside (left x t) others)
 takes_beside x empty others h = not_taken x others h
 takes_beside x (tree y k a) others h = by_name (names y x) refl (takes_beside x a others h)
   where

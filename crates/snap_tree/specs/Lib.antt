@@ -18,3 +18,4 @@ pub mod Lookups
 pub mod Well
 pub mod Spots
 pub mod SpotLaws
+pub mod Naming

@@ -28,6 +28,7 @@ mod words;
 
 pub use branches::{Branch, Branches};
 pub use copies::{Duplicate, copies_of};
+pub use build::{MOST_DEPTH, MOST_NODES};
 pub use fault::{BuildFault, TreeFault};
 pub use kids::Kids;
 pub use laws::{laws_of_growth, laws_of_spots};

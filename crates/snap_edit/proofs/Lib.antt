@@ -1,0 +1,11 @@
+pub mod Replacing
+pub mod Setting
+pub mod Standing
+pub mod Putting
+pub mod Placing
+pub mod Moving
+pub mod Settling
+pub mod Undoing
+pub mod Taking
+pub mod Numbers
+pub mod TakenAlone

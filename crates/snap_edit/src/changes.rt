@@ -1,0 +1,106 @@
+ghost use Rattle.std.specs.Prelude.{◌≡◌, ◌<◌, None, IfOk, IfErr, vec_len, slice_set, slice_index_or};
+ghost use Rattle.snap_tree.specs.Grown.{grown};
+ghost use Rattle.snap_tree.specs.Faults.{tree_fault};
+ghost use Rattle.snap_tree.specs.declared.row.Row.{Row};
+ghost use Rattle.snap_edit.specs.declared.edit.Edit.TheVariants.{SetAttr, DropAttr, SetText, SetFacts};
+ghost use Rattle.snap_edit.specs.Attrs.{with_attrs, with_text, with_facts};
+ghost use Rattle.snap_edit.specs.Edits.{effect};
+ghost use Rattle.snap_edit.specs.Made.{Makes, Declines};
+
+use crate::attrs::{attrs_with, attrs_without};
+use crate::fault::{EditKind, Refusal};
+use crate::place::place_of;
+use snap_tree::{Attr, Body, Facts, List, NodeId, Row, Text};
+use std::alloc::Global;
+
+// Gives the element at a place these attributes.
+fn put_attrs(rows: &mut Vec<Row>, place: usize, attrs: Vec<Attr>)
+    requires { place < vec_len rows.old }
+    ensures { (d : Row) → rows.new.items ≡ slice_set rows.old.items place (with_attrs (λ _. attrs.items) (slice_index_or rows.old.items place d)) }
+{
+    if let Body::Element { attrs: own, .. } = &mut rows[place].body {
+        *own = List::from_vec(attrs);
+    }
+}
+
+/// Sets an attribute of an element.
+pub(crate) fn set_attr(
+    alloc: Global,
+    mut rows: Vec<Row>,
+    node: NodeId,
+    name: &Text,
+    value: &Text,
+) -> Result<Vec<Row>, Refusal>
+    requires { tree_fault rows.items ≡ None }
+    ensures made { IfOk result (λ new. Makes new.items (effect (grown rows.items) (SetAttr node name.now value.now))) }
+    ensures refused { IfErr result (λ f. Declines f (effect (grown rows.items) (SetAttr node name.now value.now))) }
+{
+    let Some(place) = place_of(rows.as_slice(), node) else {
+        return Err(Refusal::Kind(EditKind::NoNode));
+    };
+    let row = &rows[place];
+    if row.is_text() {
+        return Err(Refusal::Kind(EditKind::NotElement));
+    }
+    let attrs = attrs_with(alloc, row.attrs(), name, value)?;
+    put_attrs(&mut rows, place, attrs);
+    Ok(rows)
+}
+
+/// Takes an attribute of an element out.
+pub(crate) fn drop_attr(
+    alloc: Global,
+    mut rows: Vec<Row>,
+    node: NodeId,
+    name: &Text,
+) -> Result<Vec<Row>, Refusal>
+    requires { tree_fault rows.items ≡ None }
+    ensures made { IfOk result (λ new. Makes new.items (effect (grown rows.items) (DropAttr node name.now))) }
+    ensures refused { IfErr result (λ f. Declines f (effect (grown rows.items) (DropAttr node name.now))) }
+{
+    let Some(place) = place_of(rows.as_slice(), node) else {
+        return Err(Refusal::Kind(EditKind::NoNode));
+    };
+    let row = &rows[place];
+    if row.is_text() {
+        return Err(Refusal::Kind(EditKind::NotElement));
+    }
+    let attrs = attrs_without(alloc, row.attrs(), name)?;
+    put_attrs(&mut rows, place, attrs);
+    Ok(rows)
+}
+
+/// Replaces the text of a text.
+pub(crate) fn set_text(
+    alloc: Global,
+    mut rows: Vec<Row>,
+    node: NodeId,
+    text: &Text,
+) -> Result<Vec<Row>, Refusal>
+    requires { tree_fault rows.items ≡ None }
+    ensures made { IfOk result (λ new. Makes new.items (effect (grown rows.items) (SetText node text.now))) }
+    ensures refused { IfErr result (λ f. Declines f (effect (grown rows.items) (SetText node text.now))) }
+{
+    let Some(place) = place_of(rows.as_slice(), node) else {
+        return Err(Refusal::Kind(EditKind::NoNode));
+    };
+    if !rows[place].is_text() {
+        return Err(Refusal::Kind(EditKind::NotText));
+    }
+    let text = text.copy(alloc)?;
+    rows[place].body = Body::Words { text };
+    Ok(rows)
+}
+
+/// Replaces the facts of a node.
+pub(crate) fn set_facts(mut rows: Vec<Row>, node: NodeId, facts: Facts) -> Result<Vec<Row>, Refusal>
+    requires { tree_fault rows.items ≡ None }
+    ensures made { IfOk result (λ new. Makes new.items (effect (grown rows.items) (SetFacts node facts))) }
+    ensures refused { IfErr result (λ f. Declines f (effect (grown rows.items) (SetFacts node facts))) }
+{
+    let Some(place) = place_of(rows.as_slice(), node) else {
+        return Err(Refusal::Kind(EditKind::NoNode));
+    };
+    rows[place].facts = facts;
+    Ok(rows)
+}

@@ -1,0 +1,150 @@
+ghost use Rattle.std.specs.Prelude.{◌≡◌, ◌≤◌, [], ◌∷◌, ◌++◌, length, None, Ok, IfOk, IfErr};
+ghost use Rattle.snap_tree.specs.Grown.{grown};
+ghost use Rattle.snap_tree.specs.Faults.{tree_fault};
+ghost use Rattle.snap_edit.specs.Edits.{most_edits, effect, edited, edited_from, edited_all, Refuses};
+ghost use Rattle.snap_edit.specs.Made.{Makes, Declines, fault_at, BreaksAt};
+
+use crate::changes::{drop_attr, set_attr, set_facts, set_text};
+use crate::edit::{Edit, MOST_EDITS};
+use crate::fault::{EditFault, EditKind, Refusal};
+use crate::judged::tree_fault;
+use crate::moves::{insert, move_to, remove};
+use snap_tree::{BuildFault, List, Raw, Row, Text, Tree, copies_of};
+use std::alloc::Global;
+
+// Carries one edit out on a page's rows. The new rows aren't judged.
+fn carry_out(alloc: Global, rows: Vec<Row>, edit: &Edit) -> Result<Vec<Row>, Refusal>
+    requires { tree_fault rows.items ≡ None }
+    ensures made { IfOk result (λ new. Makes new.items (effect (grown rows.items) edit.now)) }
+    ensures refused { IfErr result (λ f. Declines f (effect (grown rows.items) edit.now)) }
+{
+    match edit {
+        Edit::SetAttr { node, name, value } => set_attr(alloc, rows, *node, name, value),
+        Edit::DropAttr { node, name } => drop_attr(alloc, rows, *node, name),
+        Edit::SetText { node, text } => set_text(alloc, rows, *node, text),
+        Edit::SetFacts { node, facts } => set_facts(rows, *node, *facts),
+        Edit::Insert {
+            parent,
+            place,
+            rows: new,
+        } => insert(alloc, rows, *parent, *place, new),
+        Edit::Remove { node } => remove(alloc, rows, *node),
+        Edit::Move {
+            node,
+            parent,
+            place,
+        } => move_to(alloc, rows, *node, *parent, *place),
+    }
+}
+
+// Carries one edit out on a page's rows, and judges the new rows.
+fn step(alloc: Global, rows: Vec<Row>, edit: &Edit) -> Result<Vec<Row>, Refusal>
+    requires { tree_fault rows.items ≡ None }
+    ensures sound { IfOk result (λ new. tree_fault new.items ≡ None) }
+    ensures edited { IfOk result (λ new. edited (grown rows.items) edit.now ≡ Ok (grown new.items)) }
+    ensures refused { IfErr result (λ f. Declines f (edited (grown rows.items) edit.now)) }
+{
+    let new = match carry_out(alloc, rows, edit) {
+        Ok(new) => new,
+        Err(refusal) => return Err(refusal),
+    };
+    match tree_fault(alloc, new.as_slice())? {
+        Some(fault) => Err(Refusal::Kind(EditKind::Tree(fault))),
+        None => Ok(new),
+    }
+}
+
+// The fault of the edit of this index.
+fn fault_at(index: u32, refusal: Refusal) -> EditFault
+    ensures { result ≡ fault_at index refusal }
+{
+    match refusal {
+        Refusal::Kind(kind) => EditFault::At { index, kind },
+        Refusal::OutOfMemory => EditFault::OutOfMemory,
+    }
+}
+
+// Carries edits out one after another, and judges the rows after each.
+fn steps(alloc: Global, rows: Vec<Row>, edits: &[Edit]) -> Result<Vec<Row>, EditFault>
+    requires sound { tree_fault rows.items ≡ None }
+    requires few { length edits.now ≤ most_edits }
+    ensures sound { IfOk result (λ new. tree_fault new.items ≡ None) }
+    ensures edited { IfOk result (λ new. edited_from 0 edits.now (grown rows.items) ≡ Ok (grown new.items)) }
+    ensures refused { IfErr result (λ f. Refuses f (edited_from 0 edits.now (grown rows.items))) }
+{
+    let mut rows = rows;
+    let mut rest = edits;
+    let mut index = 0;
+    while let Some((edit, later)) = rest.split_first() {
+        rows = match step(alloc, rows, edit) {
+            Ok(new) => new,
+            Err(refusal) => return Err(fault_at(index, refusal)),
+        };
+        rest = later;
+        index += 1;
+    }
+    Ok(rows)
+}
+
+// The page of an edit's rows, unless they have a fault.
+fn built(alloc: Global, address: Text, rows: Vec<Row>, index: u32) -> Result<Tree, EditFault>
+    ensures tree { IfOk result (λ t. t ≡ record { address = address; trees = grown rows.items }) }
+    ensures sound { IfOk result (λ t. tree_fault rows.items ≡ None) }
+    ensures refused { IfErr result (λ f. BreaksAt index f (tree_fault rows.items)) }
+{
+    let rows = List::from_vec(rows);
+    match Tree::build(alloc, Raw { address, rows }) {
+        Ok(tree) => Ok(tree),
+        Err(BuildFault::Tree(fault)) => Err(EditFault::At {
+            index,
+            kind: EditKind::Tree(fault),
+        }),
+        Err(BuildFault::OutOfMemory) => Err(EditFault::OutOfMemory),
+    }
+}
+
+// The page after at least one edit. The rows of the last are judged as the page is built.
+fn apply_some(alloc: Global, tree: &Tree, earlier: &[Edit], last: &Edit) -> Result<Tree, EditFault>
+    requires { length earlier.now ≤ most_edits }
+    ensures edited { IfOk result (λ t. edited_from 0 (earlier.now ++ last.now ∷ []) tree.now.trees ≡ Ok t.trees) }
+    ensures address { IfOk result (λ t. t.address ≡ tree.now.address) }
+    ensures refused { IfErr result (λ f. Refuses f (edited_from 0 (earlier.now ++ last.now ∷ []) tree.now.trees)) }
+{
+    let rows = copies_of(alloc, tree.rows())?;
+    let rows = match steps(alloc, rows, earlier) {
+        Ok(rows) => rows,
+        Err(fault) => return Err(fault),
+    };
+    let index = earlier.len() as u32;
+    let new = match carry_out(alloc, rows, last) {
+        Ok(new) => new,
+        Err(refusal) => return Err(fault_at(index, refusal)),
+    };
+    let address = tree.address().copy(alloc)?;
+    match built(alloc, address, new, index) {
+        Ok(tree) => Ok(tree),
+        Err(fault) => Err(fault),
+    }
+}
+
+/// The page after a list of edits, carried out one after another. The given page stays, and so does its
+/// address; an empty list gives an equal page.
+///
+/// It is refused with the index, counted from 0, and the kind of the first edit that can't be carried
+/// out; a list of more than 200 edits with index 200 and TooManyEdits before anything else.
+pub fn apply(alloc: Global, tree: &Tree, edits: &[Edit]) -> Result<Tree, EditFault>
+    ensures edited { IfOk result (λ t. edited_all tree.now.trees edits.now ≡ Ok t.trees) }
+    ensures address { IfOk result (λ t. t.address ≡ tree.now.address) }
+    ensures refused { IfErr result (λ f. Refuses f (edited_all tree.now.trees edits.now)) }
+{
+    if edits.len() > MOST_EDITS {
+        return Err(EditFault::At {
+            index: 200,
+            kind: EditKind::TooManyEdits,
+        });
+    }
+    match edits.split_last() {
+        Some((last, earlier)) => apply_some(alloc, tree, earlier, last),
+        None => Ok(tree.copy(alloc)?),
+    }
+}
