@@ -21,3 +21,6 @@ pub use edit::{Edit, MOST_EDITS};
 pub use edits::apply;
 pub use fault::{EditFault, EditKind};
 pub use laws::laws_of_edits;
+
+#[cfg(test)]
+mod tests;

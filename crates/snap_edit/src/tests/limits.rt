@@ -1,0 +1,141 @@
+use super::shown::show_number;
+use super::{Case, each_verdict_is, times, verdict_on};
+use std::alloc::Global;
+use std::process::Abort;
+use std::test::Fail;
+
+const FORM: &str = "1 0 form;2 1 input id=q;3 1 #Go";
+
+// Nodes of these numbers that stand below the node of the number before.
+fn chain(alloc: Global, from: u32, to: u32) -> Result<String, Fail> {
+    let mut text = String::new(alloc);
+    for above in from..to {
+        let row = format!(in alloc; "{} {above} p;", above.wrapping_add(1))?;
+        text.push_str(row.as_str())?;
+    }
+    Ok(text)
+}
+
+// Rows that all stand below the first, which is given.
+fn fan(alloc: Global, first: &str, below: &str, between: &str, count: u32) -> Result<String, Fail> {
+    let mut text = String::from_str(alloc, first)?;
+    for place in 0..count {
+        text.push_str(between)?;
+        show_number(alloc, &mut text, place.wrapping_add(2_000))?;
+        text.push_str(below)?;
+    }
+    Ok(text)
+}
+
+// Below the root stand a chain down to depth 128, and nodes 129 and 130 one below the other.
+const DEEP: [Case; 7] = [
+    ("insert 127 1 200 0 p", "well"),
+    ("insert 128 0 200 0 p", "0: 8 5 200"),
+    ("insert 127 0 200 0 p+201 200 #x", "0: 8 5 201"),
+    ("insert 128 0 200 0 p+201 0 p", "0: 8 4 201"),
+    ("move 129 126 0", "well"),
+    ("move 129 127 0", "0: 8 5 130"),
+    ("move 129 127 1;remove 4", "0: 8 5 130"),
+];
+
+#[test]
+fn edited_pages_are_128_deep_at_most(rt: HostRuntime) -> Result<(), Fail> {
+    let alloc = rt.alloc();
+    let chain = chain(alloc, 1, 128)?;
+    let page = format!(in alloc; "1 0 html;{chain}129 1 p;130 129 p")?;
+    each_verdict_is(&rt, alloc, page.as_str(), DEEP.as_slice())
+}
+
+// The page has 10,000 nodes, numbered from 1 and from 2,000.
+const FULL: [Case; 6] = [
+    ("", "well"),
+    ("insert 1 0 60 0 p", "0: 8 2"),
+    ("insert 1 0 60 0 p+61 0 p", "0: 8 4 61"),
+    ("insert 1 0 60 0 #x+61 60 #y", "0: 8 9 61"),
+    ("remove 2000;insert 1 0 60 0 p", "well"),
+    ("remove 2000;insert 1 0 60 0 p+61 60 p", "1: 8 2"),
+];
+
+#[test]
+fn edited_pages_have_10000_nodes_at_most(rt: HostRuntime) -> Result<(), Fail> {
+    let alloc = rt.alloc();
+    let page = fan(alloc, "1 0 html", " 1 p", ";", 9_999)?;
+    each_verdict_is(&rt, alloc, page.as_str(), FULL.as_slice())
+}
+
+fn verdict_on_rows(alloc: Global, first: &str, count: u32) -> Result<String, Fail> {
+    let rows = fan(alloc, first, " 60 b", "+", count)?;
+    let edit = format!(in alloc; "insert 1 0 {rows}")?;
+    verdict_on(alloc, FORM, edit.as_str())
+}
+
+#[test]
+fn inserted_rows_are_10000_at_most(rt: HostRuntime) -> Result<(), Fail> {
+    let alloc = rt.alloc();
+    let cases = [
+        ("60 0 p", 9_996, "well"),
+        ("60 0 p", 9_997, "0: 8 2"),
+        ("60 0 #x", 9_999, "0: 8 9 2000"),
+        ("60 0 #x", 10_000, "0: 8 2"),
+    ];
+    for (first, count, wanted) in cases {
+        let verdict = verdict_on_rows(alloc, first, count)?;
+        assert_eq!(rt; verdict.as_str(), wanted, "{first} {count}");
+    }
+    Ok(())
+}
+
+fn verdict_is(rt: &impl Abort, alloc: Global, edits: &str, wanted: &str) -> Result<(), Fail> {
+    let verdict = verdict_on(alloc, FORM, edits)?;
+    assert_eq!(rt; verdict.as_str(), wanted);
+    Ok(())
+}
+
+#[test]
+fn texts_have_65536_bytes_at_most(rt: HostRuntime) -> Result<(), Fail> {
+    let alloc = rt.alloc();
+    let text = times(alloc, "xxxxxxxxxxxxxxxx", 4_096)?;
+    let cases = [
+        ("text 3 ", "", "well"),
+        ("text 3 ", "x", "0: 8 7 3"),
+        ("set 2 id ", "", "well"),
+        ("set 2 id ", "x", "0: 8 7 2"),
+        ("set 2 ", "", "well"),
+        ("set 2 ", "x", "0: 8 7 2"),
+        ("insert 2 0 60 0 #", "", "well"),
+        ("insert 2 0 60 0 #", "x", "0: 8 7 60"),
+    ];
+    for (first, last, wanted) in cases {
+        let edits = format!(in alloc; "{first}{text}{last}")?;
+        verdict_is(&rt, alloc, edits.as_str(), wanted)?;
+    }
+    Ok(())
+}
+
+// Edits that give node 2 so many attributes more.
+fn attributes(alloc: Global, count: u32) -> Result<String, Fail> {
+    let mut edits = String::new(alloc);
+    for place in 0..count {
+        let edit = format!(in alloc; "set 2 a{place} x;")?;
+        edits.push_str(edit.as_str())?;
+    }
+    Ok(edits)
+}
+
+#[test]
+fn elements_have_64_attributes_at_most(rt: HostRuntime) -> Result<(), Fail> {
+    let alloc = rt.alloc();
+    let cases = [
+        (63, "", "well"),
+        (64, "", "63: 8 6 2"),
+        (63, "set 2 ID y", "well"),
+        (63, "set 2 b y", "63: 8 6 2"),
+        (63, "drop 2 id;set 2 b y", "well"),
+    ];
+    for (count, last, wanted) in cases {
+        let attributes = attributes(alloc, count)?;
+        let edits = format!(in alloc; "{attributes}{last}")?;
+        verdict_is(&rt, alloc, edits.as_str(), wanted)?;
+    }
+    Ok(())
+}

@@ -1,0 +1,72 @@
+use super::sketch::{cut, facts_of, number_of, rows_of, spaced};
+use crate::edit::Edit;
+use snap_tree::{NodeId, Text};
+use std::alloc::Global;
+use std::test::Fail;
+
+// Edits in a table of tests are words with `;` between: `set 2 class x`, `drop 2 class`, `text 6 Go`,
+// `facts 5 0`, `remove 7`, `move 5 7 1` with the parent and the place, and `insert 2 0 60 0 p+61 60 #x`
+// with the parent, the place, and rows with `+` between.
+pub(super) fn edits_of(alloc: Global, text: &str) -> Result<Vec<Edit>, Fail> {
+    let mut edits = Vec::new(alloc);
+    for edit in text.split(';') {
+        if !edit.is_empty() {
+            edits.push(edit_of(alloc, edit)?)?;
+        }
+    }
+    Ok(edits)
+}
+
+fn edit_of(alloc: Global, text: &str) -> Result<Edit, Fail> {
+    let (word, rest) = cut(text);
+    let (number, rest) = cut(rest);
+    let node = NodeId(number_of(number)?);
+    match word {
+        "set" => set(alloc, node, rest),
+        "insert" => insert(alloc, node, rest),
+        "move" => move_to(node, rest),
+        "drop" => {
+            let name = Text::from_str(alloc, rest)?;
+            Ok(Edit::DropAttr { node, name })
+        }
+        "text" => {
+            let text = spaced(alloc, rest)?;
+            Ok(Edit::SetText { node, text })
+        }
+        "facts" => {
+            let facts = facts_of(number_of(rest)?);
+            Ok(Edit::SetFacts { node, facts })
+        }
+        "remove" => Ok(Edit::Remove { node }),
+        _ => Err(Fail::from("an edit")),
+    }
+}
+
+fn set(alloc: Global, node: NodeId, rest: &str) -> Result<Edit, Fail> {
+    let (name, value) = cut(rest);
+    let name = Text::from_str(alloc, name)?;
+    let value = spaced(alloc, value)?;
+    Ok(Edit::SetAttr { node, name, value })
+}
+
+fn insert(alloc: Global, parent: NodeId, rest: &str) -> Result<Edit, Fail> {
+    let (place, rows) = cut(rest);
+    let place = number_of(place)?;
+    let rows = rows_of(alloc, rows, '+')?;
+    Ok(Edit::Insert {
+        parent,
+        place,
+        rows,
+    })
+}
+
+fn move_to(node: NodeId, rest: &str) -> Result<Edit, Fail> {
+    let (parent, place) = cut(rest);
+    let parent = NodeId(number_of(parent)?);
+    let place = number_of(place)?;
+    Ok(Edit::Move {
+        node,
+        parent,
+        place,
+    })
+}

@@ -1,0 +1,92 @@
+use super::listed::edits_of;
+use super::shown::shown;
+use super::sketch::{ADDRESS, built};
+use super::{Case, HEADINGS, answer, answer_to, each_answers, times};
+use crate::edit::Edit;
+use crate::edits::apply;
+use snap_tree::Tree;
+use std::alloc::Global;
+use std::test::Fail;
+
+const CASES: [Case; 9] = [
+    ("", HEADINGS),
+    (
+        "remove 5;set 7 id q;move 8 2 0",
+        "1 0 html;2 1 body;8 2 h2;9 8 #B;7 2 div id=q",
+    ),
+    (
+        "remove 7;insert 2 1 9 0 p",
+        "1 0 html;2 1 body;5 2 h2;6 5 #A;9 2 p",
+    ),
+    (
+        "insert 2 0 60 0 p;move 5 60 0",
+        "1 0 html;2 1 body;60 2 p;5 60 h2;6 5 #A;7 2 div;8 7 h2;9 8 #B",
+    ),
+    ("set 7 id q;remove 5;remove 6", "2: 1"),
+    ("remove 4;remove 1", "0: 1"),
+    ("set 7 id q;remove 1;remove 4", "1: 6"),
+    ("set 7  q;remove 4", "0: 8 12 7"),
+    ("set 7 id q;set 7  q;drop 7 ", "1: 8 12 7"),
+];
+
+#[test]
+fn edits_follow_one_another(rt: HostRuntime) -> Result<(), Fail> {
+    each_answers(&rt, rt.alloc(), HEADINGS, CASES.as_slice())
+}
+
+// What comes of a first edit, so many more, and a last.
+fn answer_to_many(alloc: Global, first: &str, count: u32, last: &str) -> Result<String, Fail> {
+    let many = times(alloc, "facts 5 0;", count)?;
+    let edits = format!(in alloc; "{first}{many}{last}")?;
+    answer_to(alloc, HEADINGS, edits.as_str())
+}
+
+#[test]
+fn at_most_200_edits_are_carried_out(rt: HostRuntime) -> Result<(), Fail> {
+    let edited = "1 0 html;2 1 body;5 2 h2 ^0;6 5 #A;7 2 div;8 7 h2;9 8 #B";
+    let cases = [
+        ("", 200, "", edited),
+        ("", 201, "", "200: 9"),
+        ("remove 4;", 199, "", "0: 1"),
+        ("remove 4;", 200, "", "200: 9"),
+        ("", 199, "remove 4", "199: 1"),
+        ("", 200, "remove 4", "200: 9"),
+    ];
+    let alloc = rt.alloc();
+    for (first, count, last, wanted) in cases {
+        let answer = answer_to_many(alloc, first, count, last)?;
+        assert_eq!(rt; answer.as_str(), wanted, "{first} {count} {last}");
+    }
+    Ok(())
+}
+
+fn keeps_address(alloc: Global, tree: &Tree, edits: &str) -> Result<bool, Fail> {
+    let edits = edits_of(alloc, edits)?;
+    Ok(stays_at_address(alloc, tree, edits.as_slice()))
+}
+
+fn stays_at_address(alloc: Global, tree: &Tree, edits: &[Edit]) -> bool {
+    match apply(alloc, tree, edits) {
+        Ok(edited) => edited.address().as_str() == ADDRESS,
+        Err(_) => false,
+    }
+}
+
+// Whether a page is as its sketch after edits were applied to it.
+fn stays(alloc: Global, tree: &Tree, edits: &str) -> Result<bool, Fail> {
+    let edits = edits_of(alloc, edits)?;
+    let _answer = answer(alloc, tree, edits.as_slice())?;
+    Ok(shown(alloc, tree)?.as_str() == HEADINGS)
+}
+
+#[test]
+fn the_given_page_stays(rt: HostRuntime) -> Result<(), Fail> {
+    let alloc = rt.alloc();
+    let tree = built(alloc, HEADINGS)?;
+    for (edits, _) in CASES {
+        assert!(rt; stays(alloc, &tree, edits)?, "{edits}");
+    }
+    assert!(rt; keeps_address(alloc, &tree, "")?);
+    assert!(rt; keeps_address(alloc, &tree, "remove 5")?);
+    Ok(())
+}

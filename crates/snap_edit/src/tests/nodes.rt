@@ -1,0 +1,133 @@
+use super::listed::edits_of;
+use super::sketch::{built, number_of};
+use super::{Case, HEADINGS, each_answers};
+use crate::edit::Edit;
+use crate::edits::apply;
+use snap_tree::{NodeId, Text, Tree};
+use std::alloc::Global;
+use std::test::Fail;
+
+const INSERTED: [Case; 6] = [
+    (
+        "insert 2 0 60 0 p+61 60 #x",
+        "1 0 html;2 1 body;60 2 p;61 60 #x;5 2 h2;6 5 #A;7 2 div;8 7 h2;9 8 #B",
+    ),
+    (
+        "insert 2 1 60 0 p+61 60 #x",
+        "1 0 html;2 1 body;5 2 h2;6 5 #A;60 2 p;61 60 #x;7 2 div;8 7 h2;9 8 #B",
+    ),
+    (
+        "insert 2 2 60 0 p+61 60 #x",
+        "1 0 html;2 1 body;5 2 h2;6 5 #A;7 2 div;8 7 h2;9 8 #B;60 2 p;61 60 #x",
+    ),
+    (
+        "insert 5 1 3 0 b id=q",
+        "1 0 html;2 1 body;5 2 h2;6 5 #A;3 5 b id=q;7 2 div;8 7 h2;9 8 #B",
+    ),
+    (
+        "insert 1 0 60 0 p",
+        "1 0 html;60 1 p;2 1 body;5 2 h2;6 5 #A;7 2 div;8 7 h2;9 8 #B",
+    ),
+    (
+        "insert 7 0 60 0 p+61 60 p+62 60 p",
+        "1 0 html;2 1 body;5 2 h2;6 5 #A;7 2 div;60 7 p;61 60 p;62 60 p;8 7 h2;9 8 #B",
+    ),
+];
+
+const REMOVED: [Case; 4] = [
+    ("remove 7", "1 0 html;2 1 body;5 2 h2;6 5 #A"),
+    ("remove 5", "1 0 html;2 1 body;7 2 div;8 7 h2;9 8 #B"),
+    ("remove 6", "1 0 html;2 1 body;5 2 h2;7 2 div;8 7 h2;9 8 #B"),
+    ("remove 2", "1 0 html"),
+];
+
+const MOVED: [Case; 9] = [
+    (
+        "move 5 7 1",
+        "1 0 html;2 1 body;7 2 div;8 7 h2;9 8 #B;5 7 h2;6 5 #A",
+    ),
+    (
+        "move 5 7 0",
+        "1 0 html;2 1 body;7 2 div;5 7 h2;6 5 #A;8 7 h2;9 8 #B",
+    ),
+    (
+        "move 8 2 0",
+        "1 0 html;2 1 body;8 2 h2;9 8 #B;5 2 h2;6 5 #A;7 2 div",
+    ),
+    (
+        "move 8 2 1",
+        "1 0 html;2 1 body;5 2 h2;6 5 #A;8 2 h2;9 8 #B;7 2 div",
+    ),
+    ("move 5 2 0", HEADINGS),
+    (
+        "move 5 2 1",
+        "1 0 html;2 1 body;7 2 div;8 7 h2;9 8 #B;5 2 h2;6 5 #A",
+    ),
+    (
+        "move 7 2 0",
+        "1 0 html;2 1 body;7 2 div;8 7 h2;9 8 #B;5 2 h2;6 5 #A",
+    ),
+    (
+        "move 6 8 1",
+        "1 0 html;2 1 body;5 2 h2;7 2 div;8 7 h2;9 8 #B;6 8 #A",
+    ),
+    (
+        "move 7 1 1",
+        "1 0 html;2 1 body;5 2 h2;6 5 #A;7 1 div;8 7 h2;9 8 #B",
+    ),
+];
+
+#[test]
+fn rows_are_inserted(rt: HostRuntime) -> Result<(), Fail> {
+    each_answers(&rt, rt.alloc(), HEADINGS, INSERTED.as_slice())
+}
+
+#[test]
+fn nodes_are_removed(rt: HostRuntime) -> Result<(), Fail> {
+    each_answers(&rt, rt.alloc(), HEADINGS, REMOVED.as_slice())
+}
+
+#[test]
+fn nodes_are_moved(rt: HostRuntime) -> Result<(), Fail> {
+    each_answers(&rt, rt.alloc(), HEADINGS, MOVED.as_slice())
+}
+
+fn edited(alloc: Global, tree: &Tree, edits: &[Edit]) -> Result<Tree, Fail> {
+    match apply(alloc, tree, edits) {
+        Ok(edited) => Ok(edited),
+        Err(_) => Err(Fail::from("the edits are carried out")),
+    }
+}
+
+fn has_headings(alloc: Global, tree: &Tree, numbers: &str) -> Result<bool, Fail> {
+    let mut wanted = Vec::new(alloc);
+    for number in numbers.split(' ') {
+        wanted.push(NodeId(number_of(number)?))?;
+    }
+    let found = tree.tagged(alloc, &Text::from_str(alloc, "h2")?)?;
+    Ok(found.as_slice() == wanted.as_slice())
+}
+
+fn gives_headings(alloc: Global, edits: &str, numbers: &str) -> Result<bool, Fail> {
+    let tree = built(alloc, HEADINGS)?;
+    let edits = edits_of(alloc, edits)?;
+    let page = edited(alloc, &tree, edits.as_slice())?;
+    has_headings(alloc, &page, numbers)
+}
+
+#[test]
+fn moved_headings_are_found_in_order(rt: HostRuntime) -> Result<(), Fail> {
+    let alloc = rt.alloc();
+    let cases = [
+        ("", "5 8"),
+        ("move 5 7 1", "8 5"),
+        ("move 8 2 0", "8 5"),
+        ("move 5 7 0", "5 8"),
+        ("remove 5", "8"),
+        ("insert 7 0 60 0 H2", "5 60 8"),
+    ];
+    for (edits, numbers) in cases {
+        assert!(rt; gives_headings(alloc, edits, numbers)?, "{edits}");
+    }
+    Ok(())
+}
