@@ -1,4 +1,4 @@
-ghost use Rattle.std.specs.Prelude.{◌≡◌};
+ghost use Rattle.std.specs.Prelude.{◌≡◌, Some, codes};
 ghost use Rattle.snap_tree.specs.declared.memory.OutOfMemory.{OutOfMemory};
 
 use std::alloc::{AllocError, AllocFailed};
@@ -10,6 +10,8 @@ use std::fmt;
 pub struct OutOfMemory;
 
 impl fmt::Display for OutOfMemory {
+    ghost output = { λ _. Some (codes "no memory") };
+
     fn fmt<W: fmt::Write>(&self, f: &mut fmt::Formatter<W>) -> fmt::Result {
         f.write_str("no memory")
     }
