@@ -27,8 +27,8 @@ mod weight;
 mod words;
 
 pub use branches::{Branch, Branches};
-pub use copies::{Duplicate, copies_of};
 pub use build::{MOST_DEPTH, MOST_NODES};
+pub use copies::{Duplicate, copies_of};
 pub use fault::{BuildFault, TreeFault};
 pub use kids::Kids;
 pub use laws::{laws_of_growth, laws_of_spots};
