@@ -16,13 +16,13 @@ fn chain(alloc: Global, from: u32, to: u32) -> Result<String, Fail> {
     Ok(text)
 }
 
-// Rows that all stand below the first, which is given.
-fn fan(alloc: Global, first: &str, below: &str, between: &str, count: u32) -> Result<String, Fail> {
+// A first row, and so many more, numbered from 2,000, of which each goes on alike.
+fn fan(alloc: Global, first: &str, rest: &str, between: &str, count: u32) -> Result<String, Fail> {
     let mut text = String::from_str(alloc, first)?;
     for place in 0..count {
         text.push_str(between)?;
         show_number(alloc, &mut text, place.wrapping_add(2_000))?;
-        text.push_str(below)?;
+        text.push_str(rest)?;
     }
     Ok(text)
 }
@@ -46,7 +46,7 @@ fn edited_pages_are_128_deep_at_most(rt: HostRuntime) -> Result<(), Fail> {
     each_verdict_is(&rt, alloc, page.as_str(), DEEP.as_slice())
 }
 
-// The page has 10,000 nodes, numbered from 1 and from 2,000.
+// Below the root stand 9,999 nodes, numbered from 2,000.
 const FULL: [Case; 6] = [
     ("", "well"),
     ("insert 1 0 60 0 p", "0: 8 2"),

@@ -6,6 +6,7 @@ use crate::edit::Edit;
 use crate::edits::apply;
 use snap_tree::Tree;
 use std::alloc::Global;
+use std::process::Abort;
 use std::test::Fail;
 
 const CASES: [Case; 9] = [
@@ -79,13 +80,23 @@ fn stays(alloc: Global, tree: &Tree, edits: &str) -> Result<bool, Fail> {
     Ok(shown(alloc, tree)?.as_str() == HEADINGS)
 }
 
-#[test]
-fn the_given_page_stays(rt: HostRuntime) -> Result<(), Fail> {
-    let alloc = rt.alloc();
+fn each_stays(rt: &impl Abort, alloc: Global, cases: &[Case]) -> Result<(), Fail> {
     let tree = built(alloc, HEADINGS)?;
-    for (edits, _) in CASES {
+    for (edits, _) in cases {
         assert!(rt; stays(alloc, &tree, edits)?, "{edits}");
     }
+    Ok(())
+}
+
+#[test]
+fn the_given_page_stays(rt: HostRuntime) -> Result<(), Fail> {
+    each_stays(&rt, rt.alloc(), CASES.as_slice())
+}
+
+#[test]
+fn the_address_stays(rt: HostRuntime) -> Result<(), Fail> {
+    let alloc = rt.alloc();
+    let tree = built(alloc, HEADINGS)?;
     assert!(rt; keeps_address(alloc, &tree, "")?);
     assert!(rt; keeps_address(alloc, &tree, "remove 5")?);
     Ok(())
