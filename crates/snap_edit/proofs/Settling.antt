@@ -1,5 +1,5 @@
 -- Edits judged, and carried out one after another.
-use Rattle.std.proofs.Common.{◌≡◌, ℕ, ◌+◌, List, [], ◌∷◌, ◌++◌, length, Option, Some, None, Result, Ok, Err, refl, sym, ◌∙◌, ap, subst, arith, add-zero}
+use Rattle.std.proofs.Common.{◌≡◌, ℕ, ◌+◌, List, [], ◌∷◌, ◌++◌, length, Option, Some, None, Result, Ok, Err, IfOk, IfErr, refl, sym, ◌∙◌, ap, subst, arith, add-zero}
 use Rattle.std.specs.Option.{option_map_or}
 use Rattle.snap_tree.specs.declared.row.Row.{Row}
 use Rattle.snap_tree.specs.declared.fault.TreeFault.{TreeFault}
@@ -82,3 +82,13 @@ refused_last index f rows e t m b = refused_by index f rows (effect t e) (tree_f
 
 pub settled_last : (index : ℕ) (rows : List Row) (e : Edit) (t : Trees) → Makes rows (effect t e) → tree_fault rows ≡ None → edited_from index (e ∷ []) t ≡ Ok (grown rows)
 settled_last index rows e t m sound = ap (followed index (edited_from (index + 1) [])) (settles rows (effect t e) m sound)
+
+-- ---- facts of an answer, one from another
+
+pub ok_both : {T E : Type 0} (r : Result T E) (P Q R : T → Type 0) → IfOk r P → IfOk r Q → ((x : T) → P x → Q x → R x) → IfOk r R
+ok_both (Ok x) P Q R p q f = f x p q
+ok_both (Err e) P Q R p q f = tt
+
+pub err_from : {T E : Type 0} (r : Result T E) (P Q : E → Type 0) → IfErr r P → ((e : E) → P e → Q e) → IfErr r Q
+err_from (Ok x) P Q p f = tt
+err_from (Err e) P Q p f = f e p

@@ -121,17 +121,15 @@ fn apply_some(alloc: Global, tree: &Tree, earlier: &[Edit], last: &Edit) -> Resu
         Err(refusal) => return Err(fault_at(index, refusal)),
     };
     let address = tree.address().copy(alloc)?;
-    match built(alloc, address, new, index) {
-        Ok(tree) => Ok(tree),
-        Err(fault) => Err(fault),
-    }
+    built(alloc, address, new, index)
 }
 
 /// The page after a list of edits, carried out one after another. The given page stays, and so does its
 /// address; an empty list gives an equal page.
 ///
 /// It is refused with the index, counted from 0, and the kind of the first edit that can't be carried
-/// out; a list of more than 200 edits with index 200 and TooManyEdits before anything else.
+/// out; a list of more than 200 edits with index 200 and TooManyEdits before anything else. Want of
+/// memory is OutOfMemory.
 pub fn apply(alloc: Global, tree: &Tree, edits: &[Edit]) -> Result<Tree, EditFault>
     ensures edited { IfOk result (λ t. edited_all tree.now.trees edits.now ≡ Ok t.trees) }
     ensures address { IfOk result (λ t. t.address ≡ tree.now.address) }
