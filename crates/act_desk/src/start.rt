@@ -115,13 +115,14 @@ mod tests {
         for arg in args {
             strings.push(String::from_str(alloc, arg)?)?;
         }
-        Ok(status_of(words_in(alloc, strings.into_iter())))
+        status_of(words_in(alloc, strings.into_iter()))
     }
 
-    fn status_of(words: Result<List<Text>, Refusal>) -> Option<u8> {
+    fn status_of(words: Result<List<Text>, Refusal>) -> Result<Option<u8>, Fail> {
         match words {
-            Ok(_) => None,
-            Err(refusal) => Some(refusal.status()),
+            Ok(_) => Ok(None),
+            Err(Refusal::NoMemory) => Err(Fail::from(OutOfMemory)),
+            Err(refusal) => Ok(Some(refusal.status())),
         }
     }
 

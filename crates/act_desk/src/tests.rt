@@ -4,7 +4,7 @@ use crate::failed::Failed;
 use crate::mem_sink::MemSink;
 use crate::mem_source::MemSource;
 use crate::run::run;
-use snap_tree::{List, Text};
+use snap_tree::{List, OutOfMemory, Text};
 use std::alloc::{AllocError, Global};
 use std::test::Fail;
 
@@ -72,7 +72,24 @@ fn run_over(alloc: Global, words: &[&str], bytes: Vec<u8>, around: &Around) -> R
     let mut err = MemSink::new(alloc, around.err_room, err_writes)?;
     let mut book = Early::new();
     let status = run(alloc, &words, &mut input, &mut out, &mut err, &mut book);
-    Ok(Ended { status, out, err })
+    let end = Ended { status, out, err };
+    if wants_memory(&end) {
+        return Err(Fail::from(OutOfMemory));
+    }
+    Ok(end)
+}
+
+// Whether a run wanted memory, and wrote nothing but the line that says so, as far as the sink took it.
+fn wants_memory(end: &Ended) -> bool {
+    let line = end.err.bytes();
+    let is_whole = line == b"no memory\n".as_slice();
+    let is_begun = line.starts_with(b"no") && b"no memory\n".starts_with(line);
+    end.out.bytes().is_empty()
+        && match end.status {
+            8 => is_whole,
+            4 => is_begun && !is_whole,
+            _ => false,
+        }
 }
 
 #[test]

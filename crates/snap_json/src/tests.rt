@@ -1,5 +1,5 @@
 use crate::{SnapFault, read_kept, read_raw, read_snapshot, write_snapshot};
-use snap_tree::{NodeId, TreeFault};
+use snap_tree::{NodeId, OutOfMemory, Tree, TreeFault};
 use std::alloc::{AllocError, Global};
 use std::test::Fail;
 
@@ -12,6 +12,14 @@ fn said(alloc: Global, fault: Option<SnapFault>) -> Result<String, AllocError> {
             format!(in alloc; "Shape {place} {field}")
         }
         Some(fault) => String::from_str(alloc, fault.name()),
+    }
+}
+
+/// The same fault, but want of memory as an error of the test.
+fn told(fault: Option<SnapFault>) -> Result<Option<SnapFault>, Fail> {
+    match fault {
+        Some(SnapFault::OutOfMemory) => Err(Fail::from(OutOfMemory)),
+        fault => Ok(fault),
     }
 }
 
@@ -82,7 +90,7 @@ Shape 1 f     | {"n":1,"p":null,"tag":"a","f":"rr"},{"n":0}
 fn pages(rt: HostRuntime) -> Result<(), Fail> {
     for line in PAGES.lines() {
         if let Some((want, text)) = line.split_once("|") {
-            let fault = read_raw(rt.alloc(), text.as_bytes()).err();
+            let fault = told(read_raw(rt.alloc(), text.as_bytes()).err())?;
             assert_eq!(rt; said(rt.alloc(), fault)?.as_str(), want.trim(), "{text}");
         }
     }
@@ -94,7 +102,7 @@ fn rows(rt: HostRuntime) -> Result<(), Fail> {
     for line in ROWS.lines() {
         if let Some((want, rows)) = line.split_once("|") {
             let text = format!(in rt.alloc(); r#"{{"url":"http://a/","nodes":[{rows}]}}"#)?;
-            let fault = read_raw(rt.alloc(), text.as_bytes()).err();
+            let fault = told(read_raw(rt.alloc(), text.as_bytes()).err())?;
             assert_eq!(rt; said(rt.alloc(), fault)?.as_str(), want.trim(), "{rows}");
         }
     }
@@ -104,11 +112,14 @@ fn rows(rt: HostRuntime) -> Result<(), Fail> {
 #[test]
 fn no_text_and_no_json(rt: HostRuntime) -> Result<(), Fail> {
     let bytes: &[u8] = b"{\"x\":\"\xff\"}";
-    assert_eq!(rt; read_raw(rt.alloc(), bytes).err(), Some(SnapFault::NotJson));
+    assert_eq!(rt;
+        told(read_raw(rt.alloc(), bytes).err())?,
+        Some(SnapFault::NotJson)
+    );
     // A byte order mark is no white space.
     let marked = b"\xef\xbb\xbf{}";
     assert_eq!(rt;
-        read_raw(rt.alloc(), marked).err(),
+        told(read_raw(rt.alloc(), marked).err())?,
         Some(SnapFault::NotJson)
     );
     // An object and 126 lists are read, and one more is not.
@@ -121,11 +132,8 @@ fn no_text_and_no_json(rt: HostRuntime) -> Result<(), Fail> {
             text.push_str("]")?;
         }
         text.push_str("}")?;
-        assert_eq!(rt;
-            read_raw(rt.alloc(), text.as_bytes()).err(),
-            want,
-            "{depth}"
-        );
+        let fault = told(read_raw(rt.alloc(), text.as_bytes()).err())?;
+        assert_eq!(rt; fault, want, "{depth}");
     }
     Ok(())
 }
@@ -133,40 +141,37 @@ fn no_text_and_no_json(rt: HostRuntime) -> Result<(), Fail> {
 #[test]
 fn limits(rt: HostRuntime) -> Result<(), Fail> {
     let spaces = vec![in rt.alloc(); b' '; 8_388_609]?;
-    assert_eq!(rt;
-        read_raw(rt.alloc(), &spaces).err(),
-        Some(SnapFault::TooLong)
-    );
-    assert_eq!(rt;
-        read_raw(rt.alloc(), &spaces[1..]).err(),
-        Some(SnapFault::NotJson)
-    );
-    assert_eq!(rt;
-        read_kept(rt.alloc(), &spaces).err(),
-        Some(SnapFault::NotJson)
-    );
+    let fault = told(read_raw(rt.alloc(), &spaces).err())?;
+    assert_eq!(rt; fault, Some(SnapFault::TooLong));
+    let fault = told(read_raw(rt.alloc(), &spaces[1..]).err())?;
+    assert_eq!(rt; fault, Some(SnapFault::NotJson));
+    let fault = told(read_kept(rt.alloc(), &spaces).err())?;
+    assert_eq!(rt; fault, Some(SnapFault::NotJson));
     for (len, want) in [(65_536usize, None), (65_537, Some(SnapFault::BadUrl))] {
         let mut text = String::from_str(rt.alloc(), r#"{"url":"http://a/"#)?;
         for _ in 9..len {
             text.push_str("b")?;
         }
         text.push_str(r#"","nodes":[{"n":1,"p":null,"tag":"p"}]}"#)?;
-        assert_eq!(rt; read_raw(rt.alloc(), text.as_bytes()).err(), want, "{len}");
-        assert_eq!(rt; read_kept(rt.alloc(), text.as_bytes()).err(), None, "{len}");
+        let fault = told(read_raw(rt.alloc(), text.as_bytes()).err())?;
+        assert_eq!(rt; fault, want, "{len}");
+        let fault = told(read_kept(rt.alloc(), text.as_bytes()).err())?;
+        assert_eq!(rt; fault, None, "{len}");
     }
     Ok(())
 }
 
 #[test]
-fn rows_that_make_no_tree(rt: HostRuntime) {
+fn rows_that_make_no_tree(rt: HostRuntime) -> Result<(), Fail> {
     let empty = br#"{"url":"http://a/","nodes":[]}"#;
     let want = Some(SnapFault::Tree(TreeFault::Empty));
-    assert_eq!(rt; read_snapshot(rt.alloc(), empty).err(), want);
-    assert_eq!(rt; read_kept(rt.alloc(), empty).err(), want);
+    assert_eq!(rt; told(read_snapshot(rt.alloc(), empty).err())?, want);
+    assert_eq!(rt; told(read_kept(rt.alloc(), empty).err())?, want);
     let stray =
         br#"{"url":"http://a/","nodes":[{"n":1,"p":null,"tag":"p"},{"n":7,"p":9,"tag":"p"}]}"#;
     let want = Some(SnapFault::Tree(TreeFault::ParentUnknownOrNotOpen { node: NodeId(7) }));
-    assert_eq!(rt; read_snapshot(rt.alloc(), stray).err(), want);
+    assert_eq!(rt; told(read_snapshot(rt.alloc(), stray).err())?, want);
+    Ok(())
 }
 
 /// The smallest whole page, as it may be sent.
@@ -177,29 +182,26 @@ const HOME: &str =
 const WRITTEN: &str =
     r#"{"nodes":[{"attrs":[["lang","en"]],"f":"rv","n":1,"ns":"html","p":null,"tag":"html"},{"attrs":[],"f":"","n":2,"ns":"html","p":1,"tag":"head"},{"attrs":[],"f":"","n":3,"ns":"html","p":2,"tag":"title"},{"f":"","n":4,"p":3,"text":"Home"},{"attrs":[],"f":"vt","n":5,"ns":"svg","p":1,"tag":"body"}],"url":"https://example.org/"}"#;
 
-/// What is written of the tree that a snapshot is, read as one that was sent.
-fn rewritten(alloc: Global, text: &str) -> Option<Vec<u8>> {
-    let tree = read_snapshot(alloc, text.as_bytes()).ok()?;
-    write_snapshot(alloc, &tree).ok()
+/// Whether what is written of the tree that a snapshot is, read as one that was sent, is as it should be.
+fn rewritten(alloc: Global, text: &str) -> Result<bool, Fail> {
+    let tree = read_snapshot(alloc, text.as_bytes())?;
+    is_written(alloc, &tree)
 }
 
 /// The same, read as one that was kept.
-fn rewritten_kept(alloc: Global, text: &str) -> Option<Vec<u8>> {
-    let tree = read_kept(alloc, text.as_bytes()).ok()?;
-    write_snapshot(alloc, &tree).ok()
+fn rewritten_kept(alloc: Global, text: &str) -> Result<bool, Fail> {
+    let tree = read_kept(alloc, text.as_bytes())?;
+    is_written(alloc, &tree)
 }
 
-/// Whether these bytes are what is to be written.
-fn is_written(bytes: Option<Vec<u8>>) -> bool {
-    match bytes {
-        Some(bytes) => bytes.as_slice() == WRITTEN.as_bytes(),
-        None => false,
-    }
+fn is_written(alloc: Global, tree: &Tree) -> Result<bool, Fail> {
+    Ok(write_snapshot(alloc, tree)?.as_slice() == WRITTEN.as_bytes())
 }
 
 #[test]
-fn written_and_read_back(rt: HostRuntime) {
-    assert!(rt; is_written(rewritten(rt.alloc(), HOME)));
-    assert!(rt; is_written(rewritten(rt.alloc(), WRITTEN)));
-    assert!(rt; is_written(rewritten_kept(rt.alloc(), WRITTEN)));
+fn written_and_read_back(rt: HostRuntime) -> Result<(), Fail> {
+    assert!(rt; rewritten(rt.alloc(), HOME)?);
+    assert!(rt; rewritten(rt.alloc(), WRITTEN)?);
+    assert!(rt; rewritten_kept(rt.alloc(), WRITTEN)?);
+    Ok(())
 }

@@ -63,14 +63,11 @@ fn at_most_200_edits_are_carried_out(rt: HostRuntime) -> Result<(), Fail> {
 
 fn keeps_address(alloc: Global, tree: &Tree, edits: &str) -> Result<bool, Fail> {
     let edits = edits_of(alloc, edits)?;
-    Ok(stays_at_address(alloc, tree, edits.as_slice()))
+    stays_at_address(alloc, tree, edits.as_slice())
 }
 
-fn stays_at_address(alloc: Global, tree: &Tree, edits: &[Edit]) -> bool {
-    match apply(alloc, tree, edits) {
-        Ok(edited) => edited.address().as_str() == ADDRESS,
-        Err(_) => false,
-    }
+fn stays_at_address(alloc: Global, tree: &Tree, edits: &[Edit]) -> Result<bool, Fail> {
+    Ok(apply(alloc, tree, edits)?.address().as_str() == ADDRESS)
 }
 
 // Whether a page is as its sketch after edits were applied to it.

@@ -93,10 +93,7 @@ fn nodes_are_moved(rt: HostRuntime) -> Result<(), Fail> {
 }
 
 fn edited(alloc: Global, tree: &Tree, edits: &[Edit]) -> Result<Tree, Fail> {
-    match apply(alloc, tree, edits) {
-        Ok(edited) => Ok(edited),
-        Err(_) => Err(Fail::from("the edits are carried out")),
-    }
+    Ok(apply(alloc, tree, edits)?)
 }
 
 fn has_headings(alloc: Global, tree: &Tree, numbers: &str) -> Result<bool, Fail> {

@@ -1,6 +1,6 @@
 use super::sketch::SHOWN;
 use crate::fault::{EditFault, EditKind};
-use snap_tree::{Attr, Body, Facts, NodeId, Row, Tree};
+use snap_tree::{Attr, Body, Facts, NodeId, OutOfMemory, Row, Tree};
 use std::alloc::{AllocError, Global};
 use std::test::Fail;
 
@@ -87,7 +87,7 @@ fn number_of_facts(facts: Facts) -> u32 {
 // `0: 8 12 5`.
 pub(super) fn refused(alloc: Global, fault: EditFault) -> Result<String, Fail> {
     let EditFault::At { index, kind } = fault else {
-        return Err(Fail::from("no memory"));
+        return Err(Fail::from(OutOfMemory));
     };
     let mut text = format!(in alloc; "{index}: {}", kind.number())?;
     if let EditKind::Tree(fault) = kind {

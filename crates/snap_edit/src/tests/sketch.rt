@@ -13,14 +13,7 @@ pub(super) const SHOWN: u32 = 3;
 pub(super) fn built(alloc: Global, page: &str) -> Result<Tree, Fail> {
     let address = Text::from_str(alloc, ADDRESS)?;
     let rows = rows_of(alloc, page, ';')?;
-    tree_of(alloc, Raw { address, rows })
-}
-
-fn tree_of(alloc: Global, raw: Raw) -> Result<Tree, Fail> {
-    match Tree::build(alloc, raw) {
-        Ok(tree) => Ok(tree),
-        Err(_) => Err(Fail::from("the page is well")),
-    }
+    Ok(Tree::build(alloc, Raw { address, rows })?)
 }
 
 // The rows of a text in which this character stands between two.

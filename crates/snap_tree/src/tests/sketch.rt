@@ -18,10 +18,7 @@ pub(super) fn sketched(alloc: Global, page: &str) -> Result<Raw, Fail> {
 }
 
 pub(super) fn built(alloc: Global, page: &str) -> Result<Tree, Fail> {
-    match Tree::build(alloc, sketched(alloc, page)?) {
-        Ok(tree) => Ok(tree),
-        Err(_) => Err(Fail::from("the page is well")),
-    }
+    Ok(Tree::build(alloc, sketched(alloc, page)?)?)
 }
 
 // The number of the page's first fault and that of its node; 0 where there is none.
@@ -32,7 +29,7 @@ pub(super) fn fault_of(alloc: Global, page: &str) -> Result<(u8, u32), Fail> {
             Some(node) => Ok((fault.number(), node.0)),
             None => Ok((fault.number(), 0)),
         },
-        Err(BuildFault::OutOfMemory) => Err(Fail::from("no memory")),
+        Err(BuildFault::OutOfMemory) => Err(Fail::from(OutOfMemory)),
     }
 }
 
