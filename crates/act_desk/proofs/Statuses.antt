@@ -1,7 +1,5 @@
 -- What each status says, from what a run has found and what it has written of it.
-use Rattle.std.proofs.Common.{◌≡◌, ◌≢◌, ℕ, ◌<◌, ◌≤◌, ◌⊎◌, inl, inr, Bool, true, false, cond, List, [], ◌++◌, length, codes, Option, Some, None, IfSome, Ok, Err, refl, sym, ap, ◌∙◌, subst, append-nil, length-append, arith}
-use Rattle.std.proofs.Math.Seq.{take-length}
-use Rattle.std.proofs.lemmas.List.{take_all}
+use Rattle.std.proofs.Common.{◌≡◌, ◌≢◌, ℕ, ◌<◌, ◌≤◌, ◌⊎◌, inl, inr, Bool, true, false, if◌then◌else◌, List, [], ◌∷◌, ◌++◌, length, Option, Some, None, IfSome, Ok, Err, refl, sym, ap, ◌∙◌, subst, append-nil, length-append, arith}
 use Rattle.std.proofs.lemmas.Bool.{cases_lt, lt-leb}
 use Rattle.std.specs.Io.KnownBytes.{Appends, Consumes, Keeps, IsAtEnd}
 use Rattle.snap_tree.specs.Trees.{Document}
@@ -9,12 +7,14 @@ use Rattle.snap_json.specs.declared.fault.SnapFault.{SnapFault}
 use Rattle.snap_json.specs.declared.fault.SnapFault.TheVariants.{TooLong}
 use Rattle.snap_json.specs.Pages.{sent_tree, tree_in, page_in}
 use Rattle.act_desk.specs.declared.found.Found.{Found}
-use Rattle.act_desk.specs.declared.found.Found.TheVariants.{Audited, Usage, ReadFault, NotSnapshot, NoMemory}
+use Rattle.act_desk.specs.declared.found.Found.TheVariants as found
+use Rattle.act_desk.specs.declared.status.Status.{Status}
+use Rattle.act_desk.specs.declared.status.Status.TheVariants.{NoneFailed, SomeFailed, UsageFault, ReadFault, WriteFault, SnapshotFault, StoreFault, NoMemory}
+use Rattle.act_desk.specs.Status.{status_number}
 use Rattle.act_desk.specs.Counts.{greatest, next, Rose, StoodStill}
-use Rattle.act_desk.specs.Streams.{AppendsFront}
-use Rattle.act_desk.specs.Audit.{Book, report_of, fails, limit, Input, Gave, ReportsOn}
-use Rattle.act_desk.specs.Telling.{Output, Took, BrokeOff, command, Finds, report_in, line_on, write_fault, status_of, IsReportCut, IsLineCut, Tells}
-use Rattle.act_desk.specs.Run.{Outside, Stays, IsStatus, GaveAll, Audits, RefusesWords, MetReadFault, HasFront, IsLine, HasLineFront, FailedOnce, MetWriteFault, RefusesInput, WantsMemory, NoFaults, IsComplete, Runs}
+use Rattle.act_desk.specs.Audit.{Book, limit, Input, Gave, ReportsOn}
+use Rattle.act_desk.specs.Telling.{Output, Took, BrokeOff, command, Finds, report_in, line_on, status_of, IsReportCut, IsLineCut, Tells}
+use Rattle.act_desk.specs.Run.{Outside, Stays, GaveAll, HasPage, Says, Audits, BreaksReport, IsLine, BreaksLine, Means, OneOf, NoFaults, IsReported, Runs}
 
 -- ---- sinks
 
@@ -23,22 +23,12 @@ keeps_from_nothing None b h = tt
 keeps_from_nothing (Some x) None h = h
 keeps_from_nothing (Some x) (Some y) h = h ∙ append-nil x
 
-front_of_nothing : (a b : Option (List ℕ)) → AppendsFront a b [] → Appends a b []
-front_of_nothing a b f =
-    let P : List ℕ → Type 0 = λ l. Appends a b l in
-    subst P (take_all f.0 [] (omega arith)) f.2
-
--- what grew by nothing grew by a front of any line
-front_of_any : (a b : Option (List ℕ)) (line : List ℕ) → Appends a b [] → AppendsFront a b line
-front_of_any a b line h = (0, omega arith, h)
-
-all_of : (a b : Option (List ℕ)) (bytes : List ℕ) → Appends a b bytes → AppendsFront a b bytes
-all_of a b bytes h =
-    let P : List ℕ → Type 0 = λ l. Appends a b l in
-    (length bytes, omega arith, subst P (sym (take-length bytes)) h)
-
 stays : (old new : Output) → Took old new [] → Stays old new
 stays old new took = record { held = keeps_from_nothing old.held new.held took.grown; no_fault = took.no_fault }
+
+-- there is no breaking off in nothing
+some_to_break : (old new : Output) → BrokeOff old new [] → ⊥
+some_to_break old new broke = omega (arith, broke.grown.1)
 
 rose : (count : ℕ) → Rose count (next count)
 rose count = elim (cases_lt count greatest) [ inl low ↦ inl (omega arith) | inr high ↦ inr (omega arith) ]
@@ -46,8 +36,12 @@ rose count = elim (cases_lt count greatest) [ inl low ↦ inl (omega arith) | in
 rose_to : (old now : ℕ) → now ≡ next old → Rose old now
 rose_to old now h = let P : ℕ → Type 0 = λ n. Rose old n in subst P (sym h) (rose old)
 
+no_rise : (old now : ℕ) → StoodStill old now → Rose old now → ⊥
+no_rise old now still (inl more) = omega (arith, still.same, more)
+no_rise old now still (inr most) = omega (arith, still.below, most)
+
 no_break : (old now : ℕ) → StoodStill old now → now ≡ next old → ⊥
-no_break old now still h = omega (arith, still.same, still.below)
+no_break old now still h = no_rise old now still (rose_to old now h)
 
 -- ---- sources
 
@@ -94,286 +88,143 @@ all_refused old new left bytes page fault is gave not good =
 
 -- ---- what was written whole
 
--- what a run that wrote all says
-abbrev Says : Book → List (List ℕ) → Outside → Outside → Found → Type 0
-Says book words old new (Audited report true) = Audits book words old new true
-Says book words old new (Audited report false) = Audits book words old new false
-Says book words old new Usage = RefusesWords words old new
-Says book words old new ReadFault = MetReadFault old new
-Says book words old new (NotSnapshot line) = RefusesInput old new
-Says book words old new NoMemory = WantsMemory old new
+has_page : (book : Book) (words : List (List ℕ)) (old new : Input) (bytes report : List ℕ) (failed : Bool) → words ≡ command → Gave old new bytes → (on : ReportsOn book bytes report failed) → HasPage words old new on.page
+has_page book words old new bytes report failed is gave on =
+    record { words_are = is; bytes = bytes; gave = gave_all old new bytes on.page on.is_snapshot gave; is_snapshot = on.is_snapshot }
 
-audits : (book : Book) (words : List (List ℕ)) (old new : Outside) (report : List ℕ) (failed : Bool) → words ≡ command →
-    (bytes : List ℕ) × Gave old.input new.input bytes × ReportsOn book bytes report failed → Took old.out new.out report → Took old.err new.err [] → Audits book words old new failed
-audits book words old new report failed is found out err =
-    let gave = found.1 in
-    let on = found.2 in
+audits : (book : Book) (words : List (List ℕ)) (old new : Outside) (report : List ℕ) (failed : Bool) → Finds book words old.input new.input (found.Audited report failed) → Took old.out new.out report → Took old.err new.err [] → Audits book words old new failed
+audits book words old new report failed f out err =
+    let on = f.1.2 in
     let P : List ℕ → Type 0 = λ l. Took old.out new.out l in
     record {
-      words_are = is;
-      bytes = found.0;
       page = on.page;
-      input = gave_all old.input new.input found.0 on.page on.is_snapshot gave;
-      is_snapshot = on.is_snapshot;
-      out = subst P on.report_is out;
-      err = stays old.err new.err err;
+      is_snapshot = has_page book words old.input new.input f.1.0 report failed f.0 f.1.1 on;
+      reports = record { out = subst P on.report_is out; err = stays old.err new.err err };
       outcome = sym on.failed_is;
     }
 
-says : (book : Book) (words : List (List ℕ)) (old new : Outside) (found : Found) → Finds book words old.input new.input found →
-    Took old.out new.out (report_in found) → Took old.err new.err (line_on found) → Says book words old new found
-says book words old new (Audited report true) f out err = audits book words old new report true f.0 f.1 out err
-says book words old new (Audited report false) f out err = audits book words old new report false f.0 f.1 out err
-says book words old new Usage f out err = record { words_are_not = f.0; input = f.1; out = stays old.out new.out out; err = err }
-says book words old new ReadFault f out err = record { rose = rose_to old.input.faults new.input.faults f.1; out = stays old.out new.out out; err = err }
-says book words old new (NotSnapshot line) f out err =
-    let P : List ℕ → Type 0 = λ l. Took old.err new.err l in
-    record { bytes = f.1.0; fault = f.1.2.fault; input = f.1.1; is_refused = f.1.2.is_refused; out = stays old.out new.out out; err = subst P f.1.2.line_is err }
-says book words old new NoMemory f out err = record { no_fault = f.1; out = stays old.out new.out out; err = err }
+says : (old new : Outside) (line : List ℕ) → Took old.out new.out [] → Took old.err new.err line → Says old new line
+says old new line out err = record { out = stays old.out new.out out; err = err }
+
+whole : (book : Book) (words : List (List ℕ)) (old new : Outside) (f : Found) → Finds book words old.input new.input f → Took old.out new.out (report_in f) → Took old.err new.err (line_on f) → Means book words old new (status_of f)
+whole book words old new (found.Audited report true) f out err = audits book words old new report true f out err
+whole book words old new (found.Audited report false) f out err = audits book words old new report false f out err
+whole book words old new found.Usage f out err = (record { words_are_not = f.0; input = f.1 }, says old new _ out err)
+whole book words old new found.ReadFault f out err = (record { words_are = f.0; rose = rose_to old.input.faults new.input.faults f.1 }, says old new _ out err)
+whole book words old new (found.NotSnapshot line) f out err =
+    let on = f.1.2 in
+    let P : List ℕ → Type 0 = λ l. Says old new l in
+    record { fault = on.fault; is_fault = record { words_are = f.0; bytes = f.1.0; gave = f.1.1; is_refused = on.is_refused }; says = subst P on.line_is (says old new line out err) }
+whole book words old new found.NoMemory f out err = (f.1, says old new _ out err)
 
 -- ---- what broke off
 
--- what standard output has where it took a front of the report in what was found
-has_front : (book : Book) (words : List (List ℕ)) (old new : Outside) (found : Found) → Finds book words old.input new.input found → AppendsFront old.out.held new.out.held (report_in found) →
-    Keeps old.out.held new.out.held ⊎ HasFront book old new
-has_front book words old new (Audited report failed) f h =
+report_cut : (book : Book) (words : List (List ℕ)) (old new : Outside) (f : Found) (status : Status) → Finds book words old.input new.input f → IsReportCut f old.out new.out old.err new.err status → BreaksReport book words old new
+report_cut book words old new (found.Audited report failed) status f cut =
     let on = f.1.2 in
-    let P : List ℕ → Type 0 = λ l. AppendsFront old.out.held new.out.held l in
-    inr (record { bytes = f.1.0; page = on.page; input = gave_all old.input new.input f.1.0 on.page on.is_snapshot f.1.1; is_snapshot = on.is_snapshot; grown = subst P on.report_is h })
-has_front book words old new Usage f h = inl (keeps_from_nothing old.out.held new.out.held (front_of_nothing old.out.held new.out.held h))
-has_front book words old new ReadFault f h = inl (keeps_from_nothing old.out.held new.out.held (front_of_nothing old.out.held new.out.held h))
-has_front book words old new (NotSnapshot line) f h = inl (keeps_from_nothing old.out.held new.out.held (front_of_nothing old.out.held new.out.held h))
-has_front book words old new NoMemory f h = inl (keeps_from_nothing old.out.held new.out.held (front_of_nothing old.out.held new.out.held h))
+    let P : List ℕ → Type 0 = λ l. BrokeOff old.out new.out l in
+    record { page = on.page; is_snapshot = has_page book words old.input new.input f.1.0 report failed f.0 f.1.1 on; out = subst P on.report_is cut.out_broke; err = cut.err_told }
+report_cut book words old new found.Usage status f cut = absurd (some_to_break old.out new.out cut.out_broke)
+report_cut book words old new found.ReadFault status f cut = absurd (some_to_break old.out new.out cut.out_broke)
+report_cut book words old new (found.NotSnapshot line) status f cut = absurd (some_to_break old.out new.out cut.out_broke)
+report_cut book words old new found.NoMemory status f cut = absurd (some_to_break old.out new.out cut.out_broke)
 
-line_front : (old new : Output) (line : List ℕ) → IsLine line → AppendsFront old.held new.held line → HasLineFront old new
-line_front old new line is h = record { line = line; is_line = is; grown = h }
+breaks_line : (words : List (List ℕ)) (old new : Outside) (line : List ℕ) → IsLine words old.input new.input line → Took old.out new.out [] → BrokeOff old.err new.err line → BreaksLine words old new
+breaks_line words old new line is out err = record { line = line; is_line = is; out = stays old.out new.out out; err = err }
 
-is_write_fault : IsLine write_fault
-is_write_fault = inr (inr (inl refl))
+line_cut : (book : Book) (words : List (List ℕ)) (old new : Outside) (f : Found) (status : Status) → Finds book words old.input new.input f → IsLineCut f old.out new.out old.err new.err status → BreaksLine words old new
+line_cut book words old new (found.Audited report failed) status f cut = absurd (some_to_break old.err new.err cut.err_broke)
+line_cut book words old new found.Usage status f cut = breaks_line words old new _ (inl (record { words_are_not = f.0; input = f.1 }, refl)) cut.out_took cut.err_broke
+line_cut book words old new found.ReadFault status f cut =
+    breaks_line words old new _ (inr (inl (record { words_are = f.0; rose = rose_to old.input.faults new.input.faults f.1 }, refl))) cut.out_took cut.err_broke
+line_cut book words old new (found.NotSnapshot line) status f cut =
+    let on = f.1.2 in
+    breaks_line words old new line (inr (inr (inl (on.fault, (record { words_are = f.0; bytes = f.1.0; gave = f.1.1; is_refused = on.is_refused }, on.line_is))))) cut.out_took cut.err_broke
+line_cut book words old new found.NoMemory status f cut = breaks_line words old new _ (inr (inr (inr (f.1, refl)))) cut.out_took cut.err_broke
 
--- what standard error has where it took a front of the line on what was found
-has_line_front : (book : Book) (words : List (List ℕ)) (old new : Outside) (found : Found) → Finds book words old.input new.input found → AppendsFront old.err.held new.err.held (line_on found) → HasLineFront old.err new.err
-has_line_front book words old new (Audited report failed) f h =
-    line_front old.err new.err write_fault is_write_fault (front_of_any old.err.held new.err.held write_fault (front_of_nothing old.err.held new.err.held h))
-has_line_front book words old new Usage f h = line_front old.err new.err (codes "usage fault\n") (inl refl) h
-has_line_front book words old new ReadFault f h = line_front old.err new.err (codes "read fault\n") (inr (inl refl)) h
-has_line_front book words old new (NotSnapshot line) f h = line_front old.err new.err line (inr (inr (inr (inr (f.1.2.fault, f.1.2.line_is))))) h
-has_line_front book words old new NoMemory f h = line_front old.err new.err (codes "no memory\n") (inr (inr (inr (inl refl)))) h
+-- what a run says by its status
+means : (book : Book) (words : List (List ℕ)) (old new : Outside) (f : Found) (status : Status) → Finds book words old.input new.input f → Tells f old.out new.out old.err new.err status → Means book words old new status
+means book words old new f status finds (inl w) = subst (Means book words old new) (sym w.status_is) (whole book words old new f finds w.out_took w.err_took)
+means book words old new f status finds (inr (inl cut)) = subst (Means book words old new) (sym cut.status_is) (inl (report_cut book words old new f status finds cut))
+means book words old new f status finds (inr (inr cut)) = subst (Means book words old new) (sym cut.status_is) (inr (line_cut book words old new f status finds cut))
 
-err_told : (old new : Output) → Took old new write_fault ⊎ BrokeOff old new write_fault → HasLineFront old new × FailedOnce old.faults new.faults
-err_told old new (inl took) = (line_front old new write_fault is_write_fault (all_of old.held new.held write_fault took.grown), inl took.no_fault)
-err_told old new (inr broke) = (line_front old new write_fault is_write_fault broke.grown, inr broke.fault)
+-- ---- which statuses can come
 
-report_cut : (book : Book) (words : List (List ℕ)) (old new : Outside) (found : Found) (status : ℕ) → Finds book words old.input new.input found → IsReportCut found old.out new.out old.err new.err status → MetWriteFault book old new
-report_cut book words old new found status f cut =
-    let told = err_told old.err new.err cut.err_told in
-    record {
-      rose = inl (rose_to old.out.faults new.out.faults cut.out_broke.fault);
-      out = has_front book words old new found f cut.out_broke.grown;
-      err = told.0;
-      out_once = inr cut.out_broke.fault;
-      err_once = told.1;
-    }
+no_page : (words : List (List ℕ)) (old new : Input) (page : Document) (left : List ℕ) (fault : SnapFault) → HasPage words old new page → old.left ≡ Some left → sent_tree left ≡ Err fault → ⊥
+no_page words old new page left fault has told_left bad =
+    let P : List ℕ → Type 0 = λ l. sent_tree l ≡ Err fault in
+    not_both has.bytes page fault has.is_snapshot (subst P (told old.left left has.bytes told_left has.gave.all) bad)
 
-line_cut : (book : Book) (words : List (List ℕ)) (old new : Outside) (found : Found) (status : ℕ) → Finds book words old.input new.input found → IsLineCut found old.out new.out old.err new.err status → MetWriteFault book old new
-line_cut book words old new found status f cut =
-    record {
-      rose = inr (rose_to old.err.faults new.err.faults cut.err_broke.fault);
-      out = has_front book words old new found f (all_of old.out.held new.out.held (report_in found) cut.out_took.grown);
-      err = has_line_front book words old new found f cut.err_broke.grown;
-      out_once = inl cut.out_took.no_fault;
-      err_once = inr cut.err_broke.fault;
-    }
+other_words : (book : Book) (words : List (List ℕ)) (old new : Outside) (status : Status) → Means book words old new status → words ≢ command → OneOf (UsageFault ∷ WriteFault ∷ NoMemory ∷ []) status
+other_words book words old new NoneFailed m not = absurd (not m.is_snapshot.words_are)
+other_words book words old new SomeFailed m not = absurd (not m.is_snapshot.words_are)
+other_words book words old new UsageFault m not = inl refl
+other_words book words old new ReadFault m not = absurd (not m.0.words_are)
+other_words book words old new WriteFault m not = inr (inl refl)
+other_words book words old new SnapshotFault m not = absurd (not m.is_fault.words_are)
+other_words book words old new StoreFault m not = absurd m
+other_words book words old new NoMemory m not = inr (inr (inl refl))
 
--- ---- each status
-
--- a run: what it found, and what it wrote of it
-pub record Ran (book : Book) (words : List (List ℕ)) (old new : Outside) (found : Found) (status : ℕ) : Type 0 where
-  pub finds : Finds book words old.input new.input found
-  pub tells : Tells found old.out new.out old.err new.err status
-
--- where the status isn't 4, all was written
-written : (book : Book) (words : List (List ℕ)) (old new : Outside) (found : Found) (status : ℕ) → Ran book words old new found status → status ≢ 4 → (status ≡ status_of found) × Says book words old new found
-written book words old new found status ran other =
-    elim ran.tells [
-      | inl w ↦ (w.status_is, says book words old new found ran.finds w.out_took w.err_took)
-      | inr cut ↦ elim cut [ inl r ↦ absurd (other r.status_is) | inr l ↦ absurd (other l.status_is) ]
-    ]
-
-is_status : (found : Found) → IsStatus (status_of found)
-is_status (Audited report true) = refl
-is_status (Audited report false) = refl
-is_status Usage = refl
-is_status ReadFault = refl
-is_status (NotSnapshot line) = refl
-is_status NoMemory = refl
-
-status_known : (book : Book) (words : List (List ℕ)) (old new : Outside) (found : Found) (status : ℕ) → Ran book words old new found status → IsStatus status
-status_known book words old new found status ran =
-    elim ran.tells [
-      | inl w ↦ subst IsStatus (sym w.status_is) (is_status found)
-      | inr cut ↦ elim cut [ inl r ↦ subst IsStatus (sym r.status_is) refl | inr l ↦ subst IsStatus (sym l.status_is) refl ]
-    ]
-
-at_0 : (book : Book) (words : List (List ℕ)) (old new : Outside) (found : Found) → 0 ≡ status_of found → Says book words old new found → Audits book words old new false
-at_0 book words old new (Audited report true) e s = absurd (omega arith)
-at_0 book words old new (Audited report false) e s = s
-at_0 book words old new Usage e s = absurd (omega arith)
-at_0 book words old new ReadFault e s = absurd (omega arith)
-at_0 book words old new (NotSnapshot line) e s = absurd (omega arith)
-at_0 book words old new NoMemory e s = absurd (omega arith)
-
-at_1 : (book : Book) (words : List (List ℕ)) (old new : Outside) (found : Found) → 1 ≡ status_of found → Says book words old new found → Audits book words old new true
-at_1 book words old new (Audited report true) e s = s
-at_1 book words old new (Audited report false) e s = absurd (omega arith)
-at_1 book words old new Usage e s = absurd (omega arith)
-at_1 book words old new ReadFault e s = absurd (omega arith)
-at_1 book words old new (NotSnapshot line) e s = absurd (omega arith)
-at_1 book words old new NoMemory e s = absurd (omega arith)
-
-at_2 : (book : Book) (words : List (List ℕ)) (old new : Outside) (found : Found) → 2 ≡ status_of found → Says book words old new found → RefusesWords words old new
-at_2 book words old new (Audited report true) e s = absurd (omega arith)
-at_2 book words old new (Audited report false) e s = absurd (omega arith)
-at_2 book words old new Usage e s = s
-at_2 book words old new ReadFault e s = absurd (omega arith)
-at_2 book words old new (NotSnapshot line) e s = absurd (omega arith)
-at_2 book words old new NoMemory e s = absurd (omega arith)
-
-at_3 : (book : Book) (words : List (List ℕ)) (old new : Outside) (found : Found) → 3 ≡ status_of found → Says book words old new found → MetReadFault old new
-at_3 book words old new (Audited report true) e s = absurd (omega arith)
-at_3 book words old new (Audited report false) e s = absurd (omega arith)
-at_3 book words old new Usage e s = absurd (omega arith)
-at_3 book words old new ReadFault e s = s
-at_3 book words old new (NotSnapshot line) e s = absurd (omega arith)
-at_3 book words old new NoMemory e s = absurd (omega arith)
-
-at_5 : (book : Book) (words : List (List ℕ)) (old new : Outside) (found : Found) → 5 ≡ status_of found → Says book words old new found → RefusesInput old new
-at_5 book words old new (Audited report true) e s = absurd (omega arith)
-at_5 book words old new (Audited report false) e s = absurd (omega arith)
-at_5 book words old new Usage e s = absurd (omega arith)
-at_5 book words old new ReadFault e s = absurd (omega arith)
-at_5 book words old new (NotSnapshot line) e s = s
-at_5 book words old new NoMemory e s = absurd (omega arith)
-
-at_8 : (book : Book) (words : List (List ℕ)) (old new : Outside) (found : Found) → 8 ≡ status_of found → Says book words old new found → WantsMemory old new
-at_8 book words old new (Audited report true) e s = absurd (omega arith)
-at_8 book words old new (Audited report false) e s = absurd (omega arith)
-at_8 book words old new Usage e s = absurd (omega arith)
-at_8 book words old new ReadFault e s = absurd (omega arith)
-at_8 book words old new (NotSnapshot line) e s = absurd (omega arith)
-at_8 book words old new NoMemory e s = s
-
-none_failed : (book : Book) (words : List (List ℕ)) (old new : Outside) (found : Found) (status : ℕ) → Ran book words old new found status → status ≡ 0 → Audits book words old new false
-none_failed book words old new found status ran is =
-    let w = written book words old new found status ran (λ e. omega arith) in at_0 book words old new found (sym is ∙ w.0) w.1
-
-some_failed : (book : Book) (words : List (List ℕ)) (old new : Outside) (found : Found) (status : ℕ) → Ran book words old new found status → status ≡ 1 → Audits book words old new true
-some_failed book words old new found status ran is =
-    let w = written book words old new found status ran (λ e. omega arith) in at_1 book words old new found (sym is ∙ w.0) w.1
-
-usage_fault : (book : Book) (words : List (List ℕ)) (old new : Outside) (found : Found) (status : ℕ) → Ran book words old new found status → status ≡ 2 → RefusesWords words old new
-usage_fault book words old new found status ran is =
-    let w = written book words old new found status ran (λ e. omega arith) in at_2 book words old new found (sym is ∙ w.0) w.1
-
-read_fault : (book : Book) (words : List (List ℕ)) (old new : Outside) (found : Found) (status : ℕ) → Ran book words old new found status → status ≡ 3 → MetReadFault old new
-read_fault book words old new found status ran is =
-    let w = written book words old new found status ran (λ e. omega arith) in at_3 book words old new found (sym is ∙ w.0) w.1
-
-no_snapshot : (book : Book) (words : List (List ℕ)) (old new : Outside) (found : Found) (status : ℕ) → Ran book words old new found status → status ≡ 5 → RefusesInput old new
-no_snapshot book words old new found status ran is =
-    let w = written book words old new found status ran (λ e. omega arith) in at_5 book words old new found (sym is ∙ w.0) w.1
-
-no_memory : (book : Book) (words : List (List ℕ)) (old new : Outside) (found : Found) (status : ℕ) → Ran book words old new found status → status ≡ 8 → WantsMemory old new
-no_memory book words old new found status ran is =
-    let w = written book words old new found status ran (λ e. omega arith) in at_8 book words old new found (sym is ∙ w.0) w.1
-
-not_4 : (found : Found) → 4 ≡ status_of found → ⊥
-not_4 (Audited report true) e = omega arith
-not_4 (Audited report false) e = omega arith
-not_4 Usage e = omega arith
-not_4 ReadFault e = omega arith
-not_4 (NotSnapshot line) e = omega arith
-not_4 NoMemory e = omega arith
-
-met_write_fault : (book : Book) (words : List (List ℕ)) (old new : Outside) (found : Found) (status : ℕ) → Ran book words old new found status → status ≡ 4 → MetWriteFault book old new
-met_write_fault book words old new found status ran is =
-    elim ran.tells [
-      | inl w ↦ absurd (not_4 found (sym is ∙ w.status_is))
-      | inr cut ↦ elim cut [ inl r ↦ report_cut book words old new found status ran.finds r | inr l ↦ line_cut book words old new found status ran.finds l ]
-    ]
+no_snapshot : (book : Book) (words : List (List ℕ)) (old new : Outside) (status : Status) → Means book words old new status → words ≡ command → (left : List ℕ) (fault : SnapFault) → old.input.left ≡ Some left → sent_tree left ≡ Err fault →
+    OneOf (ReadFault ∷ WriteFault ∷ SnapshotFault ∷ NoMemory ∷ []) status
+no_snapshot book words old new NoneFailed m cmd left fault told_left bad = absurd (no_page words old.input new.input m.page left fault m.is_snapshot told_left bad)
+no_snapshot book words old new SomeFailed m cmd left fault told_left bad = absurd (no_page words old.input new.input m.page left fault m.is_snapshot told_left bad)
+no_snapshot book words old new UsageFault m cmd left fault told_left bad = absurd (m.0.words_are_not cmd)
+no_snapshot book words old new ReadFault m cmd left fault told_left bad = inl refl
+no_snapshot book words old new WriteFault m cmd left fault told_left bad = inr (inl refl)
+no_snapshot book words old new SnapshotFault m cmd left fault told_left bad = inr (inr (inl refl))
+no_snapshot book words old new StoreFault m cmd left fault told_left bad = absurd m
+no_snapshot book words old new NoMemory m cmd left fault told_left bad = inr (inr (inr (inl refl)))
 
 -- ---- without faults
 
--- without faults all was written
-unbroken : (book : Book) (words : List (List ℕ)) (old new : Outside) (found : Found) (status : ℕ) → Ran book words old new found status → NoFaults old new → (status ≡ status_of found) × Says book words old new found
-unbroken book words old new found status ran none =
-    elim ran.tells [
-      | inl w ↦ (w.status_is, says book words old new found ran.finds w.out_took w.err_took)
-      | inr cut ↦ elim cut [
-        | inl r ↦ absurd (no_break old.out.faults new.out.faults none.out r.out_broke.fault)
-        | inr l ↦ absurd (no_break old.err.faults new.err.faults none.err l.err_broke.fault)
-      ]
-    ]
+no_write_fault : (book : Book) (words : List (List ℕ)) (old new : Outside) → NoFaults old new → Means book words old new WriteFault → ⊥
+no_write_fault book words old new none (inl cut) = no_break old.out.faults new.out.faults none.out cut.out.fault
+no_write_fault book words old new none (inr cut) = no_break old.err.faults new.err.faults none.err cut.err.fault
 
-other_words : (book : Book) (words : List (List ℕ)) (old new : Outside) (found : Found) (status : ℕ) → Finds book words old.input new.input found → status ≡ status_of found → words ≢ command → status ≡ 2
-other_words book words old new (Audited report failed) status f is not = absurd (not f.0)
-other_words book words old new Usage status f is not = is
-other_words book words old new ReadFault status f is not = absurd (not f.0)
-other_words book words old new (NotSnapshot line) status f is not = absurd (not f.0)
-other_words book words old new NoMemory status f is not = absurd (not f.0)
-
--- what an audit of a snapshot gives
-reported : (book : Book) (words : List (List ℕ)) (old new : Outside) (status : ℕ) (failed : Bool) (left : List ℕ) (page : Document) → status ≡ cond failed 1 0 → Audits book words old new failed → old.input.left ≡ Some left → sent_tree left ≡ Ok page →
-    (status ≡ cond (fails book page) 1 0) × Took old.out new.out (report_of book page) × Stays old.err new.err
-reported book words old new status failed left page is a told_left good =
-    let same_bytes : left ≡ a.bytes = told old.input.left left a.bytes told_left a.input.all in
-    let same : a.page ≡ page = same_page left a.bytes page a.page same_bytes good a.is_snapshot in
-    let P : Document → Type 0 = λ p. (status ≡ cond (fails book p) 1 0) × Took old.out new.out (report_of book p) × Stays old.err new.err in
-    subst P same (is ∙ ap (λ b. cond b 1 0) (sym a.outcome), a.out, a.err)
+-- the page of an audit is that of what the source tells
+reported : (book : Book) (words : List (List ℕ)) (old new : Outside) (status : Status) (failed : Bool) → status ≡ (if failed then SomeFailed else NoneFailed) → (a : Audits book words old new failed) → (left : List ℕ) (page : Document) → old.input.left ≡ Some left → sent_tree left ≡ Ok page → IsReported book old new page status
+reported book words old new status failed is a left page told_left good =
+    let same_bytes : left ≡ a.is_snapshot.bytes = told old.input.left left a.is_snapshot.bytes told_left a.is_snapshot.gave.all in
+    let same : a.page ≡ page = same_page left a.is_snapshot.bytes page a.page same_bytes good a.is_snapshot.is_snapshot in
+    subst (λ p. IsReported book old new p status) same (a.reports, is ∙ ap (λ b. if b then SomeFailed else NoneFailed) (sym a.outcome))
   where
     same_page : (l b : List ℕ) (p q : Document) → l ≡ b → sent_tree l ≡ Ok p → sent_tree b ≡ Ok q → q ≡ p
     same_page l b p q e h k = cc (ap sent_tree e)
 
-on_snapshot : (book : Book) (words : List (List ℕ)) (old new : Outside) (found : Found) (status : ℕ) → Finds book words old.input new.input found → status ≡ status_of found → Says book words old new found → NoFaults old new → words ≡ command →
-    (left : List ℕ) (page : Document) → old.input.left ≡ Some left → sent_tree left ≡ Ok page → ((status ≡ cond (fails book page) 1 0) × Took old.out new.out (report_of book page) × Stays old.err new.err) ⊎ (status ≡ 8)
-on_snapshot book words old new (Audited report true) status f is s none cmd left page told_left good = inl (reported book words old new status true left page is s told_left good)
-on_snapshot book words old new (Audited report false) status f is s none cmd left page told_left good = inl (reported book words old new status false left page is s told_left good)
-on_snapshot book words old new Usage status f is s none cmd left page told_left good = absurd (f.0 cmd)
-on_snapshot book words old new ReadFault status f is s none cmd left page told_left good = absurd (no_break old.input.faults new.input.faults none.input f.1)
-on_snapshot book words old new (NotSnapshot line) status f is s none cmd left page told_left good = absurd (all_refused old.input new.input left f.1.0 page f.1.2.fault told_left f.1.1 f.1.2.is_refused good)
-on_snapshot book words old new NoMemory status f is s none cmd left page told_left good = inr is
+whole_snapshot : (book : Book) (words : List (List ℕ)) (old new : Outside) (status : Status) → Means book words old new status → NoFaults old new → words ≡ command → (left : List ℕ) (page : Document) → old.input.left ≡ Some left → sent_tree left ≡ Ok page →
+    IsReported book old new page status ⊎ (status ≡ NoMemory)
+whole_snapshot book words old new NoneFailed m none cmd left page told_left good = inl (reported book words old new NoneFailed false refl m left page told_left good)
+whole_snapshot book words old new SomeFailed m none cmd left page told_left good = inl (reported book words old new SomeFailed true refl m left page told_left good)
+whole_snapshot book words old new UsageFault m none cmd left page told_left good = absurd (m.0.words_are_not cmd)
+whole_snapshot book words old new ReadFault m none cmd left page told_left good = absurd (no_rise old.input.faults new.input.faults none.input m.0.rose)
+whole_snapshot book words old new WriteFault m none cmd left page told_left good = absurd (no_write_fault book words old new none m)
+whole_snapshot book words old new SnapshotFault m none cmd left page told_left good = absurd (all_refused old.input new.input left m.is_fault.bytes page m.fault told_left m.is_fault.gave m.is_fault.is_refused good)
+whole_snapshot book words old new StoreFault m none cmd left page told_left good = absurd m
+whole_snapshot book words old new NoMemory m none cmd left page told_left good = inr refl
 
-on_other : (book : Book) (words : List (List ℕ)) (old new : Outside) (found : Found) (status : ℕ) → Finds book words old.input new.input found → status ≡ status_of found → Says book words old new found → NoFaults old new → words ≡ command →
-    (left : List ℕ) (fault : SnapFault) → old.input.left ≡ Some left → sent_tree left ≡ Err fault → (status ≡ 5) ⊎ (status ≡ 8)
-on_other book words old new (Audited report failed) status f is s none cmd left fault told_left bad =
-    let on = f.1.2 in
-    let a = gave_all old.input new.input f.1.0 on.page on.is_snapshot f.1.1 in
-    let P : List ℕ → Type 0 = λ l. sent_tree l ≡ Err fault in
-    absurd (not_both f.1.0 on.page fault on.is_snapshot (subst P (told old.input.left left f.1.0 told_left a.all) bad))
-on_other book words old new Usage status f is s none cmd left fault told_left bad = absurd (f.0 cmd)
-on_other book words old new ReadFault status f is s none cmd left fault told_left bad = absurd (no_break old.input.faults new.input.faults none.input f.1)
-on_other book words old new (NotSnapshot line) status f is s none cmd left fault told_left bad = inl is
-on_other book words old new NoMemory status f is s none cmd left fault told_left bad = inr is
+-- of the statuses that can come, those that need no fault
+complete_words : (book : Book) (words : List (List ℕ)) (old new : Outside) (status : Status) → Means book words old new status → NoFaults old new → OneOf (UsageFault ∷ WriteFault ∷ NoMemory ∷ []) status → OneOf (UsageFault ∷ NoMemory ∷ []) status
+complete_words book words old new status m none (inl usage) = inl usage
+complete_words book words old new status m none (inr (inl is)) = absurd (no_write_fault book words old new none (subst (Means book words old new) is m))
+complete_words book words old new status m none (inr (inr memory)) = inr memory
 
-complete : (book : Book) (words : List (List ℕ)) (old new : Outside) (found : Found) (status : ℕ) → Ran book words old new found status → NoFaults old new → IsComplete book words old new status
-complete book words old new found status ran none =
-    let w = unbroken book words old new found status ran none in
+complete_refusal : (book : Book) (words : List (List ℕ)) (old new : Outside) (status : Status) → Means book words old new status → NoFaults old new → OneOf (ReadFault ∷ WriteFault ∷ SnapshotFault ∷ NoMemory ∷ []) status → OneOf (SnapshotFault ∷ NoMemory ∷ []) status
+complete_refusal book words old new status m none (inl is) = let read : Means book words old new ReadFault = subst (Means book words old new) is m in absurd (no_rise old.input.faults new.input.faults none.input read.0.rose)
+complete_refusal book words old new status m none (inr (inl is)) = absurd (no_write_fault book words old new none (subst (Means book words old new) is m))
+complete_refusal book words old new status m none (inr (inr others)) = others
+
+pub runs : (book : Book) (words : List (List ℕ)) (old new : Outside) (f : Found) (status : Status) (number : ℕ) → Finds book words old.input new.input f → Tells f old.out new.out old.err new.err status → number ≡ status_number status → Runs book words old new number
+runs book words old new f status number finds tells is =
+    let m = means book words old new f status finds tells in
     record {
-      other_words = λ not. inl (other_words book words old new found status ran.finds w.0 not);
-      snapshot = λ cmd left page told_left good. on_snapshot book words old new found status ran.finds w.0 w.1 none cmd left page told_left good;
-      no_snapshot = λ cmd left fault told_left bad. on_other book words old new found status ran.finds w.0 w.1 none cmd left fault told_left bad;
-    }
-
-pub runs : (book : Book) (words : List (List ℕ)) (old new : Outside) (found : Found) (status : ℕ) → Ran book words old new found status → Runs book words old new status
-runs book words old new found status ran =
-    record {
-      no_other = status_known book words old new found status ran;
-      none_failed = none_failed book words old new found status ran;
-      some_failed = some_failed book words old new found status ran;
-      usage_fault = usage_fault book words old new found status ran;
-      read_fault = read_fault book words old new found status ran;
-      write_fault = met_write_fault book words old new found status ran;
-      no_snapshot = no_snapshot book words old new found status ran;
-      no_memory = no_memory book words old new found status ran;
-      complete = complete book words old new found status ran;
+      status = status;
+      number_is = is;
+      means = m;
+      bounded = record { other_words = other_words book words old new status m; no_snapshot = no_snapshot book words old new status m };
+      complete = λ none. record {
+        other_words = λ not. complete_words book words old new status m none (other_words book words old new status m not);
+        snapshot = whole_snapshot book words old new status m none;
+        no_snapshot = λ cmd left fault told_left bad. complete_refusal book words old new status m none (no_snapshot book words old new status m cmd left fault told_left bad);
+      };
     }

@@ -7,6 +7,7 @@ pub mod TextReport
 pub mod FaultLine
 pub mod Early
 pub mod Audit
+pub mod Status
 pub mod Telling
 pub mod Run
 pub mod Start

@@ -1,15 +1,16 @@
 -- What each status of a run says.
-use Rattle.std.specs.Prelude.{◌≡◌, ◌≢◌, ◌==◌, ℕ, List, [], ◌∷◌, codes, ◌⊎◌, Bool, true, false, if◌then◌else◌, IsTrue, Some, IfSome, Ok, Err}
-use Rattle.std.specs.List.{list_any}
+use Rattle.std.specs.Prelude.{◌≡◌, ◌≢◌, ℕ, List, [], ◌∷◌, ◌⊎◌, Bool, true, false, if◌then◌else◌, Some, IfSome, Ok, Err}
 use Rattle.std.specs.Io.KnownBytes.{Keeps, IsAtEnd}
 use Rattle.snap_tree.specs.Trees.{Document}
 use Rattle.snap_json.specs.declared.fault.SnapFault.{SnapFault}
 use Rattle.snap_json.specs.Pages.{sent_tree}
-use Rattle.act_desk.specs.Counts.{next, Rose, StoodStill}
-use Rattle.act_desk.specs.Streams.{AppendsFront}
+use Rattle.act_desk.specs.declared.status.Status.{Status}
+use Rattle.act_desk.specs.declared.status.Status.TheVariants.{NoneFailed, SomeFailed, UsageFault, ReadFault, WriteFault, SnapshotFault, StoreFault, NoMemory}
+use Rattle.act_desk.specs.Status.{status_number, status_line}
+use Rattle.act_desk.specs.Counts.{Rose, StoodStill}
 use Rattle.act_desk.specs.FaultLine.{fault_line}
 use Rattle.act_desk.specs.Audit.{Book, report_of, fails, Input, Gave}
-use Rattle.act_desk.specs.Telling.{Output, Took, command, write_fault}
+use Rattle.act_desk.specs.Telling.{Output, Took, BrokeOff, TookOrBroke, command}
 
 -- all that a run meets: a source, standard output and standard error
 pub record Outside : Type 0 where
@@ -22,9 +23,7 @@ pub record Stays (old new : Output) : Type 0 where
   pub held : Keeps old.held new.held
   pub no_fault : new.faults ≡ old.faults
 
--- no other status comes
-abbrev pub IsStatus : ℕ → Type 0
-IsStatus status = IsTrue (list_any (λ s. s == status) (0 ∷ 1 ∷ 2 ∷ 3 ∷ 4 ∷ 5 ∷ 8 ∷ []))
+-- ---- why a run ends
 
 -- The source was read to its end without a fault: where it tells its bytes, these are all that were
 -- left, and nothing is left now.
@@ -33,77 +32,102 @@ pub record GaveAll (old new : Input) (bytes : List ℕ) : Type 0 where
   pub end : IfSome old.left (λ _. IsAtEnd new.left)
   pub no_fault : new.faults ≡ old.faults
 
--- 0 and 1: the input was read to its end and is a snapshot, standard output has grown by the text
--- report of the page's outcomes, and some final outcome is failed or none is
-pub record Audits (book : Book) (words : List (List ℕ)) (old new : Outside) (failed : Bool) : Type 0 where
+-- the command was given, and the input was read to its end and is a snapshot of this page
+pub record HasPage (words : List (List ℕ)) (old new : Input) (page : Document) : Type 0 where
   pub words_are : words ≡ command
   pub bytes : List ℕ
-  pub page : Document
-  pub input : GaveAll old.input new.input bytes
+  pub gave : GaveAll old new bytes
   pub is_snapshot : sent_tree bytes ≡ Ok page
+
+-- the words aren't the command, and nothing was read
+pub record HasOtherWords (words : List (List ℕ)) (old new : Input) : Type 0 where
+  pub words_are_not : words ≢ command
+  pub input : new ≡ old
+
+-- the command was given, and the source met a fault in this call
+pub record FailsToRead (words : List (List ℕ)) (old new : Input) : Type 0 where
+  pub words_are : words ≡ command
+  pub rose : Rose old.faults new.faults
+
+-- the command was given, and the input was read to its end, or to 8,388,609 bytes, and isn't a snapshot
+-- but has this first fault
+pub record HasFault (words : List (List ℕ)) (old new : Input) (fault : SnapFault) : Type 0 where
+  pub words_are : words ≡ command
+  pub bytes : List ℕ
+  pub gave : Gave old new bytes
+  pub is_refused : sent_tree bytes ≡ Err fault
+
+-- want of memory, and the source met no fault
+abbrev pub WantsMemory : Input → Input → Type 0
+WantsMemory old new = new.faults ≡ old.faults
+
+-- ---- what a run writes
+
+-- the report of a page alone
+pub record Reports (book : Book) (old new : Outside) (page : Document) : Type 0 where
   pub out : Took old.out new.out (report_of book page)
   pub err : Stays old.err new.err
+
+-- a line on standard error alone
+pub record Says (old new : Outside) (line : List ℕ) : Type 0 where
+  pub out : Stays old.out new.out
+  pub err : Took old.err new.err line
+
+-- a page was audited, and some final outcome is failed or none is
+pub record Audits (book : Book) (words : List (List ℕ)) (old new : Outside) (failed : Bool) : Type 0 where
+  pub page : Document
+  pub is_snapshot : HasPage words old.input new.input page
+  pub reports : Reports book old new page
   pub outcome : fails book page ≡ failed
 
--- 2: the words aren't the command
-pub record RefusesWords (words : List (List ℕ)) (old new : Outside) : Type 0 where
-  pub words_are_not : words ≢ command
-  pub input : new.input ≡ old.input
-  pub out : Stays old.out new.out
-  pub err : Took old.err new.err (codes "usage fault\n")
-
--- 3: the source met a fault in this call
-pub record MetReadFault (old new : Outside) : Type 0 where
-  pub rose : Rose old.input.faults new.input.faults
-  pub out : Stays old.out new.out
-  pub err : Took old.err new.err (codes "read fault\n")
-
--- what standard output has at 4: as before, or grown by a front of the report of the snapshot that
--- the input is
-pub record HasFront (book : Book) (old new : Outside) : Type 0 where
-  pub bytes : List ℕ
-  pub page : Document
-  pub input : GaveAll old.input new.input bytes
-  pub is_snapshot : sent_tree bytes ≡ Ok page
-  pub grown : AppendsFront old.out.held new.out.held (report_of book page)
-
--- a line of standard error
-abbrev pub IsLine : List ℕ → Type 0
-IsLine line =
-    (line ≡ codes "usage fault\n") ⊎ ((line ≡ codes "read fault\n") ⊎ ((line ≡ write_fault) ⊎ ((line ≡ codes "no memory\n") ⊎ ((fault : SnapFault) × (line ≡ fault_line fault)))))
-
--- what standard error has at 4: as before, or grown by a front of a line
-pub record HasLineFront (old new : Output) : Type 0 where
-  pub line : List ℕ
-  pub is_line : IsLine line
-  pub grown : AppendsFront old.held new.held line
-
--- a sink that failed wasn't written again: its count rose by one at the most
-abbrev pub FailedOnce : ℕ → ℕ → Type 0
-FailedOnce before now = (now ≡ before) ⊎ (now ≡ next before)
-
--- 4: a sink met a fault in this call
-pub record MetWriteFault (book : Book) (old new : Outside) : Type 0 where
-  pub rose : Rose old.out.faults new.out.faults ⊎ Rose old.err.faults new.err.faults
-  pub out : Keeps old.out.held new.out.held ⊎ HasFront book old new
-  pub err : HasLineFront old.err new.err
-  pub out_once : FailedOnce old.out.faults new.out.faults
-  pub err_once : FailedOnce old.err.faults new.err.faults
-
--- 5: the input was read to its end, or to 8,388,609 bytes, and isn't a snapshot; the line names the fault
-pub record RefusesInput (old new : Outside) : Type 0 where
-  pub bytes : List ℕ
+-- the input is no snapshot, and the line names its first fault
+pub record RefusesInput (words : List (List ℕ)) (old new : Outside) : Type 0 where
   pub fault : SnapFault
-  pub input : Gave old.input new.input bytes
-  pub is_refused : sent_tree bytes ≡ Err fault
-  pub out : Stays old.out new.out
-  pub err : Took old.err new.err (fault_line fault)
+  pub is_fault : HasFault words old.input new.input fault
+  pub says : Says old new (fault_line fault)
 
--- 8: want of memory, and neither the source nor a sink met a fault
-pub record WantsMemory (old new : Outside) : Type 0 where
-  pub no_fault : new.input.faults ≡ old.input.faults
+-- standard output broke off in the report of a page, which standard error tells where it can
+pub record BreaksReport (book : Book) (words : List (List ℕ)) (old new : Outside) : Type 0 where
+  pub page : Document
+  pub is_snapshot : HasPage words old.input new.input page
+  pub out : BrokeOff old.out new.out (report_of book page)
+  pub err : TookOrBroke old.err new.err (status_line WriteFault)
+
+-- why a run ends with a line, and the line
+abbrev pub IsLine : List (List ℕ) → Input → Input → List ℕ → Type 0
+IsLine words old new line =
+    (HasOtherWords words old new × (line ≡ status_line UsageFault)) ⊎ ((FailsToRead words old new × (line ≡ status_line ReadFault))
+    ⊎ (((fault : SnapFault) × (HasFault words old new fault × (line ≡ fault_line fault))) ⊎ (WantsMemory old new × (line ≡ status_line NoMemory))))
+
+-- standard error broke off in a line
+pub record BreaksLine (words : List (List ℕ)) (old new : Outside) : Type 0 where
+  pub line : List ℕ
+  pub is_line : IsLine words old.input new.input line
   pub out : Stays old.out new.out
-  pub err : Took old.err new.err (codes "no memory\n")
+  pub err : BrokeOff old.err new.err line
+
+-- what a status says of a run with a book and these words
+abbrev pub Means : Book → List (List ℕ) → Outside → Outside → Status → Type 0
+Means book words old new NoneFailed = Audits book words old new false
+Means book words old new SomeFailed = Audits book words old new true
+Means book words old new UsageFault = HasOtherWords words old.input new.input × Says old new (status_line UsageFault)
+Means book words old new ReadFault = FailsToRead words old.input new.input × Says old new (status_line ReadFault)
+Means book words old new WriteFault = BreaksReport book words old new ⊎ BreaksLine words old new
+Means book words old new SnapshotFault = RefusesInput words old new
+Means book words old new StoreFault = ⊥
+Means book words old new NoMemory = WantsMemory old.input new.input × Says old new (status_line NoMemory)
+
+-- ---- which statuses can come
+
+abbrev pub OneOf : List Status → Status → Type 0
+OneOf [] status = ⊥
+OneOf (s ∷ others) status = (status ≡ s) ⊎ OneOf others status
+
+-- whatever the source and the sinks do: by other words, and by the command on what is no snapshot
+pub record IsBounded (words : List (List ℕ)) (old : Outside) (status : Status) : Type 0 where
+  pub other_words : words ≢ command → OneOf (UsageFault ∷ WriteFault ∷ NoMemory ∷ []) status
+  pub no_snapshot : words ≡ command → (bytes : List ℕ) (fault : SnapFault) → old.input.left ≡ Some bytes → sent_tree bytes ≡ Err fault →
+      OneOf (ReadFault ∷ WriteFault ∷ SnapshotFault ∷ NoMemory ∷ []) status
 
 -- no count of faults rose, and none stands at the greatest u64
 pub record NoFaults (old new : Outside) : Type 0 where
@@ -111,23 +135,21 @@ pub record NoFaults (old new : Outside) : Type 0 where
   pub out : StoodStill old.out.faults new.out.faults
   pub err : StoodStill old.err.faults new.err.faults
 
--- Without faults, the words alone decide between the command and 2; and where the source tells its
--- bytes, a snapshot is reported whole, with 0 or 1 by its outcomes, and anything else gives 5.
--- In each case 8 may come in place.
-pub record IsComplete (book : Book) (words : List (List ℕ)) (old new : Outside) (status : ℕ) : Type 0 where
-  pub other_words : words ≢ command → (status ≡ 2) ⊎ (status ≡ 8)
-  pub snapshot : words ≡ command → (bytes : List ℕ) (page : Document) → old.input.left ≡ Some bytes → sent_tree bytes ≡ Ok page →
-      ((status ≡ (if fails book page then 1 else 0)) × Took old.out new.out (report_of book page) × Stays old.err new.err) ⊎ (status ≡ 8)
-  pub no_snapshot : words ≡ command → (bytes : List ℕ) (fault : SnapFault) → old.input.left ≡ Some bytes → sent_tree bytes ≡ Err fault → (status ≡ 5) ⊎ (status ≡ 8)
+-- where no count of faults rose and the source tells its bytes, a snapshot is reported whole, and the
+-- status is by its outcomes
+abbrev pub IsReported : Book → Outside → Outside → Document → Status → Type 0
+IsReported book old new page status = Reports book old new page × (status ≡ (if fails book page then SomeFailed else NoneFailed))
 
--- What a run with a book and these words does to the outside, and what its status says.
-pub record Runs (book : Book) (words : List (List ℕ)) (old new : Outside) (status : ℕ) : Type 0 where
-  pub no_other : IsStatus status
-  pub none_failed : status ≡ 0 → Audits book words old new false
-  pub some_failed : status ≡ 1 → Audits book words old new true
-  pub usage_fault : status ≡ 2 → RefusesWords words old new
-  pub read_fault : status ≡ 3 → MetReadFault old new
-  pub write_fault : status ≡ 4 → MetWriteFault book old new
-  pub no_snapshot : status ≡ 5 → RefusesInput old new
-  pub no_memory : status ≡ 8 → WantsMemory old new
+-- without faults, no status but these
+pub record IsComplete (book : Book) (words : List (List ℕ)) (old new : Outside) (status : Status) : Type 0 where
+  pub other_words : words ≢ command → OneOf (UsageFault ∷ NoMemory ∷ []) status
+  pub snapshot : words ≡ command → (bytes : List ℕ) (page : Document) → old.input.left ≡ Some bytes → sent_tree bytes ≡ Ok page → IsReported book old new page status ⊎ (status ≡ NoMemory)
+  pub no_snapshot : words ≡ command → (bytes : List ℕ) (fault : SnapFault) → old.input.left ≡ Some bytes → sent_tree bytes ≡ Err fault → OneOf (SnapshotFault ∷ NoMemory ∷ []) status
+
+-- What a run with a book and these words does to the outside, and what the number says that it gives.
+pub record Runs (book : Book) (words : List (List ℕ)) (old new : Outside) (number : ℕ) : Type 0 where
+  pub status : Status
+  pub number_is : number ≡ status_number status
+  pub means : Means book words old new status
+  pub bounded : IsBounded words old status
   pub complete : NoFaults old new → IsComplete book words old new status

@@ -4,16 +4,13 @@ use Rattle.std.specs.declared.io.ErrorKind.{ErrorKind}
 use Rattle.std.specs.declared.io.ErrorKind.TheVariants.{OutOfMemory}
 use Rattle.act_desk.specs.declared.start.Refusal.{Refusal}
 use Rattle.act_desk.specs.declared.start.Refusal.TheVariants.{Usage, Store, NoMemory}
+use Rattle.act_desk.specs.declared.status.Status.{Status}
+use Rattle.act_desk.specs.declared.status.Status.TheVariants as status
 
-abbrev pub refusal_line : Refusal → List ℕ
-refusal_line Usage = codes "usage fault\n"
-refusal_line Store = codes "store fault\n"
-refusal_line NoMemory = codes "no memory\n"
-
-abbrev pub refusal_status : Refusal → ℕ
-refusal_status Usage = 2
-refusal_status Store = 6
-refusal_status NoMemory = 8
+abbrev pub refusal_status : Refusal → Status
+refusal_status Usage = status.UsageFault
+refusal_status Store = status.StoreFault
+refusal_status NoMemory = status.NoMemory
 
 -- the refusal where the arguments can't be had: want of memory, or a word is no text
 abbrev pub refusal_of : ErrorKind → Refusal

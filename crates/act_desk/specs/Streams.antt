@@ -24,9 +24,9 @@ pub record Writes (old new : Option (List ℕ)) (bytes : List ℕ) (result : Res
   pub takes : IfOk result (Takes old new bytes)
   pub failed : OnErr result (Keeps old new)
 
--- a sink holds a front of the bytes after what it held
+-- a sink holds a front of the bytes after what it held, and not all of them
 abbrev pub AppendsFront : Option (List ℕ) → Option (List ℕ) → List ℕ → Type 0
-AppendsFront old new bytes = (n : ℕ) × (n ≤ length bytes) × Appends old new (take n bytes)
+AppendsFront old new bytes = (n : ℕ) × (n < length bytes) × Appends old new (take n bytes)
 
 -- A source was read to its end, or to a limit: these are the bytes that it gave. At its end nothing is
 -- left of what it told.

@@ -18,6 +18,7 @@ mod run;
 mod sink;
 mod source;
 mod start;
+mod status;
 mod stream;
 mod tell;
 #[cfg(test)]
@@ -28,6 +29,7 @@ mod write_all;
 use crate::early::Early;
 use crate::run::run;
 use crate::start::command_words;
+use crate::status::Status;
 use crate::stream::{Reader, Writer};
 use crate::write_all::write_all;
 use std::process::ExitCode;
@@ -37,10 +39,12 @@ fn main(rt: HostRuntime) -> ExitCode {
     let words = match command_words(&rt) {
         Ok(words) => words,
         Err(refusal) => {
-            return match write_all(&mut err, refusal.line().as_bytes()) {
-                Ok(()) => ExitCode::from(refusal.status()),
-                Err(_) => ExitCode::from(4),
+            let status = refusal.status();
+            let ended = match write_all(&mut err, status.line().as_bytes()) {
+                Ok(()) => status,
+                Err(_) => Status::WriteFault,
             };
+            return ExitCode::from(ended.number());
         }
     };
     let mut input = Reader::new(rt.stdin());

@@ -35,7 +35,7 @@ pub fn run<I: Source, O: Sink, E: Sink, B: RuleBook>(
         result }
 {
     let found = find(alloc, words, input, book);
-    tell(out, err, &found)
+    tell(out, err, &found).number()
 }
 
 // What a run finds: a small dispatch, to one function for each command.

@@ -2,8 +2,9 @@ ghost use Rattle.std.specs.Prelude.{◌≡◌, ◌<◌, ◌↔◌, length, map, 
 ghost use Rattle.std.specs.String.{string_bytes};
 ghost use Rattle.std.specs.IoError.{error_kind};
 ghost use Rattle.std.specs.Vec.Iter.{into_iter_items};
-ghost use Rattle.act_desk.specs.Start.{refusal_line, refusal_status, refusal_of, Starts};
+ghost use Rattle.act_desk.specs.Start.{refusal_status, refusal_of, Starts};
 
+use crate::status::Status;
 use snap_tree::{List, OutOfMemory, Text};
 use std::alloc::Global;
 use std::env::Args;
@@ -22,25 +23,14 @@ pub enum Refusal {
 }
 
 impl Refusal {
-    /// The line that says so on standard error.
-    pub fn line(self) -> &'static str
-        ensures { result.now ≡ refusal_line self }
-    {
-        match self {
-            Refusal::Usage => "usage fault\n",
-            Refusal::Store => "store fault\n",
-            Refusal::NoMemory => "no memory\n",
-        }
-    }
-
     /// The status that the program ends with.
-    pub fn status(self) -> u8
+    pub fn status(self) -> Status
         ensures { result ≡ refusal_status self }
     {
         match self {
-            Refusal::Usage => 2,
-            Refusal::Store => 6,
-            Refusal::NoMemory => 8,
+            Refusal::Usage => Status::UsageFault,
+            Refusal::Store => Status::StoreFault,
+            Refusal::NoMemory => Status::NoMemory,
         }
     }
 }
@@ -122,7 +112,7 @@ mod tests {
         match words {
             Ok(_) => Ok(None),
             Err(Refusal::NoMemory) => Err(Fail::from(OutOfMemory)),
-            Err(refusal) => Ok(Some(refusal.status())),
+            Err(refusal) => Ok(Some(refusal.status().number())),
         }
     }
 
@@ -147,7 +137,10 @@ mod tests {
     fn an_error_of_the_arguments_has_its_status(rt: HostRuntime) {
         // a word that is no text, and want of memory
         for (kind, status) in [(ErrorKind::InvalidData, 2), (ErrorKind::OutOfMemory, 8)] {
-            assert_eq!(rt; Refusal::from(io::Error::from(kind)).status(), status);
+            assert_eq!(rt;
+                Refusal::from(io::Error::from(kind)).status().number(),
+                status
+            );
         }
     }
 }

@@ -2,4 +2,4 @@ use Rattle.act_desk.proofs.Statuses.{runs}
 use Rattle.act_desk.proofs.run.run.Goals as goal
 
 pub returns : goal.returns
-returns g c = runs _ _ _ _ c.find-found.result c.tell.result (record { finds = c.find-found.ensures; tells = c.tell.ensures })
+returns g c = runs _ _ _ _ c.find-found.result c.tell.result c.number.result c.find-found.ensures c.tell.ensures c.number.ensures

@@ -1,0 +1,55 @@
+ghost use Rattle.std.specs.Prelude.{◌≡◌};
+ghost use Rattle.act_desk.specs.Status.{status_number, status_line};
+
+/// How the program ends.
+#[derive(Clone, Copy, Debug, PartialEq, Eq, Hash)]
+pub enum Status {
+    /// A page was audited, and no final outcome is failed.
+    NoneFailed,
+    /// A page was audited, and some final outcome is failed.
+    SomeFailed,
+    /// The words are no command.
+    UsageFault,
+    /// The source met a fault.
+    ReadFault,
+    /// A sink met a fault.
+    WriteFault,
+    /// The input is no snapshot.
+    SnapshotFault,
+    /// The store can't be opened.
+    StoreFault,
+    NoMemory,
+}
+
+impl Status {
+    /// The number that the program ends with.
+    pub fn number(self) -> u8
+        ensures { result ≡ status_number self }
+    {
+        match self {
+            Status::NoneFailed => 0,
+            Status::SomeFailed => 1,
+            Status::UsageFault => 2,
+            Status::ReadFault => 3,
+            Status::WriteFault => 4,
+            Status::SnapshotFault => 5,
+            Status::StoreFault => 6,
+            Status::NoMemory => 8,
+        }
+    }
+
+    /// The line that says so on standard error: empty where a page was audited, and for a snapshot's
+    /// fault, which has a line of its own.
+    pub fn line(self) -> &'static str
+        ensures { result.now ≡ status_line self }
+    {
+        match self {
+            Status::NoneFailed | Status::SomeFailed | Status::SnapshotFault => "",
+            Status::UsageFault => "usage fault\n",
+            Status::ReadFault => "read fault\n",
+            Status::WriteFault => "write fault\n",
+            Status::StoreFault => "store fault\n",
+            Status::NoMemory => "no memory\n",
+        }
+    }
+}
