@@ -42,12 +42,19 @@ def no_constant(name):
     raise Fault(f"the JSON holds {name}")
 
 
+def finite(digits):
+    value = float(digits)
+    if value in (float("inf"), float("-inf")):
+        raise Fault(f"the JSON holds {digits}")
+    return value
+
+
 def read(data):
     """The address and the rows, each with n, p, tag or text, ns, attrs and f."""
     if len(data) > BYTES:
         raise Fault(f"{len(data)} bytes")
     try:
-        top = json.loads(data.decode("utf-8"), parse_constant=no_constant)
+        top = json.loads(data.decode("utf-8"), parse_constant=no_constant, parse_float=finite)
     except ValueError as error:
         raise Fault(f"no JSON: {error}")
     if not isinstance(top, dict):

@@ -1,6 +1,6 @@
 /*
  * Takes a snapshot of the document it runs in, and returns it as JSON text in
- * the form that the desk's `audit` command and its HTTP interface read.
+ * the form that the desk's `audit` command reads.
  *
  * This file is one function and nothing else, so that it can be used as it is:
  *

@@ -5,6 +5,8 @@
    child reads standard input on from where the parent stands, and writes behind what the parent has
    written, on copies of the files.
 
+   A child that hasn't ended after a minute is ended by an alarm. It needs Linux and the GNU C library.
+
    The file that FAIL_ALLOCATIONS names gets a record of each child, in order: a line with its exit status,
    or a signal's number below 0, and the lengths of all that is on its standard output and standard error,
    and then these. */
@@ -18,8 +20,12 @@
 #include <sys/wait.h>
 #include <unistd.h>
 
+#define SECONDS 60
+
 extern void *__libc_malloc(size_t size);
+extern void *__libc_calloc(size_t count, size_t size);
 extern void *__libc_realloc(void *kept, size_t size);
+extern void *__libc_memalign(size_t alignment, size_t size);
 
 static int is_splitting;
 static int records;
@@ -117,6 +123,7 @@ static int fails(void)
     pid_t child = fork();
     need(child >= 0);
     if (child == 0) {
+        alarm(SECONDS);
         take_files();
         errno = ENOMEM;
         return 1;
@@ -133,7 +140,26 @@ void *malloc(size_t size)
     return fails() ? NULL : __libc_malloc(size);
 }
 
+void *calloc(size_t count, size_t size)
+{
+    return fails() ? NULL : __libc_calloc(count, size);
+}
+
 void *realloc(void *kept, size_t size)
 {
     return fails() ? NULL : __libc_realloc(kept, size);
+}
+
+void *aligned_alloc(size_t alignment, size_t size)
+{
+    return fails() ? NULL : __libc_memalign(alignment, size);
+}
+
+int posix_memalign(void **made, size_t alignment, size_t size)
+{
+    void *bytes = fails() ? NULL : __libc_memalign(alignment, size);
+    if (!bytes)
+        return ENOMEM;
+    *made = bytes;
+    return 0;
 }

@@ -5,8 +5,8 @@ ghost use Rattle.snap_json.specs.declared.fault.SnapFault.TheVariants.{OutOfMemo
 use snap_tree::{OutOfMemory, TreeFault};
 use std::alloc::AllocFailed;
 
-/// A part of a snapshot that can be out of shape: the value as a whole, its address, its list of
-/// rows, a row as a whole, or a member of a row.
+/// A part of a snapshot that can be out of shape: the value as a whole (`Top`), its address, its list of
+/// rows, a row as a whole, or a member of a row, by the member's name.
 #[derive(Clone, Copy, Debug, PartialEq, Eq, Hash)]
 pub enum Field {
     Top,
@@ -46,23 +46,24 @@ impl Field {
 /// Why bytes were not read as a snapshot.
 #[derive(Clone, Copy, Debug, PartialEq, Eq, Hash)]
 pub enum SnapFault {
-    /// The bytes are no JSON.
+    /// The bytes aren't UTF-8, or aren't JSON nested at most 127 deep, or hold a number too great for a
+    /// 64-bit float or an escape of a lone surrogate.
     NotJson,
-    /// A field is out of shape. The place is 0 for the fields of the whole, and a row's number in the
-    /// list, counted from 1, for the fields of a row.
+    /// A field is out of shape. The place is 0 for the fields of the whole, and for the fields of a row
+    /// the row's place in the list, counted from 1.
     Shape { place: u32, field: Field },
-    /// The address is too long, or is no URL of the scheme http or https.
+    /// The address exceeds 65,536 bytes, or is no URL of the scheme http or https.
     BadUrl,
     /// The rows make no tree.
     Tree(TreeFault),
-    /// There are too many bytes.
+    /// There are more than 8,388,608 bytes.
     TooLong,
     /// Want of memory, which is no fault of the snapshot.
     OutOfMemory,
 }
 
 impl SnapFault {
-    /// The fault's number; none for want of memory.
+    /// The number by which the fault is printed, from 1 to 5; None for want of memory.
     pub fn number(self) -> Option<u8>
         ensures { result ≡ fault_number self }
     {
@@ -76,7 +77,7 @@ impl SnapFault {
         }
     }
 
-    /// The fault's name.
+    /// The name by which the fault is printed: its variant's.
     pub fn name(self) -> &'static str
         ensures { result.now ≡ fault_name self }
     {

@@ -24,7 +24,7 @@ pub enum TreeFault {
     TooManyAttrs { node: NodeId },
     /// The row's text or tag, or the name or the value of an attribute, exceeds 65,536 bytes.
     TextTooLong { node: NodeId },
-    /// Two of the row's attribute names are equal when folded to lower case.
+    /// Two of the row's attribute names are equal but for the case of ASCII letters.
     DoubleAttr { node: NodeId },
     /// The row's parent is a text.
     TextHasKids { node: NodeId },
@@ -99,7 +99,9 @@ impl TreeFault {
 /// Why a tree isn't built.
 #[derive(Clone, Copy, Debug, PartialEq, Eq, Hash)]
 pub enum BuildFault {
+    /// The rows make no tree: their first fault.
     Tree(TreeFault),
+    /// Want of memory, which is no fault of the rows.
     OutOfMemory,
 }
 

@@ -11,7 +11,7 @@ use crate::text::Text;
 #[derive(Clone, Copy, Debug, PartialEq, Eq, PartialOrd, Ord, Hash)]
 pub struct NodeId(pub u32);
 
-/// The name space of an element.
+/// The name space of an element: that of HTML, that of SVG, or any other.
 #[derive(Clone, Copy, Debug, PartialEq, Eq, Hash)]
 pub enum Space {
     Html,
@@ -22,9 +22,13 @@ pub enum Space {
 /// What the browser says of a node.
 #[derive(Clone, Copy, Debug, PartialEq, Eq, Hash)]
 pub struct Facts {
+    /// It has boxes on the page.
     pub rendered: bool,
+    /// It is rendered, and its computed `visibility` is `visible`.
     pub visible: bool,
+    /// `focus()` makes it the active element.
     pub focusable: bool,
+    /// The Tab key stops at it.
     pub tabbable: bool,
 }
 
@@ -57,7 +61,7 @@ pub struct Row {
     pub facts: Facts,
 }
 
-/// A page as it was sent: an address, and rows in document order.
+/// What may make a page: an address, and rows in document order.
 #[derive(Debug, Drop)]
 pub struct Raw {
     pub address: Text,

@@ -112,9 +112,9 @@ pub fn judge(alloc: Global, rows: &[Row]) -> Result<(), BuildFault>
 impl Tree {
     /// The tree whose rows in document order are the given ones.
     ///
-    /// It is refused exactly where the rows have a fault, with the first one in the order of
-    /// `TreeFault`'s table: first of all the number of rows, then each row by itself in list order, and
-    /// at last what references find.
+    /// It is refused exactly where the rows have a fault, with the first one in this order: first of all
+    /// the number of rows, then each row in list order, by its place and then by itself, and at last what
+    /// references find. Else it wants memory.
     #[tactic(auto, using(crate::proofs::Wellness::well_from_sound))]
     pub fn build(alloc: Global, raw: Raw) -> Result<Self, BuildFault>
         ensures tree { IfOk result (λ t. t ≡ record { address = raw.address; trees = grown raw.rows }) }
@@ -134,7 +134,7 @@ impl Tree {
         })
     }
 
-    /// The page's address, as it was sent.
+    /// The page's address.
     pub fn address(&self) -> &Text
         ensures { result.now ≡ self.now.address }
     {
@@ -235,8 +235,8 @@ impl Tree {
 
     /// The labels of a node: first, where it is the first element with its id, the HTML labels whose
     /// `for` is that id, in document order; then the nearest label above it, where that has no `for`
-    /// and the node is the first labelable element below it. None for a node that isn't labelable, and
-    /// for a number that the tree doesn't hold.
+    /// and the node is the first labelable element below it. No node for one that isn't labelable, and for
+    /// a number that the tree doesn't hold.
     pub fn labels_for(&self, alloc: Global, n: NodeId) -> Result<List<NodeId>, OutOfMemory>
         ensures { IfOk result (λ labels. labels ≡ labels_for self.now.trees n) }
     {
