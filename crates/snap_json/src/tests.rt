@@ -182,6 +182,46 @@ const HOME: &str =
 const WRITTEN: &str =
     r#"{"nodes":[{"attrs":[["lang","en"]],"f":"rv","n":1,"ns":"html","p":null,"tag":"html"},{"attrs":[],"f":"","n":2,"ns":"html","p":1,"tag":"head"},{"attrs":[],"f":"","n":3,"ns":"html","p":2,"tag":"title"},{"f":"","n":4,"p":3,"text":"Home"},{"attrs":[],"f":"vt","n":5,"ns":"svg","p":1,"tag":"body"}],"url":"https://example.org/"}"#;
 
+/// A page with the usual facts, as it may be sent.
+const SMALLEST: &str =
+    r#"{"url":"https://example.org/","nodes":[{"n":1,"p":null,"tag":"html","attrs":[["lang","en"]]},{"n":2,"p":1,"tag":"head","f":""},{"n":3,"p":2,"tag":"title","f":""},{"n":4,"p":3,"text":"Home","f":""},{"n":5,"p":1,"tag":"body"}]}"#;
+
+/// Whether two trees are written alike.
+fn are_alike(alloc: Global, one: &Tree, other: &Tree) -> Result<bool, Fail> {
+    let other = write_snapshot(alloc, other)?;
+    Ok(write_snapshot(alloc, one)?.as_slice() == other.as_slice())
+}
+
+fn equals_its_copy(alloc: Global, tree: &Tree) -> Result<bool, Fail> {
+    are_alike(alloc, tree, &tree.copy(alloc)?)
+}
+
+fn is_sent_back(alloc: Global, tree: &Tree, bytes: &[u8]) -> Result<bool, Fail> {
+    are_alike(alloc, tree, &read_snapshot(alloc, bytes)?)
+}
+
+fn is_kept_back(alloc: Global, tree: &Tree, bytes: &[u8]) -> Result<bool, Fail> {
+    are_alike(alloc, tree, &read_kept(alloc, bytes)?)
+}
+
+#[test]
+fn copied_and_read_back(rt: HostRuntime) -> Result<(), Fail> {
+    for text in [SMALLEST, HOME] {
+        let tree = read_snapshot(rt.alloc(), text.as_bytes())?;
+        let bytes = write_snapshot(rt.alloc(), &tree)?;
+        assert!(rt; equals_its_copy(rt.alloc(), &tree)?, "{text}");
+        assert!(rt;
+            is_sent_back(rt.alloc(), &tree, bytes.as_slice())?,
+            "{text}"
+        );
+        assert!(rt;
+            is_kept_back(rt.alloc(), &tree, bytes.as_slice())?,
+            "{text}"
+        );
+    }
+    Ok(())
+}
+
 /// Whether what is written of the tree that a snapshot is, read as one that was sent, is as it should be.
 fn rewritten(alloc: Global, text: &str) -> Result<bool, Fail> {
     let tree = read_snapshot(alloc, text.as_bytes())?;
