@@ -60,7 +60,7 @@ alone_fault (r ∷ rows) = if is_text r then text_fault r rows else tree_fault (
 abbrev pub taken_alone : List Row → (Trees → Result Trees EditKind) → Result Trees EditKind
 taken_alone rows f = option_map_or (λ fault. Err (Tree fault)) (alone_fault rows) (f (grown rows))
 
--- an edit's trees, before they are judged, or the first of its other faults
+-- an edit's trees, before they are tried, or the first of its other faults
 abbrev pub effect : Trees → Edit → Result Trees EditKind
 effect t (SetAttr n name value) = at t n (λ s. if is_text s.row then Err NotElement else Ok (changed n (with_attrs (attrs_with name value)) t))
 effect t (DropAttr n name) = at t n (λ s. if is_text s.row then Err NotElement else Ok (changed n (with_attrs (attrs_without name)) t))

@@ -4,8 +4,7 @@ ghost use Rattle.snap_tree.specs.Rows.{is_text};
 ghost use Rattle.snap_tree.specs.Faults.{rows_fault};
 ghost use Rattle.snap_edit.specs.Edits.{text_fault, alone_fault};
 
-use crate::judged::tree_fault;
-use snap_tree::{MOST_NODES, OutOfMemory, Row, TreeFault, own_fault};
+use snap_tree::{MOST_NODES, OutOfMemory, Row, TreeFault, own_fault, tree_fault};
 use std::alloc::Global;
 
 // Whether a row names another as its parent.

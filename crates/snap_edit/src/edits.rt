@@ -7,12 +7,11 @@ ghost use Rattle.snap_edit.specs.Made.{Makes, Declines, fault_at, BreaksAt};
 use crate::changes::{drop_attr, set_attr, set_facts, set_text};
 use crate::edit::{Edit, MOST_EDITS};
 use crate::fault::{EditFault, EditKind, Refusal};
-use crate::judged::tree_fault;
 use crate::moves::{insert, move_to, remove};
-use snap_tree::{BuildFault, List, Raw, Row, Text, Tree, copies_of};
+use snap_tree::{BuildFault, List, Raw, Row, Text, Tree, copies_of, tree_fault};
 use std::alloc::Global;
 
-// Carries one edit out on a page's rows. The new rows aren't judged.
+// Carries one edit out on a page's rows. The new rows aren't tried.
 fn carry_out(alloc: Global, rows: Vec<Row>, edit: &Edit) -> Result<Vec<Row>, Refusal>
     requires { tree_fault rows.items ≡ None }
     ensures made { IfOk result (λ new. Makes new.items (effect (grown rows.items) edit.now)) }
@@ -37,7 +36,7 @@ fn carry_out(alloc: Global, rows: Vec<Row>, edit: &Edit) -> Result<Vec<Row>, Ref
     }
 }
 
-// Carries one edit out on a page's rows, and judges the new rows.
+// Carries one edit out on a page's rows, and tries the new rows.
 fn step(alloc: Global, rows: Vec<Row>, edit: &Edit) -> Result<Vec<Row>, Refusal>
     requires { tree_fault rows.items ≡ None }
     ensures sound { IfOk result (λ new. tree_fault new.items ≡ None) }
@@ -64,7 +63,7 @@ fn fault_at(index: u32, refusal: Refusal) -> EditFault
     }
 }
 
-// Carries edits out one after another, and judges the rows after each.
+// Carries edits out one after another, and tries the rows after each.
 fn steps(alloc: Global, rows: Vec<Row>, edits: &[Edit]) -> Result<Vec<Row>, EditFault>
     requires sound { tree_fault rows.items ≡ None }
     requires few { length edits.now ≤ most_edits }
@@ -103,7 +102,7 @@ fn built(alloc: Global, address: Text, rows: Vec<Row>, index: u32) -> Result<Tre
     }
 }
 
-// The page after at least one edit. The rows of the last are judged as the page is built.
+// The page after at least one edit. The rows of the last are tried as the page is built.
 fn apply_some(alloc: Global, tree: &Tree, earlier: &[Edit], last: &Edit) -> Result<Tree, EditFault>
     requires { length earlier.now ≤ most_edits }
     ensures edited { IfOk result (λ t. edited_from 0 (earlier.now ++ last.now ∷ []) tree.now.trees ≡ Ok t.trees) }
@@ -137,7 +136,7 @@ pub fn apply(alloc: Global, tree: &Tree, edits: &[Edit]) -> Result<Tree, EditFau
 {
     if edits.len() > MOST_EDITS {
         return Err(EditFault::At {
-            index: 200,
+            index: MOST_EDITS as u32,
             kind: EditKind::TooManyEdits,
         });
     }

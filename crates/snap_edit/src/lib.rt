@@ -10,7 +10,6 @@ mod changes;
 mod edit;
 mod edits;
 mod fault;
-mod judged;
 mod laws;
 mod moves;
 mod place;

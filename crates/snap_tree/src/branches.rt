@@ -55,7 +55,7 @@ impl<'a> Branches<'a> {
 
     /// The rows of the trees in document order.
     #[tactic(auto, using(crate::proofs::Growth::rows_of_grown))]
-    pub fn rows(&self) -> &[Row]
+    pub fn rows(&self) -> &'a [Row]
         ensures { result.now ≡ rows_of self.now }
     {
         self.rows

@@ -32,13 +32,14 @@ pub use copies::{Duplicate, copies_of};
 pub use fault::{BuildFault, TreeFault};
 pub use kids::Kids;
 pub use laws::{laws_of_growth, laws_of_spots};
-pub use limits::own_fault;
+pub use limits::{MOST_ATTRS, MOST_BYTES, own_fault};
 pub use list::List;
 pub use memory::OutOfMemory;
 pub use row::{Attr, Body, Facts, NodeId, Raw, Row, Space, same_folded};
 pub use sizes::sizes_of;
 pub use text::Text;
-pub use tree::{Tree, judge, run_below};
+pub use tree::{Tree, run_below, tree_fault};
+pub use weight::MOST_WEIGHT;
 pub use words::{blank, next_word, tidy};
 
 #[cfg(test)]

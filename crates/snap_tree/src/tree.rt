@@ -99,14 +99,16 @@ fn sound_index(alloc: Global, rows: &[Row]) -> Result<Index, BuildFault>
     Ok(index)
 }
 
-/// Whether rows make a page: Ok, or their first fault in the order of `TreeFault`'s table. It is what
-/// `Tree::build` tries, without the tree.
-pub fn judge(alloc: Global, rows: &[Row]) -> Result<(), BuildFault>
-    ensures sound { OnOk result (tree_fault rows.now ≡ None) }
-    ensures fault { IfErr result (λ f. Breaks f (tree_fault rows.now)) }
+/// The first fault of rows, as `Tree::build` names it; None where they make a page. Fails only for want
+/// of memory.
+pub fn tree_fault(alloc: Global, rows: &[Row]) -> Result<Option<TreeFault>, OutOfMemory>
+    ensures { IfOk result (λ fault. fault ≡ tree_fault rows.now) }
 {
-    let _index = sound_index(alloc, rows)?;
-    Ok(())
+    match sound_index(alloc, rows) {
+        Ok(_) => Ok(None),
+        Err(BuildFault::Tree(fault)) => Ok(Some(fault)),
+        Err(BuildFault::OutOfMemory) => Err(OutOfMemory),
+    }
 }
 
 impl Tree {
@@ -183,7 +185,8 @@ impl Tree {
         ensures walks { WalksAbove self.now.trees n }
         ensures absent { IsAbsent self.now.trees n → result ≡ None }
     {
-        let _well = &self.rows;
+        // Looked at for the proof, which rests on the tree's invariant: it is well.
+        let _rows = &self.rows;
         match self.node(n) {
             Some(row) => row.parent,
             None => None,

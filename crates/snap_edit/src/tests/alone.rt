@@ -25,6 +25,6 @@ const CASES: [Case; 18] = [
 ];
 
 #[test]
-fn inserted_rows_are_judged_alone(rt: HostRuntime) -> Result<(), Fail> {
+fn inserted_rows_are_tried_alone(rt: HostRuntime) -> Result<(), Fail> {
     each_answers(&rt, rt.alloc(), PAGE, CASES.as_slice())
 }
