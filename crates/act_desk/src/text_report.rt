@@ -8,9 +8,9 @@ use rule_core::{Auto, RuleInfo};
 use snap_tree::{OutOfMemory, Text};
 use std::alloc::Global;
 
-#[tactic(auto, unfolding(crate::specs::TextReport::text_report))]
 /// The text report of a page: its address, the lines of each rule in the order of the infos, and the
 /// totals of the final outcomes. The rows stand by rule, in the order of the infos.
+#[tactic(auto, unfolding(crate::specs::TextReport::text_report))]
 pub fn text_report(
     alloc: Global,
     address: &Text,

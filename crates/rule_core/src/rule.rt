@@ -19,7 +19,8 @@ pub trait Rule {
     fn info(&self) -> RuleInfo
         ensures { result ≡ described };
 
-    /// The verdict on a node: `None` exactly where the node isn't a target, or not in the tree.
+    /// The verdict on a node, which is the type's meaning: None where the node isn't a target. Fails only
+    /// for want of memory.
     fn judge(&self, alloc: Global, tree: &Tree, n: NodeId) -> Result<Option<Verdict>, OutOfMemory>
         ensures { IfOk result (λ verdict. verdict ≡ means tree.now n) };
 }

@@ -122,6 +122,7 @@ struct Around {
     first: NodeId,
 }
 
+// A row is looked at once for each label above it that has no `for`: at most 127 times.
 fn first_labelable(rows: &[Row]) -> Option<&Row>
     ensures { option_copied result ≡ find is_labelable rows.now }
 {
