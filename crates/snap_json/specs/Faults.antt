@@ -1,5 +1,7 @@
--- The numbers and names of faults, and what it is that a call gives what a definition does.
-use Rattle.std.specs.Prelude.{◌≡◌, ℕ, List, codes, Option, Some, None, Result, Ok, Err}
+-- How faults are printed, and what it is that a call gives what a definition does.
+use Rattle.std.specs.Prelude.{◌≡◌, ℕ, List, [], ◌++◌, codes, decimal, Option, Some, None, Result, Ok, Err}
+use Rattle.std.specs.Option.{option_map_or}
+use Rattle.snap_tree.specs.FaultText as tree
 use Rattle.snap_json.specs.declared.fault.Field.{Field}
 use Rattle.snap_json.specs.declared.fault.Field.TheVariants as field
 use Rattle.snap_json.specs.declared.fault.SnapFault.{SnapFault}
@@ -33,6 +35,16 @@ fault_name BadUrl = codes "BadUrl"
 fault_name (Tree f) = codes "Tree"
 fault_name TooLong = codes "TooLong"
 fault_name OutOfMemory = codes "OutOfMemory"
+
+-- what follows the number and the name
+abbrev pub details : SnapFault → List ℕ
+details (Shape place f) = codes " place " ++ decimal place ++ codes " field " ++ field_name f
+details (Tree f) = codes " " ++ tree.fault_text f
+details fault = []
+
+-- how a fault is printed; want of memory is none
+abbrev pub fault_text : SnapFault → List ℕ
+fault_text fault = option_map_or (λ number. decimal number ++ codes " " ++ fault_name fault ++ details fault) (fault_number fault) (codes "no memory")
 
 -- the next step, unless this one found a fault
 infixl 10 ◌>>=◌

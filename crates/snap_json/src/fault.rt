@@ -1,9 +1,11 @@
 ghost use Rattle.std.specs.Prelude.{◌≡◌, codes};
-ghost use Rattle.snap_json.specs.Faults.{fault_number, fault_name, field_name};
+ghost use Rattle.snap_json.specs.Faults.{fault_number, fault_name, fault_text, field_name};
 ghost use Rattle.snap_json.specs.declared.fault.SnapFault.TheVariants.{OutOfMemory as Unread};
 
 use snap_tree::{OutOfMemory, TreeFault};
 use std::alloc::AllocFailed;
+use std::error::Error;
+use std::fmt;
 
 /// A part of a snapshot that can be out of shape: the value as a whole (`Top`), its address, its list of
 /// rows, a row as a whole, or a member of a row, by the member's name.
@@ -91,6 +93,29 @@ impl SnapFault {
         }
     }
 }
+
+/// The fault's number and name, and then its place and field, or the fault of the rows: as `1 NotJson`,
+/// `2 Shape place 3 field tag` or `4 Tree 7 TextTooLong node 12`. Want of memory is `no memory`.
+impl fmt::Display for SnapFault {
+    ghost use Rattle.std.specs.Prelude.{Some};
+
+    ghost output = { λ fault. Some (fault_text fault) };
+
+    fn fmt<W: fmt::Write>(&self, f: &mut fmt::Formatter<W>) -> fmt::Result {
+        let name = self.name();
+        match (self.number(), self) {
+            (None, _) => f.write_str("no memory"),
+            (Some(number), SnapFault::Shape { place, field }) => {
+                let field = field.name();
+                write!(f, "{number} {name} place {place} field {field}")
+            }
+            (Some(number), SnapFault::Tree(fault)) => write!(f, "{number} {name} {fault}"),
+            (Some(number), _) => write!(f, "{number} {name}"),
+        }
+    }
+}
+
+impl Error for SnapFault {}
 
 impl From<OutOfMemory> for SnapFault {
     ghost from_gives = { λ _ e. e ≡ Unread };

@@ -1,8 +1,10 @@
 -- How the faults of a tree are printed: each by its number and its name, and with its node where it has one.
-use Rattle.std.specs.Prelude.{ℕ, List, Option, Some, None, codes}
+use Rattle.std.specs.Prelude.{ℕ, List, [], ◌++◌, Option, Some, None, codes, decimal}
 use Rattle.snap_tree.specs.declared.row.NodeId.{NodeId}
 use Rattle.snap_tree.specs.declared.fault.TreeFault.{TreeFault}
 use Rattle.snap_tree.specs.declared.fault.TreeFault.TheVariants.{Empty, TooMany, DoubleNumber, ParentUnknownOrNotOpen, TooDeep, TooManyAttrs, TextTooLong, DoubleAttr, TextHasKids, ReferenceWeight, RootNotElement, EmptyName}
+use Rattle.snap_tree.specs.declared.fault.BuildFault.{BuildFault}
+use Rattle.snap_tree.specs.declared.fault.BuildFault.TheVariants.{Tree, OutOfMemory}
 
 abbrev pub fault_number : TreeFault → ℕ
 fault_number Empty = 1
@@ -46,3 +48,15 @@ fault_node (TextHasKids n) = Some n
 fault_node ReferenceWeight = None
 fault_node (RootNotElement n) = Some n
 fault_node (EmptyName n) = Some n
+
+abbrev pub at_node : Option NodeId → List ℕ
+at_node None = []
+at_node (Some node) = codes " node " ++ decimal node.0
+
+-- how a fault is printed: its number, its name, and its node where there is one
+abbrev pub fault_text : TreeFault → List ℕ
+fault_text fault = decimal (fault_number fault) ++ codes " " ++ fault_name fault ++ at_node (fault_node fault)
+
+abbrev pub build_fault_text : BuildFault → List ℕ
+build_fault_text (Tree fault) = fault_text fault
+build_fault_text OutOfMemory = codes "no memory"

@@ -1,10 +1,12 @@
 ghost use Rattle.std.specs.Prelude.{◌≡◌};
 ghost use Rattle.snap_tree.specs.declared.fault.BuildFault.TheVariants.{OutOfMemory};
-ghost use Rattle.snap_tree.specs.FaultText.{fault_number, fault_name, fault_node};
+ghost use Rattle.snap_tree.specs.FaultText.{fault_number, fault_name, fault_node, fault_text, build_fault_text};
 
 use crate::memory;
 use crate::row::NodeId;
 use std::alloc::{AllocError, AllocFailed};
+use std::error::Error;
+use std::fmt;
 
 /// What breaks a tree, with the node where there is one.
 #[derive(Clone, Copy, Debug, PartialEq, Eq, Hash)]
@@ -96,6 +98,24 @@ impl TreeFault {
     }
 }
 
+/// The fault's number and name, and its node where there is one: as `7 TextTooLong node 12`.
+impl fmt::Display for TreeFault {
+    ghost use Rattle.std.specs.Prelude.{Some};
+
+    ghost output = { λ fault. Some (fault_text fault) };
+
+    fn fmt<W: fmt::Write>(&self, f: &mut fmt::Formatter<W>) -> fmt::Result {
+        let number = self.number();
+        let name = self.name();
+        match self.node() {
+            Some(NodeId(node)) => write!(f, "{number} {name} node {node}"),
+            None => write!(f, "{number} {name}"),
+        }
+    }
+}
+
+impl Error for TreeFault {}
+
 /// Why a tree isn't built.
 #[derive(Clone, Copy, Debug, PartialEq, Eq, Hash)]
 pub enum BuildFault {
@@ -104,6 +124,22 @@ pub enum BuildFault {
     /// Want of memory, which is no fault of the rows.
     OutOfMemory,
 }
+
+/// The fault of the rows, or `no memory`.
+impl fmt::Display for BuildFault {
+    ghost use Rattle.std.specs.Prelude.{Some};
+
+    ghost output = { λ fault. Some (build_fault_text fault) };
+
+    fn fmt<W: fmt::Write>(&self, f: &mut fmt::Formatter<W>) -> fmt::Result {
+        match self {
+            BuildFault::Tree(fault) => write!(f, "{fault}"),
+            BuildFault::OutOfMemory => f.write_str("no memory"),
+        }
+    }
+}
+
+impl Error for BuildFault {}
 
 impl From<AllocError> for BuildFault {
     ghost from_gives = { λ _ f. f ≡ OutOfMemory };
