@@ -1,6 +1,5 @@
 -- Numbers that two lists of rows share.
-use Rattle.std.proofs.Common.{◌≡◌, ◌==◌, ℕ, List, [], ◌∷◌, Bool, true, false, ◌||◌, Option, Some, None, refl, sym, ◌∙◌, ap, arith}
-use Rattle.std.proofs.lemmas.Bool.Decides.{nat_tests}
+use Rattle.std.proofs.Common.{◌≡◌, ◌==◌, ℕ, List, [], ◌∷◌, Bool, true, false, ◌||◌, Option, Some, None, refl, sym, ◌∙◌, ap}
 use Rattle.std.specs.Option.{is_some, option_map}
 use Rattle.std.specs.List.{list_any, find}
 use Rattle.std.specs.Ordering.{nat_cmp}
@@ -13,6 +12,7 @@ use Rattle.snap_tree.specs.Rows.{has_number}
 use Rattle.snap_tree.specs.Spots.{Spot, spot}
 use Rattle.snap_tree.proofs.Growth.{rows_of_grown}
 use Rattle.snap_tree.proofs.Spotting.{spot_row}
+use Rattle.snap_tree.proofs.Wellness.{same_number}
 use Rattle.snap_edit.specs.Edits.{has_taken}
 use Rattle.snap_edit.specs.Taken.{AreNumbers}
 
@@ -34,9 +34,6 @@ or_pairs false false false d = refl
 any_either : (p q : Row → Bool) (rows : List Row) → list_any (λ r. p r || q r) rows ≡ (list_any p rows || list_any q rows)
 any_either p q [] = refl
 any_either p q (r ∷ rows) = ap (λ b. (p r || q r) || b) (any_either p q rows) ∙ or_pairs (p r) (q r) (list_any p rows) (list_any q rows)
-
-same_number : (a b : ℕ) → (a == b) ≡ (b == a)
-same_number a b = grind (arith, nat_tests)
 
 -- a row of the first list has a number of the second exactly where one of the second has one of the first
 shared : (numbers : BTreeSet ℕ) (new rows : List Row) → AreNumbers numbers new → list_any (λ r. contains nat_cmp numbers r.id.0) rows ≡ list_any (λ r. list_any (has_number r.id) rows) new

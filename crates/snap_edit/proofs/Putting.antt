@@ -15,9 +15,8 @@ use Rattle.snap_tree.proofs.Growth.{rows_of-beside}
 use Rattle.snap_edit.specs.Trees.{put_at, inserted, hung}
 use Rattle.snap_edit.specs.Places.{after_first, child_place, hung_rows}
 use Rattle.snap_tree.proofs.Cuts.{length-rows_of, count_grown}
-use Rattle.snap_edit.proofs.Replacing.{replaced_named, spot_named, named_beside}
-use Rattle.snap_edit.specs.Made.{IsPage}
-use Rattle.snap_edit.proofs.Standing.{Stands}
+use Rattle.snap_edit.proofs.Replacing.{named_beside}
+use Rattle.snap_edit.proofs.Standing.{Stands, still_named}
 
 -- ---- trees cut after some of them
 
@@ -104,12 +103,11 @@ put_named parent zero others t h m = named_beside parent others t h m
 put_named parent (suc k) others empty h m = h
 put_named parent (suc k) others (tree r kids after) h m = (m.0, (m.1.0, put_named parent k others after h m.1.1))
 
-pub inserted_named : (rows : List Row) (p : NodeId) (place k : ℕ) (others : Trees) → IsPage rows → Stands rows p place → AreNamed (Some p) others → AreNamed None (inserted p k others (grown rows))
-inserted_named rows p place k others page h m =
+pub inserted_named : {rows : List Row} {p : NodeId} {place : ℕ} (k : ℕ) (others : Trees) → Stands rows p place → AreNamed (Some p) others → AreNamed None (inserted p k others (grown rows))
+inserted_named {p = p} k others h m =
     let s = h.there in
-    let names = spot_named p [] (grown rows) s h.found page.named in
     let below : AreNamed (Some s.row.id) others = subst (λ id. AreNamed (Some id) others) (sym (number_is p s.row h.parts.number)) m in
-    replaced_named p (λ r kids. tree r (put_at k others kids) empty) [] (grown rows) s h.found page.named (names.own, (put_named (Some s.row.id) k others s.below below names.below, tt))
+    still_named (λ r kids. tree r (put_at k others kids) empty) h (refl, (put_named (Some s.row.id) k others s.below below h.names.below, tt))
 
 pub hung_rows_of : (p : NodeId) (t : Trees) → rows_of (hung p t) ≡ hung_rows p (rows_of t)
 hung_rows_of p empty = refl

@@ -27,15 +27,17 @@ again rows t m sound =
     let apart : AreApart (rows_of t) = subst AreApart (rows_of_grown rows ∙ sym m.0) (well_from_sound rows sound).apart in
     ap grown (sym m.0) ∙ regrown t m.1 apart
 
-pub settles : (rows : List Row) (answer : Result Trees EditKind) → Makes rows answer → tree_fault rows ≡ None → then_settled answer ≡ Ok (grown rows)
+pub settled_by : {o : Option TreeFault} (t : Trees) → tree_fault (rows_of t) ≡ o → settled t ≡ option_map_or (λ fault. Err (Tree fault)) o (Ok t)
 unfolding settled
+settled_by t e = ap (λ o. option_map_or (λ fault. Err (Tree fault)) o (Ok t)) e
+
+pub settles : (rows : List Row) (answer : Result Trees EditKind) → Makes rows answer → tree_fault rows ≡ None → then_settled answer ≡ Ok (grown rows)
 settles rows (Err kind) m sound = absurd m
-settles rows (Ok t) m sound = ap (λ o. option_map_or (λ fault. Err (Tree fault)) o (Ok t)) (ap tree_fault m.0 ∙ sound) ∙ ap Ok (sym (again rows t m sound))
+settles rows (Ok t) m sound = settled_by t (ap tree_fault m.0 ∙ sound) ∙ ap Ok (sym (again rows t m sound))
 
 pub breaks : (rows : List Row) (answer : Result Trees EditKind) (f : TreeFault) → Makes rows answer → tree_fault rows ≡ Some f → then_settled answer ≡ Err (Tree f)
-unfolding settled
 breaks rows (Err kind) f m e = absurd m
-breaks rows (Ok t) f m e = ap (λ o. option_map_or (λ fault. Err (Tree fault)) o (Ok t)) (ap tree_fault m.0 ∙ e)
+breaks rows (Ok t) f m e = settled_by t (ap tree_fault m.0 ∙ e)
 
 pub declined : (f : Refusal) (answer : Result Trees EditKind) → Declines f answer → Declines f (then_settled answer)
 declined (Kind kind) answer d = ap then_settled d

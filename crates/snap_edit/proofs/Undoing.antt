@@ -3,7 +3,7 @@ use Rattle.std.proofs.Common.{◌≡◌, ◌==◌, ℕ, ◌+◌, ◌≤◌, List
 use Rattle.std.proofs.lemmas.List.{length-append}
 use Rattle.std.proofs.lemmas.Bool.Decides.{nat_tests}
 use Rattle.std.proofs.lemmas.Slice.Eq.{bytes_eq-Decides}
-use Rattle.std.specs.Option.{option_map, option_map_or, option_or, IfSome}
+use Rattle.std.specs.Option.{option_map, option_or, IfSome}
 use Rattle.std.specs.List.{find}
 use Rattle.std.specs.Str.{bytes_eq}
 use Rattle.snap_tree.specs.Words.{folded}
@@ -18,7 +18,6 @@ use Rattle.snap_tree.specs.Grown.{grown}
 use Rattle.snap_tree.specs.Rows.{has_number, is_text, attribute, attrs_in, attrs_of, same_folded}
 use Rattle.snap_tree.specs.Spots.{Spot, spot, spot_in}
 use Rattle.snap_tree.specs.Faults.{tree_fault}
-use Rattle.snap_tree.specs.Well.{AreApart}
 use Rattle.snap_tree.proofs.Growth.{rows_of_grown}
 use Rattle.snap_tree.proofs.Climbing.{none_any}
 use Rattle.snap_edit.specs.declared.edit.Edit.{Edit}
@@ -28,11 +27,11 @@ use Rattle.snap_edit.specs.declared.fault.EditKind.TheVariants.{NoNode, NotEleme
 use Rattle.snap_edit.specs.declared.fault.EditFault.{EditFault}
 use Rattle.snap_edit.specs.Attrs.{attrs_with, attrs_without, body_with, with_attrs}
 use Rattle.snap_edit.specs.Trees.{changed}
-use Rattle.snap_edit.specs.Edits.{most_edits, at, settled, then_settled, edited, followed, edited_from, edited_all, continued}
+use Rattle.snap_edit.specs.Edits.{most_edits, at, then_settled, edited, followed, edited_from, edited_all, continued}
 use Rattle.snap_edit.specs.Laws.{after_others, then_edits}
-use Rattle.snap_edit.proofs.Replacing.{Finds, finds, absent}
-use Rattle.snap_edit.proofs.Standing.{at_found, page_of_sound}
-use Rattle.snap_edit.proofs.Settling.{edited_append}
+use Rattle.snap_edit.proofs.Replacing.{Finds, absent}
+use Rattle.snap_edit.proofs.Standing.{page_of_sound, found_in, at_none, text_found}
+use Rattle.snap_edit.proofs.Settling.{settled_by, edited_append}
 
 -- ---- a list in parts
 
@@ -90,6 +89,9 @@ undone_row name value r h =
     let none = not_there name (attrs_of r) (find (λ a. same_folded a.name name) (attrs_of r)) refl h in
     ap (λ b. record { id = r.id; parent = r.parent; body = b; facts = r.facts }) (undone_body name value r.body none)
 
+number_kept : (n : NodeId) (r new : Row) → new.id ≡ r.id → has_number n new ≡ has_number n r
+number_kept n r new k = ap (λ (id : NodeId). id.0 == n.0) k
+
 -- a row changed twice
 undone_tree : (n : NodeId) (f g : Row → Row) (above : List Row) (t : Trees) (s : Spot) → ((r : Row) → (g r).id ≡ r.id) → f (g s.row) ≡ s.row → Finds n above t s → changed n f (changed n g t) ≡ t
 undone_tree n f g above empty s k u h = absurd h
@@ -97,7 +99,7 @@ undone_tree n f g above (tree r kids after) s k u (inl h) =
     let row : s.row ≡ r = ap (λ (s : Spot). s.row) h.1 in
     let same : f (g r) ≡ r = subst (λ r. f (g r) ≡ r) row u in
     let e : has_number n r ≡ true = h.0 in
-    let e' : has_number n (g r) ≡ true = ap (λ (id : NodeId). id.0 == n.0) (k r) ∙ e in
+    let e' = number_kept n r (g r) (k r) ∙ e in
     rw e (rw e' (ap (λ r. tree r kids after) same))
 undone_tree n f g above (tree r kids after) s k u (inr (inl h)) =
     let e : has_number n r ≡ false = h.0 in
@@ -113,7 +115,7 @@ spot_changed : (n : NodeId) (g : Row → Row) (above : List Row) (t : Trees) (s 
 spot_changed n g above empty s k h = absurd h
 spot_changed n g above (tree r kids after) s k (inl h) =
     let e : has_number n r ≡ true = h.0 in
-    let e' : has_number n (g r) ≡ true = ap (λ (id : NodeId). id.0 == n.0) (k r) ∙ e in
+    let e' = number_kept n r (g r) (k r) ∙ e in
     rw e (rw e' (ap (λ s. Some (spot_with g s)) (sym h.1)))
 spot_changed n g above (tree r kids after) s k (inr (inl h)) =
     let e : has_number n r ≡ false = h.0 in
@@ -131,24 +133,20 @@ text_kept f r = by_body r.body
 
 -- an element's attributes changed, where the row is no text
 on_element : (t : Trees) (n : NodeId) (s : Spot) (f : List Attr → List Attr) → spot t n ≡ Some s → is_text s.row ≡ false → at t n (λ s. if is_text s.row then Err NotElement else Ok (changed n (with_attrs f) t)) ≡ Ok (changed n (with_attrs f) t)
-on_element t n s f e b = at_found t n s (λ s. if is_text s.row then Err NotElement else Ok (changed n (with_attrs f) t)) e ∙ ap (λ b. if b then Err NotElement else Ok (changed n (with_attrs f) t)) b
-
-settled_by : (t : Trees) (o : Option TreeFault) → tree_fault (rows_of t) ≡ o → settled t ≡ option_map_or (λ fault. Err (Tree fault)) o (Ok t)
-unfolding settled
-settled_by t o e = ap (λ o. option_map_or (λ fault. Err (Tree fault)) o (Ok t)) e
+on_element t n s f e b = text_found t n s false (Err NotElement) (Ok (changed n (with_attrs f) t)) e b
 
 dropped : (rows : List Row) (n : NodeId) (name value : List ℕ) (s : Spot) → tree_fault rows ≡ None → spot (grown rows) n ≡ Some s → attribute name s.row ≡ None → is_text s.row ≡ false → edited (changed n (with_attrs (attrs_with name value)) (grown rows)) (DropAttr n name) ≡ Ok (grown rows)
 dropped rows n name value s sound e none text =
     let g = with_attrs (attrs_with name value) in
     let page = page_of_sound rows sound in
-    let found = finds n [] (grown rows) s (subst AreApart (sym (rows_of_grown rows)) page.apart) e in
+    let found = found_in n page e in
     let there = spot_changed n g [] (grown rows) s (λ r. refl) found in
     let back = undone_tree n (with_attrs (attrs_without name)) g [] (grown rows) s (λ r. refl) (undone_row name value s.row none) found in
-    ap then_settled (on_element (changed n g (grown rows)) n (spot_with g s) (attrs_without name) there (text_kept (attrs_with name value) s.row ∙ text) ∙ ap Ok back) ∙ settled_by (grown rows) None (ap tree_fault (rows_of_grown rows) ∙ sound)
+    ap then_settled (on_element (changed n g (grown rows)) n (spot_with g s) (attrs_without name) there (text_kept (attrs_with name value) s.row ∙ text) ∙ ap Ok back) ∙ settled_by (grown rows) (ap tree_fault (rows_of_grown rows) ∙ sound)
 
 undoes_by : (rows : List Row) (n : NodeId) (name value : List ℕ) (t : Trees) (o : Option Spot) → tree_fault rows ≡ None → spot (grown rows) n ≡ o → IfSome o (λ s. attribute name s.row ≡ None) → edited (grown rows) (SetAttr n name value) ≡ Ok t → edited t (DropAttr n name) ≡ Ok (grown rows)
 undoes_by rows n name value t None sound e none done =
-    let refused : edited (grown rows) (SetAttr n name value) ≡ Err NoNode = ap (λ o. then_settled (option_map_or (λ s. if is_text s.row then Err NotElement else Ok (changed n (with_attrs (attrs_with name value)) (grown rows))) o (Err NoNode))) e in
+    let refused : edited (grown rows) (SetAttr n name value) ≡ Err NoNode = ap then_settled (at_none (grown rows) n _ e) in
     let no : Err NoNode ≡ Ok t = sym refused ∙ done in
     cc
 undoes_by rows n name value t (Some s) sound e none done = by_text (is_text s.row) refl
@@ -158,20 +156,18 @@ undoes_by rows n name value t (Some s) sound e none done = by_text (is_text s.ro
 
     by_fault : (o : Option TreeFault) → is_text s.row ≡ false → tree_fault (rows_of new) ≡ o → edited t (DropAttr n name) ≡ Ok (grown rows)
     by_fault (Some fault) b f =
-        let refused : edited (grown rows) (SetAttr n name value) ≡ Err (Tree fault) = ap then_settled (on_element (grown rows) n s (attrs_with name value) e b) ∙ settled_by new (Some fault) f in
+        let refused : edited (grown rows) (SetAttr n name value) ≡ Err (Tree fault) = ap then_settled (on_element (grown rows) n s (attrs_with name value) e b) ∙ settled_by new f in
         let no : Err (Tree fault) ≡ Ok t = sym refused ∙ done in
         cc
     by_fault None b f =
-        let made : edited (grown rows) (SetAttr n name value) ≡ Ok new = ap then_settled (on_element (grown rows) n s (attrs_with name value) e b) ∙ settled_by new None f in
+        let made : edited (grown rows) (SetAttr n name value) ≡ Ok new = ap then_settled (on_element (grown rows) n s (attrs_with name value) e b) ∙ settled_by new f in
         let same : Ok new ≡ Ok t = sym made ∙ done in
         let is : new ≡ t = cc in
         subst (λ t. edited t (DropAttr n name) ≡ Ok (grown rows)) is (dropped rows n name value s sound e none b)
 
     by_text : (b : Bool) → is_text s.row ≡ b → edited t (DropAttr n name) ≡ Ok (grown rows)
     by_text true b =
-        let refused : edited (grown rows) (SetAttr n name value) ≡ Err NotElement =
-        ap then_settled (at_found (grown rows) n s (λ s. if is_text s.row then Err NotElement else Ok new) e ∙ ap (λ b. if b then Err NotElement else Ok new) b)
-        in
+        let refused : edited (grown rows) (SetAttr n name value) ≡ Err NotElement = ap then_settled (text_found (grown rows) n s true (Err NotElement) (Ok new) e b) in
         let no : Err NotElement ≡ Ok t = sym refused ∙ done in
         cc
     by_text false b = by_fault (tree_fault (rows_of new)) b refl
