@@ -28,6 +28,7 @@ use Rattle.snap_edit.proofs.Numbers.{held_by}
 use Rattle.snap_tree.proofs.Climbing.{any_append}
 use Rattle.snap_tree.proofs.Entering.{place_from-any}
 use Rattle.std.proofs.lemmas.List.{append-nil}
+use Rattle.std.proofs.Math.Bool.{or-true}
 
 -- ---- the root stays
 
@@ -78,11 +79,10 @@ at_absent t n f None e h = at_none t n f e
 at_absent t n f (Some s) e h = cc
 
 any_within : (p : NodeId) (xs ys zs : List Row) → list_any (has_number p) ys ≡ true → list_any (has_number p) (xs ++ (ys ++ zs)) ≡ true
-any_within p xs ys zs h = any_append p xs (ys ++ zs) ∙ ap (λ b. list_any (has_number p) xs || b) (any_append p ys zs ∙ ap (λ b. b || list_any (has_number p) zs) h) ∙ or_true (list_any (has_number p) xs)
-  where
-    or_true : (b : Bool) → (b || true) ≡ true
-    or_true true = refl
-    or_true false = refl
+any_within p xs ys zs h =
+    let any = list_any (has_number p) in
+    let later : any (ys ++ zs) ≡ true = any_append p ys zs ∙ ap (λ b. b || any zs) h in
+    any_append p xs (ys ++ zs) ∙ ap (λ b. any xs || b) later ∙ or-true (any xs)
 
 -- what is said of the new parent, where that isn't in the subtree
 abbrev pub moved_in : Trees → NodeId → ℕ → Spot → Result Trees EditKind

@@ -1,5 +1,5 @@
 -- The first node of a number, and the rows of trees in which others stand in its place.
-use Rattle.std.proofs.Common.{◌≡◌, ℕ, ◌+◌, ◌==◌, List, [], ◌∷◌, ◌++◌, length, set, Bool, true, false, ◌||◌, Option, Some, None, unwrap_or, refl, sym, ◌∙◌, ap, subst, arith, inl, inr, ◌⊎◌, append_assoc, add-zero}
+use Rattle.std.proofs.Common.{◌≡◌, ℕ, ◌+◌, ◌==◌, List, [], ◌∷◌, ◌++◌, length, Bool, true, false, ◌||◌, Option, Some, None, unwrap_or, refl, sym, ◌∙◌, ap, subst, arith, inl, inr, ◌⊎◌, append_assoc, add-zero}
 use Rattle.std.specs.List.{list_any}
 use Rattle.snap_tree.specs.declared.row.NodeId.{NodeId}
 use Rattle.snap_tree.specs.declared.row.Row.{Row}
@@ -142,7 +142,3 @@ place_after from n (x ∷ before) r rest h e =
     let first : (x.id.0 == n.0) ≡ false = both.0 in
     let sums : from + 1 + length before ≡ from + length (x ∷ before) = omega arith in
     rw first (place_after (from + 1) n before r rest both.1 e ∙ ap Some sums)
-
-pub set_after : (before : List Row) (x y : Row) (rest : List Row) → set (before ++ x ∷ rest) (length before) y ≡ before ++ y ∷ rest
-set_after [] x y rest = refl
-set_after (b ∷ before) x y rest = ap (λ rs. b ∷ rs) (set_after before x y rest)

@@ -1,6 +1,7 @@
 -- Edits judged, and carried out one after another.
 use Rattle.std.proofs.Common.{◌≡◌, ℕ, ◌+◌, List, [], ◌∷◌, ◌++◌, length, Option, Some, None, Result, Ok, Err, IfOk, IfErr, refl, sym, ◌∙◌, ap, subst, arith, add-zero}
 use Rattle.std.specs.Option.{option_map_or}
+use Rattle.std.specs.Result.{IsErrAnd}
 use Rattle.snap_tree.specs.declared.row.Row.{Row}
 use Rattle.snap_tree.specs.declared.fault.TreeFault.{TreeFault}
 use Rattle.snap_tree.specs.Trees.{Trees, rows_of}
@@ -49,9 +50,6 @@ pub refused_at : (index : ℕ) (f : Refusal) (e : Edit) (edits : List Edit) (t :
 refused_at index (Kind kind) e edits t d = ap (followed index (edited_from (index + 1) edits)) d
 refused_at index OutOfMemory e edits t d = tt
 
-pub followed_by : (index : ℕ) (e : Edit) (edits : List Edit) (t new : Trees) → edited t e ≡ Ok new → edited_from index (e ∷ edits) t ≡ edited_from (index + 1) edits new
-followed_by index e edits t new d = ap (followed index (edited_from (index + 1) edits)) d
-
 append_by : (index : ℕ) (xs ys : List Edit) (r : Result Trees EditKind) → ((t : Trees) → edited_from (index + 1) (xs ++ ys) t ≡ continued (index + 1 + length xs) ys (edited_from (index + 1) xs t))
     → followed index (edited_from (index + 1) (xs ++ ys)) r ≡ continued (index + 1 + length xs) ys (followed index (edited_from (index + 1) xs) r)
 append_by index xs ys (Err kind) h = refl
@@ -68,11 +66,12 @@ pub refused_earlier : (f : EditFault) (xs ys : List Edit) (t : Trees) → Refuse
 refused_earlier (At index kind) xs ys t h = edited_append 0 xs ys t ∙ ap (continued (0 + length xs) ys) h
 refused_earlier fault.OutOfMemory xs ys t h = tt
 
--- what the last edit says of it
-pub at_last : (xs : List Edit) (e : Edit) (t new : Trees) → edited_from 0 xs t ≡ Ok new → edited_from 0 (xs ++ e ∷ []) t ≡ edited_from (length xs) (e ∷ []) new
-at_last xs e t new h =
-    let same : 0 + length xs ≡ length xs = omega arith in
-    edited_append 0 xs (e ∷ []) t ∙ ap (continued (0 + length xs) (e ∷ [])) h ∙ ap (λ i. edited_from i (e ∷ []) new) same
+-- what the last edit says of it, where the page's rows went through the others
+pub at_last : {rows copies : List Row} {t : Trees} (xs : List Edit) (e : Edit) (new : List Row) → copies ≡ rows → grown rows ≡ t → edited_from 0 xs (grown copies) ≡ Ok (grown new) → edited_from 0 (xs ++ e ∷ []) t ≡ edited_from (length xs) (e ∷ []) (grown new)
+at_last {t = t} xs e new same is h =
+    let all : edited_from 0 xs t ≡ Ok (grown new) = ap (edited_from 0 xs) (sym (ap grown same ∙ is)) ∙ h in
+    let index : 0 + length xs ≡ length xs = omega arith in
+    edited_append 0 xs (e ∷ []) t ∙ ap (continued (0 + length xs) (e ∷ [])) all ∙ ap (λ i. edited_from i (e ∷ []) (grown new)) index
 
 refused_by : (index : ℕ) (f : EditFault) (rows : List Row) (answer : Result Trees EditKind) (o : Option TreeFault) → Makes rows answer → tree_fault rows ≡ o → BreaksAt index f o → Refuses f (followed index (edited_from (index + 1) []) (then_settled answer))
 refused_by index (At i kind) rows answer (Some g) m e b = ap (followed index (edited_from (index + 1) [])) (breaks rows answer g m e) ∙ ap Err (sym b)
@@ -91,6 +90,7 @@ pub ok_both : {T E : Type 0} (r : Result T E) (P Q R : T → Type 0) → IfOk r 
 ok_both (Ok x) P Q R p q f = f x p q
 ok_both (Err e) P Q R p q f = tt
 
-pub err_from : {T E : Type 0} (r : Result T E) (P Q : E → Type 0) → IfErr r P → ((e : E) → P e → Q e) → IfErr r Q
-err_from (Ok x) P Q p f = tt
-err_from (Err e) P Q p f = f e p
+-- a fault that is passed on
+pub passed_on : {T E : Type 0} (r : Result T E) (f : E) (P : E → Type 0) → IsErrAnd r (λ g. g ≡ f) → P f → IfErr r P
+passed_on (Ok x) f P e p = tt
+passed_on (Err g) f P e p = subst P (sym e) p

@@ -1,6 +1,7 @@
 -- A node by its place among a page's rows, and the rows of a page in which it is changed.
 use Rattle.std.proofs.Common.{◌≡◌, ℕ, suc, ◌+◌, List, [], ◌∷◌, ◌++◌, length, get_or, set, Bool, Some, None, Result, Ok, Err, unwrap_or, if◌then◌else◌, refl, sym, ◌∙◌, ap, subst, arith}
 use Rattle.std.proofs.lemmas.List.{append-nil}
+use Rattle.std.proofs.Math.Seq.{set-append_seam}
 use Rattle.std.specs.Option.{option_map_or, option_map}
 use Rattle.snap_tree.specs.declared.row.NodeId.{NodeId}
 use Rattle.snap_tree.specs.declared.row.Row.{Row}
@@ -26,8 +27,7 @@ use Rattle.snap_edit.specs.Trees.{replaced, changed}
 use Rattle.snap_edit.specs.Edits.{at}
 use Rattle.snap_edit.specs.Places.{IsNodeAt, IsElementAt, of_element}
 use Rattle.snap_edit.specs.Made.{IsPage, Makes}
-use Rattle.std.specs.Result.{IsErrAnd, IfErr}
-use Rattle.snap_edit.proofs.Replacing.{Finds, finds, Parts, parts, NamesIn, replaced_named, spot_named, place_after, set_after}
+use Rattle.snap_edit.proofs.Replacing.{Finds, finds, Parts, parts, NamesIn, replaced_named, spot_named, place_after}
 
 pub page_of_sound : (rows : List Row) → tree_fault rows ≡ None → IsPage rows
 page_of_sound rows h =
@@ -96,11 +96,6 @@ at_none t n f e = ap (λ o. option_map_or f o (Err NoNode)) e
 pub at_stranger : (rows : List Row) (n : NodeId) (f : Spot → Result Trees EditKind) → place_from 0 n.0 rows ≡ None → at (grown rows) n f ≡ Err NoNode
 at_stranger rows n f e = at_none (grown rows) n f (stranger rows n e)
 
--- a fault that is passed on
-pub passed_on : {T E : Type 0} (r : Result T E) (f : E) (P : E → Type 0) → IsErrAnd r (λ g. g ≡ f) → P f → IfErr r P
-passed_on (Ok x) f P e p = tt
-passed_on (Err g) f P e p = subst P (sym e) p
-
 -- what is said of a text, and what of an element
 abbrev pub by_text : Result Trees EditKind → Result Trees EditKind → Spot → Result Trees EditKind
 by_text x y s = if is_text s.row then x else y
@@ -128,7 +123,7 @@ changed_rows {rows = rows} {place = place} g h =
     let last = rows_of s.below ++ p.later in
     let one = ap (λ below. p.before ++ g s.row ∷ (below ++ p.later)) (append-nil (rows_of s.below)) in
     let here = ap (λ i. set (p.before ++ s.row ∷ last) i (g s.row)) h.at ∙ ap (λ rs. set rs place (g s.row)) (sym h.rows_are) in
-    p.new_rows (λ r kids. tree (g r) kids empty) ∙ one ∙ sym (set_after p.before s.row (g s.row) last) ∙ here
+    p.new_rows (λ r kids. tree (g r) kids empty) ∙ one ∙ sym (set-append_seam p.before s.row last (g s.row)) ∙ here
 
 -- a row stays where it is
 pub record Keeps (r new : Row) : Type 0 where
@@ -153,11 +148,17 @@ with_found f r = ap (λ b. record { id = r.id; parent = r.parent; body = b; fact
     by_body (Words text) = refl
 
 -- an element's attributes that were changed
-pub makes_attrs : {rows new : List Row} {n : NodeId} {place : ℕ} {row : Row} {own attrs : List Attr} (f : List Attr → List Attr) → tree_fault rows ≡ None → IsElementAt rows n place → row ≡ get_or rows place row → own ≡ attrs_of row → attrs ≡ f own
-    → ((d : Row) → new ≡ set rows place (with_attrs (λ _. attrs) (get_or rows place d))) → Makes new (of_element (grown rows) n (Ok (changed n (with_attrs f) (grown rows))))
+pub makes_attrs :
+    {rows new : List Row} {n : NodeId} {place : ℕ} {row : Row} {own attrs : List Attr} (f : List Attr → List Attr)
+    → tree_fault rows ≡ None → IsElementAt rows n place
+    → row ≡ get_or rows place row → own ≡ attrs_of row → attrs ≡ f own
+    → ((d : Row) → new ≡ set rows place (with_attrs (λ _. attrs) (get_or rows place d)))
+    → Makes new (of_element (grown rows) n (Ok (changed n (with_attrs f) (grown rows))))
 makes_attrs {rows = rows} {new = new} {place = place} {row = row} {attrs = attrs} f sound at r o a e =
     let given : new ≡ set rows place (with_attrs (λ _. attrs) row) = e row ∙ ap (λ r. set rows place (with_attrs (λ _. attrs) r)) (sym r) in
     let found : new ≡ set rows place (with_attrs f row) =
     given ∙ ap (λ attrs. set rows place (with_attrs (λ _. attrs) row)) (a ∙ ap f o) ∙ ap (set rows place) (with_found f row)
     in
-    makes_changed (with_attrs f) (stands (page_of_sound rows sound) at.node) (λ r. record { id = refl; parent = refl }) r found (at.follows _)
+    makes_changed (with_attrs f) (stands (page_of_sound rows sound) at.node)
+    (λ r. record { id = refl; parent = refl }) r found
+    (at.follows _)

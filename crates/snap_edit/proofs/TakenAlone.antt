@@ -5,6 +5,7 @@ use Rattle.std.specs.Option.{option_or, is_some}
 use Rattle.std.specs.List.{list_any}
 use Rattle.snap_tree.specs.declared.row.NodeId.{NodeId}
 use Rattle.snap_tree.specs.declared.row.Row.{Row}
+use Rattle.snap_tree.specs.declared.fault.TreeFault.{TreeFault}
 use Rattle.snap_tree.specs.declared.fault.TreeFault.TheVariants.{DoubleNumber, ParentUnknownOrNotOpen, TextHasKids, TooMany}
 use Rattle.snap_tree.specs.Trees.{Trees, empty, tree}
 use Rattle.snap_tree.specs.Grown.{names, grown}
@@ -24,22 +25,20 @@ use Rattle.snap_edit.specs.Edits.{text_fault, alone_fault}
 any_one : (r x : Row) (b : Bool) → (x.id.0 == r.id.0) ≡ b → list_any (has_number x.id) (r ∷ []) ≡ (b || false)
 any_one r x b e = ap (λ b. b || false) (same_number r.id.0 x.id.0 ∙ e)
 
-pub double_below : (r x : Row) (rows : List Row) → (x.id.0 == r.id.0) ≡ true → rows_fault (r ∷ []) (x ∷ rows) ≡ Some (DoubleNumber x.id)
-double_below r x rows e = ap (λ o. option_or o (rows_fault (r ∷ x ∷ []) rows)) (row_fault_double (r ∷ []) x (any_one r x true e))
+-- the fault of the row that follows one comes before those of later rows
+first_below : (r x : Row) (rows : List Row) (f : TreeFault) → row_fault (r ∷ []) x ≡ Some f → rows_fault (r ∷ []) (x ∷ rows) ≡ Some f
+first_below r x rows f e = ap (λ o. option_or o (rows_fault (r ∷ x ∷ []) rows)) e
 
-child_fault : (r x : Row) → is_text r ≡ true → names x r ≡ true → (x.id.0 == r.id.0) ≡ false → row_fault (r ∷ []) x ≡ Some (TextHasKids x.id)
-unfolding place_fault
-child_fault r x t n e = row_fault_new (r ∷ []) x (any_one r x false e) ∙ rw (n, t) refl
-
-stray_fault : (r x : Row) → names x r ≡ false → (x.id.0 == r.id.0) ≡ false → row_fault (r ∷ []) x ≡ Some (ParentUnknownOrNotOpen x.id)
-unfolding place_fault
-stray_fault r x n e = row_fault_new (r ∷ []) x (any_one r x false e) ∙ rw n refl
+double_below : (r x : Row) (rows : List Row) → (x.id.0 == r.id.0) ≡ true → rows_fault (r ∷ []) (x ∷ rows) ≡ Some (DoubleNumber x.id)
+double_below r x rows e = first_below r x rows (DoubleNumber x.id) (row_fault_double (r ∷ []) x (any_one r x true e))
 
 pub child_below : (r x : Row) (rows : List Row) → is_text r ≡ true → names x r ≡ true → (x.id.0 == r.id.0) ≡ false → rows_fault (r ∷ []) (x ∷ rows) ≡ Some (TextHasKids x.id)
-child_below r x rows t n e = ap (λ o. option_or o (rows_fault (r ∷ x ∷ []) rows)) (child_fault r x t n e)
+unfolding place_fault
+child_below r x rows t n e = first_below r x rows (TextHasKids x.id) (row_fault_new (r ∷ []) x (any_one r x false e) ∙ rw (n, t) refl)
 
 pub stray_below : (r x : Row) (rows : List Row) → names x r ≡ false → (x.id.0 == r.id.0) ≡ false → rows_fault (r ∷ []) (x ∷ rows) ≡ Some (ParentUnknownOrNotOpen x.id)
-stray_below r x rows n e = ap (λ o. option_or o (rows_fault (r ∷ x ∷ []) rows)) (stray_fault r x n e)
+unfolding place_fault
+stray_below r x rows n e = first_below r x rows (ParentUnknownOrNotOpen x.id) (row_fault_new (r ∷ []) x (any_one r x false e) ∙ rw n refl)
 
 -- a text alone is all that has no fault
 none_below : (r : Row) (rows : List Row) → is_text r ≡ true → rows_fault (r ∷ []) rows ≡ None → rows ≡ []

@@ -1,5 +1,6 @@
 use Rattle.snap_edit.specs.Attrs.{attrs_without}
-use Rattle.snap_edit.proofs.Standing.{makes_attrs, passed_on}
+use Rattle.snap_edit.proofs.Standing.{makes_attrs}
+use Rattle.snap_edit.proofs.Settling.{passed_on}
 use Rattle.snap_edit.proofs.changes.drop_attr.Goals as goal
 
 pub returns-in_err-place-clause-refused : goal.returns-in_err-place-clause-refused

@@ -1,4 +1,5 @@
-use Rattle.snap_edit.proofs.Standing.{run_at, passed_on}
+use Rattle.snap_edit.proofs.Standing.{run_at}
+use Rattle.snap_edit.proofs.Settling.{passed_on}
 use Rattle.snap_edit.proofs.Moving.{lifted, within, into_itself, move_declined, move_makes}
 use Rattle.snap_edit.proofs.moves.move_to.Goals as goal
 

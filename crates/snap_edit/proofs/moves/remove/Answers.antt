@@ -1,4 +1,5 @@
-use Rattle.snap_edit.proofs.Standing.{run_at, passed_on}
+use Rattle.snap_edit.proofs.Standing.{run_at}
+use Rattle.snap_edit.proofs.Settling.{passed_on}
 use Rattle.snap_edit.proofs.Moving.{removed}
 use Rattle.snap_edit.proofs.moves.remove.Goals as goal
 

@@ -1,5 +1,6 @@
 use Rattle.std.proofs.Common.{sym, ◌∙◌}
-use Rattle.snap_edit.proofs.Standing.{run_at, passed_on}
+use Rattle.snap_edit.proofs.Standing.{run_at}
+use Rattle.snap_edit.proofs.Settling.{passed_on}
 use Rattle.snap_edit.proofs.Placing.{child_out, child_in}
 use Rattle.snap_edit.proofs.subtree.place_in.Goals as goal
 
