@@ -26,19 +26,31 @@ any_one : (r x : Row) (b : Bool) → (x.id.0 == r.id.0) ≡ b → list_any (has_
 any_one r x b e = ap (λ b. b || false) (same_number r.id.0 x.id.0 ∙ e)
 
 -- the fault of the row that follows one comes before those of later rows
-first_below : (r x : Row) (rows : List Row) (f : TreeFault) → row_fault (r ∷ []) x ≡ Some f → rows_fault (r ∷ []) (x ∷ rows) ≡ Some f
+first_below :
+    (r x : Row) (rows : List Row) (f : TreeFault)
+    → row_fault (r ∷ []) x ≡ Some f → rows_fault (r ∷ []) (x ∷ rows) ≡ Some f
 first_below r x rows f e = ap (λ o. option_or o (rows_fault (r ∷ x ∷ []) rows)) e
 
-double_below : (r x : Row) (rows : List Row) → (x.id.0 == r.id.0) ≡ true → rows_fault (r ∷ []) (x ∷ rows) ≡ Some (DoubleNumber x.id)
+double_below :
+    (r x : Row) (rows : List Row)
+    → (x.id.0 == r.id.0) ≡ true → rows_fault (r ∷ []) (x ∷ rows) ≡ Some (DoubleNumber x.id)
 double_below r x rows e = first_below r x rows (DoubleNumber x.id) (row_fault_double (r ∷ []) x (any_one r x true e))
 
-pub child_below : (r x : Row) (rows : List Row) → is_text r ≡ true → names x r ≡ true → (x.id.0 == r.id.0) ≡ false → rows_fault (r ∷ []) (x ∷ rows) ≡ Some (TextHasKids x.id)
+pub child_below :
+    (r x : Row) (rows : List Row)
+    → is_text r ≡ true → names x r ≡ true → (x.id.0 == r.id.0) ≡ false
+    → rows_fault (r ∷ []) (x ∷ rows) ≡ Some (TextHasKids x.id)
 unfolding place_fault
-child_below r x rows t n e = first_below r x rows (TextHasKids x.id) (row_fault_new (r ∷ []) x (any_one r x false e) ∙ rw (n, t) refl)
+child_below r x rows t n e =
+    first_below r x rows (TextHasKids x.id) (row_fault_new (r ∷ []) x (any_one r x false e) ∙ rw (n, t) refl)
 
-pub stray_below : (r x : Row) (rows : List Row) → names x r ≡ false → (x.id.0 == r.id.0) ≡ false → rows_fault (r ∷ []) (x ∷ rows) ≡ Some (ParentUnknownOrNotOpen x.id)
+pub stray_below :
+    (r x : Row) (rows : List Row)
+    → names x r ≡ false → (x.id.0 == r.id.0) ≡ false
+    → rows_fault (r ∷ []) (x ∷ rows) ≡ Some (ParentUnknownOrNotOpen x.id)
 unfolding place_fault
-stray_below r x rows n e = first_below r x rows (ParentUnknownOrNotOpen x.id) (row_fault_new (r ∷ []) x (any_one r x false e) ∙ rw n refl)
+stray_below r x rows n e =
+    first_below r x rows (ParentUnknownOrNotOpen x.id) (row_fault_new (r ∷ []) x (any_one r x false e) ∙ rw n refl)
 
 -- a text alone is all that has no fault
 none_below : (r : Row) (rows : List Row) → is_text r ≡ true → rows_fault (r ∷ []) rows ≡ None → rows ≡ []
@@ -52,7 +64,10 @@ none_below r (x ∷ rows) t h = by_test (x.id.0 == r.id.0) (names x r) refl refl
 
 -- ---- the trees of rows without a fault
 
-text_alone : (r : Row) (rows : List Row) (a b : Bool) → is_text r ≡ true → nat_lt most_nodes (length (r ∷ rows)) ≡ a → is_some r.parent ≡ b → text_fault r rows ≡ None → rows ≡ []
+text_alone :
+    (r : Row) (rows : List Row) (a b : Bool)
+    → is_text r ≡ true → nat_lt most_nodes (length (r ∷ rows)) ≡ a → is_some r.parent ≡ b → text_fault r rows ≡ None
+    → rows ≡ []
 text_alone r rows true b t ea eb h = let no : Some TooMany ≡ None = rw ea at h in cc
 text_alone r rows false true t ea eb h = let no : Some (ParentUnknownOrNotOpen r.id) ≡ None = rw (ea, eb) at h in cc
 text_alone r rows false false t ea eb h =
@@ -66,9 +81,14 @@ hung_one p (tree r kids empty) h m = (refl, (m.1.0, tt))
 hung_one p (tree r kids (tree y below after)) h m = absurd h
 
 hung_sound : (p : NodeId) (rows : List Row) → tree_fault rows ≡ None → AreNamed (Some p) (hung p (grown rows))
-hung_sound p rows h = let well = well_from_sound rows h in hung_one p (grown rows) well.rooted (named_well (grown rows) well)
+hung_sound p rows h =
+    let well = well_from_sound rows h in
+    hung_one p (grown rows) well.rooted (named_well (grown rows) well)
 
-hung_by : (p : NodeId) (r : Row) (rows : List Row) (b : Bool) → is_text r ≡ b → (if b then text_fault r rows else tree_fault (r ∷ rows)) ≡ None → AreNamed (Some p) (hung p (grown (r ∷ rows)))
+hung_by :
+    (p : NodeId) (r : Row) (rows : List Row) (b : Bool)
+    → is_text r ≡ b → (if b then text_fault r rows else tree_fault (r ∷ rows)) ≡ None
+    → AreNamed (Some p) (hung p (grown (r ∷ rows)))
 hung_by p r rows true t h =
     let none : rows ≡ [] = text_alone r rows (nat_lt most_nodes (length (r ∷ rows))) (is_some r.parent) t refl refl h in
     subst (λ rs. AreNamed (Some p) (hung p (grown (r ∷ rs)))) (sym none) (refl, (tt, tt))

@@ -21,9 +21,13 @@ use Rattle.snap_edit.specs.Made.{IsPage}
 use Rattle.snap_edit.proofs.Standing.{Stands, still_named}
 
 -- the first and the last of three runs of rows whose numbers differ
-pub any_less : (n : NodeId) (xs ys zs : List Row) → list_any (has_number n) (xs ++ (ys ++ zs)) ≡ false → list_any (has_number n) (xs ++ zs) ≡ false
+pub any_less :
+    (n : NodeId) (xs ys zs : List Row)
+    → list_any (has_number n) (xs ++ (ys ++ zs)) ≡ false → list_any (has_number n) (xs ++ zs) ≡ false
 any_less n xs ys zs h =
-    let outer = or_false (list_any (has_number n) xs) (list_any (has_number n) (ys ++ zs)) (sym (any_append n xs (ys ++ zs)) ∙ h) in
+    let outer =
+    or_false (list_any (has_number n) xs) (list_any (has_number n) (ys ++ zs)) (sym (any_append n xs (ys ++ zs)) ∙ h)
+    in
     let inner = or_false (list_any (has_number n) ys) (list_any (has_number n) zs) (sym (any_append n ys zs) ∙ outer.1) in
     any_append n xs zs ∙ ap (λ b. b || list_any (has_number n) zs) outer.0 ∙ inner.1
 
@@ -52,11 +56,19 @@ taken_out {rows = rows} {n = n} {place = place} h =
     let back : drop place rows ≡ own ++ later = ap (drop place) cut ∙ drop_at before (own ++ later) place h.at in
     let taken : subtree_at rows place ≡ own = ap (take size) back ∙ take_at own later size long in
     let last : drop size (drop place rows) ≡ later = ap (drop size) back ∙ drop_at own later size long in
-    let rest : rest_without rows place ≡ before ++ later = ap (λ rs. rs ++ drop size (drop place rows)) first ∙ ap (λ rs. before ++ rs) last in
-    let is : rows_of (without n (grown rows)) ≡ rest_without rows place = h.parts.new_rows (λ r kids. empty) ∙ sym rest in
+    let rest : rest_without rows place ≡ before ++ later =
+    ap (λ rs. rs ++ drop size (drop place rows)) first ∙ ap (λ rs. before ++ rs) last
+    in
+    let is : rows_of (without n (grown rows)) ≡ rest_without rows place =
+    h.parts.new_rows (λ r kids. empty) ∙ sym rest
+    in
     let named = still_named (λ r kids. empty) h tt in
-    let apart : AreApart (rest_without rows place) = subst AreApart (sym rest) (apart_less before own later (subst AreApart cut h.page.apart)) in
-    let again : grown (rest_without rows place) ≡ without n (grown rows) = ap grown (sym is) ∙ regrown (without n (grown rows)) named (subst AreApart (sym is) apart) in
+    let apart : AreApart (rest_without rows place) =
+    subst AreApart (sym rest) (apart_less before own later (subst AreApart cut h.page.apart))
+    in
+    let again : grown (rest_without rows place) ≡ without n (grown rows) =
+    ap grown (sym is) ∙ regrown (without n (grown rows)) named (subst AreApart (sym is) apart)
+    in
     record {
       rows_are = is;
       named = named;
@@ -66,5 +78,7 @@ taken_out {rows = rows} {n = n} {place = place} h =
     }
 
 -- the node is the root exactly where its row names no parent
-pub root_is : {rows : List Row} {n : NodeId} {place : ℕ} (h : Stands rows n place) → is_root h.there ≡ is_none h.there.row.parent
+pub root_is :
+    {rows : List Row} {n : NodeId} {place : ℕ} (h : Stands rows n place)
+    → is_root h.there ≡ is_none h.there.row.parent
 root_is h = ap is_none (sym h.names.own)

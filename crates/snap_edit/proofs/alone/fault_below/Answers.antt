@@ -5,11 +5,13 @@ use Rattle.snap_edit.proofs.alone.fault_below.Goals as goal
 pub returns-then-names : goal.returns-then-names
 returns-then-names c =
     let other = differ c.in_ok-row.row.now.id.0 c.args.root.now.id.0 c.if-node-root.false in
-    let fault = child_below c.args.root.now c.in_ok-row.row.now c.in_ok-row.field-0-1.now c.requires (sym c.names.ensures ∙ c.if-names.true) other in
+    let named = sym c.names.ensures ∙ c.if-names.true in
+    let fault = child_below c.args.root.now c.in_ok-row.row.now c.in_ok-row.field-0-1.now c.requires named other in
     rw c.in_ok-row.ensures.cases.0 (sym fault)
 
 pub returns : goal.returns
 returns c =
     let other = differ c.in_ok-row.row.now.id.0 c.args.root.now.id.0 c.if-node-root.false in
-    let fault = stray_below c.args.root.now c.in_ok-row.row.now c.in_ok-row.field-0-1.now (sym c.names.ensures ∙ c.if-names.false) other in
+    let named = sym c.names.ensures ∙ c.if-names.false in
+    let fault = stray_below c.args.root.now c.in_ok-row.row.now c.in_ok-row.field-0-1.now named other in
     rw c.in_ok-row.ensures.cases.0 (sym fault)

@@ -4,9 +4,11 @@ use Rattle.snap_edit.proofs.Settling.{passed_on}
 use Rattle.snap_edit.proofs.changes.set_attr.Goals as goal
 
 pub returns-in_err-place-clause-refused : goal.returns-in_err-place-clause-refused
-returns-in_err-place-clause-refused c = passed_on _ _ _ c.from_residual.ensures.1 (rw (← c.as_slice.ensures.value) (c.in_err-place.ensures.refused _))
+returns-in_err-place-clause-refused c =
+    passed_on _ _ _ c.from_residual.ensures.1 (rw (← c.as_slice.ensures.value) (c.in_err-place.ensures.refused _))
 
 pub returns-clause-made : goal.returns-clause-made
 returns-clause-made c =
     let at = rw c.as_slice.ensures.value at c.in_ok-place.ensures.place in
-    makes_attrs (attrs_with c.args.name.now c.args.value.now) c.requires at c.index.ensures c.attrs.ensures c.in_ok-attrs.ensures c.put_attrs.ensures
+    let f = attrs_with c.args.name.now c.args.value.now in
+    makes_attrs f c.requires at c.index.ensures c.attrs.ensures c.in_ok-attrs.ensures c.put_attrs.ensures

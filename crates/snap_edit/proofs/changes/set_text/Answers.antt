@@ -13,6 +13,8 @@ pub returns-clause-made : goal.returns-clause-made
 returns-clause-made c =
     let at = rw c.as_slice.ensures.value at c.in_ok-place.ensures.place in
     let h = stands (page_of_sound c.args.rows.items c.requires) at in
-    let text = ap (λ text. set c.args.rows.items c.in_ok-place.place (with_text text c.index_mut.result.now)) c.in_ok-text.ensures in
-    makes_changed (with_text c.args.text.now) h (λ r. record { id = refl; parent = refl }) c.index_mut.ensures.value text
-    (at_text _ (Err NotText) at c.index.ensures (sym c.is_text.ensures ∙ c.if-not-is_text.false))
+    let row = c.index_mut.result.now in
+    let text = ap (λ text. set c.args.rows.items c.in_ok-place.place (with_text text row)) c.in_ok-text.ensures in
+    let found = at_text _ (Err NotText) at c.index.ensures (sym c.is_text.ensures ∙ c.if-not-is_text.false) in
+    makes_changed (with_text c.args.text.now) h (λ r. record { id = refl; parent = refl })
+    c.index_mut.ensures.value text found

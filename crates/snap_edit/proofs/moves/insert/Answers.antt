@@ -11,4 +11,5 @@ returns-clause-made c =
     let place = rw c.as_slice.ensures.value at c.in_ok-begin.ensures.place in
     let taken = rw (c.as_slice-2.ensures.value, c.as_slice-3.ensures) at c.in_ok-has_taken.ensures in
     let fault = rw c.as_slice-4.ensures at c.in_ok-fault.ensures in
-    insert_makes place (sym taken ∙ c.if-branch.false) (sym fault ∙ c.in_default.is) (c.in_ok-subtree.ensures ∙ c.as_slice-5.ensures) c.in_ok-put_in.ensures
+    let copied = c.in_ok-subtree.ensures ∙ c.as_slice-5.ensures in
+    insert_makes place (sym taken ∙ c.if-branch.false) (sym fault ∙ c.in_default.is) copied c.in_ok-put_in.ensures
