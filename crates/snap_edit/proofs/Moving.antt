@@ -144,15 +144,16 @@ pub within :
     (l : Lifted rows rest subtree n place)
     → slice ≡ subtree → o ≡ place_from 0 p.0 slice → found ≡ is_some o → found ≡ b → is_within p l.stands.there ≡ b
 within {slice = slice} p l s o f e =
-    ap (list_any (has_number p)) (sym (s ∙ l.subtree_is)) ∙ sym (place_from-any 0 p slice) ∙ ap is_some (sym o) ∙ sym f
-    ∙ e
+    ap (list_any (has_number p)) (sym (s ∙ l.subtree_is)) ∙ sym (place_from-any 0 p slice) ∙ ap is_some (sym o)
+    ∙ sym f ∙ e
 
 -- a move's answer, told by its subtree's spot
 moves_by :
     {rows rest subtree : List Row} {n : NodeId} {place : ℕ} {b : Bool} (p : NodeId) (k : ℕ)
     (l : Lifted rows rest subtree n place)
     → is_within p l.stands.there ≡ b
-    → effect (grown rows) (Move n p k) ≡ at (grown rows) p (λ _. if b then Err IntoItself else moved_in (without n (grown rows)) p k l.stands.there)
+    → effect (grown rows) (Move n p k)
+    ≡ at (grown rows) p (λ _. if b then Err IntoItself else moved_in (without n (grown rows)) p k l.stands.there)
 moves_by {rows = rows} {n = n} p k l e =
     let t = grown rows in
     let f = λ (s : Spot). at t p (λ _. if is_within p s then Err IntoItself else moved_in (without n t) p k s) in
@@ -172,7 +173,8 @@ elsewhere_by :
     {rows rest subtree : List Row} {n : NodeId} {place : ℕ} (p : NodeId) (k : ℕ) (l : Lifted rows rest subtree n place)
     (b : Bool)
     → is_some (spot (grown rows) p) ≡ b
-    → at (grown rows) p (λ _. moved_in (without n (grown rows)) p k l.stands.there) ≡ moved_in (without n (grown rows)) p k l.stands.there
+    → at (grown rows) p (λ _. moved_in (without n (grown rows)) p k l.stands.there)
+    ≡ moved_in (without n (grown rows)) p k l.stands.there
 elsewhere_by {rows = rows} {n = n} p k l true held =
     at_held (grown rows) p (moved_in (without n (grown rows)) p k l.stands.there) (spot (grown rows) p) refl held
 elsewhere_by {rows = rows} {n = n} {place = place} p k l false held =

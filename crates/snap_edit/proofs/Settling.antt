@@ -63,7 +63,8 @@ refused_at index OutOfMemory e edits t d = tt
 append_by :
     (index : ℕ) (xs ys : List Edit) (r : Result Trees EditKind)
     → ((t : Trees) → edited_from (index + 1) (xs ++ ys) t ≡ continued (index + 1 + length xs) ys (edited_from (index + 1) xs t))
-    → followed index (edited_from (index + 1) (xs ++ ys)) r ≡ continued (index + 1 + length xs) ys (followed index (edited_from (index + 1) xs) r)
+    → followed index (edited_from (index + 1) (xs ++ ys)) r
+    ≡ continued (index + 1 + length xs) ys (followed index (edited_from (index + 1) xs) r)
 append_by index xs ys (Err kind) h = refl
 append_by index xs ys (Ok t) h = h t
 
