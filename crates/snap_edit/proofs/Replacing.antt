@@ -58,6 +58,14 @@ finds n above (tree r kids after) s a e =
         let is : spot_in n above after ≡ Some s = rw (ne, oe) at e in
         inr (inr (ne, later_number n (rows_of kids) (rows_of after) a.1 (spot_any n above after s is), ha s is))
 
+-- a number that two lists of rows together don't hold
+pub none_in_both :
+    (n : NodeId) (xs ys : List Row)
+    → list_any (has_number n) (xs ++ ys) ≡ false
+    → (list_any (has_number n) xs ≡ false) × (list_any (has_number n) ys ≡ false)
+none_in_both n xs ys h =
+    or_false (list_any (has_number n) xs) (list_any (has_number n) ys) (sym (any_append n xs ys) ∙ h)
+
 -- where the trees don't hold the number, they stay
 pub absent :
     (n : NodeId) (f : Row → Trees → Trees) (t : Trees)
@@ -65,9 +73,9 @@ pub absent :
 absent n f empty h = refl
 absent n f (tree r kids after) h =
     let first = or_false (has_number n r) (list_any (has_number n) (rows_of kids ++ rows_of after)) h in
-    let both = sym (any_append n (rows_of kids) (rows_of after)) ∙ first.1 in
-    let rest = or_false (list_any (has_number n) (rows_of kids)) (list_any (has_number n) (rows_of after)) both in
-    rw first.0 (ap (λ k. tree r k (replaced n f after)) (absent n f kids rest.0) ∙ ap (tree r kids) (absent n f after rest.1))
+    let rest = none_in_both n (rows_of kids) (rows_of after) first.1 in
+    let below = absent n f kids rest.0 in
+    rw first.0 (ap (λ k. tree r k (replaced n f after)) below ∙ ap (tree r kids) (absent n f after rest.1))
 
 -- ---- the rows before a node's subtree, and those after it
 

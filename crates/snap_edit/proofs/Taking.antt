@@ -13,7 +13,8 @@ use Rattle.snap_tree.specs.Well.{AreApart}
 use Rattle.snap_tree.specs.Naming.{AreNamed}
 use Rattle.snap_tree.proofs.Cuts.{length-rows_of}
 use Rattle.snap_tree.proofs.Naming.{regrown}
-use Rattle.snap_tree.proofs.Climbing.{any_append, or_false, apart_append}
+use Rattle.snap_tree.proofs.Climbing.{any_append, apart_append}
+use Rattle.snap_edit.proofs.Replacing.{none_in_both}
 use Rattle.snap_edit.specs.Trees.{without}
 use Rattle.snap_edit.specs.Edits.{is_root}
 use Rattle.snap_edit.specs.Places.{size_at, subtree_at, rest_without}
@@ -25,10 +26,8 @@ pub any_less :
     (n : NodeId) (xs ys zs : List Row)
     → list_any (has_number n) (xs ++ (ys ++ zs)) ≡ false → list_any (has_number n) (xs ++ zs) ≡ false
 any_less n xs ys zs h =
-    let outer =
-    or_false (list_any (has_number n) xs) (list_any (has_number n) (ys ++ zs)) (sym (any_append n xs (ys ++ zs)) ∙ h)
-    in
-    let inner = or_false (list_any (has_number n) ys) (list_any (has_number n) zs) (sym (any_append n ys zs) ∙ outer.1) in
+    let outer = none_in_both n xs (ys ++ zs) h in
+    let inner = none_in_both n ys zs outer.1 in
     any_append n xs zs ∙ ap (λ b. b || list_any (has_number n) zs) outer.0 ∙ inner.1
 
 apart_less : (xs ys zs : List Row) → AreApart (xs ++ (ys ++ zs)) → AreApart (xs ++ zs)
