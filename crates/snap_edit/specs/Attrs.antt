@@ -11,7 +11,9 @@ use Rattle.snap_tree.specs.Rows.{same_folded}
 -- there is none, a new one goes last
 abbrev pub attrs_with : List ℕ → List ℕ → List Attr → List Attr
 attrs_with name value [] = record { name = name; value = value } ∷ []
-attrs_with name value (a ∷ attrs) = if same_folded a.name name then record { name = a.name; value = value } ∷ attrs else a ∷ attrs_with name value attrs
+attrs_with name value (a ∷ attrs) =
+    if same_folded a.name name then record { name = a.name; value = value } ∷ attrs
+    else a ∷ attrs_with name value attrs
 
 -- the first attribute of this name goes, and where there is none all stay
 abbrev pub attrs_without : List ℕ → List Attr → List Attr

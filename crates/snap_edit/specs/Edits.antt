@@ -41,7 +41,10 @@ has_taken t rows = list_any (λ r. is_some (spot t r.id)) rows
 
 -- what follows where the trees have an element of this number with so many children
 abbrev pub in_place : Trees → NodeId → ℕ → Result Trees EditKind → Result Trees EditKind
-in_place t p place next = at t p (λ parent. if is_text parent.row then Err NotElement else (if nat_lt (length (kids t p)) place then Err PlaceOut else next))
+in_place t p place next =
+    at t p (λ parent.
+    if is_text parent.row then Err NotElement
+    else (if nat_lt (length (kids t p)) place then Err PlaceOut else next))
 
 -- the first fault of rows whose first row is a text, where a text may be the root: the later ones have
 -- no parent that is open but a text, and a text alone refers to nothing
@@ -62,11 +65,16 @@ taken_alone rows f = option_map_or (λ fault. Err (Tree fault)) (alone_fault row
 
 -- an edit's trees, before they are tried, or the first of its other faults
 abbrev pub effect : Trees → Edit → Result Trees EditKind
-effect t (SetAttr n name value) = at t n (λ s. if is_text s.row then Err NotElement else Ok (changed n (with_attrs (attrs_with name value)) t))
-effect t (DropAttr n name) = at t n (λ s. if is_text s.row then Err NotElement else Ok (changed n (with_attrs (attrs_without name)) t))
+effect t (SetAttr n name value) =
+    at t n (λ s. if is_text s.row then Err NotElement else Ok (changed n (with_attrs (attrs_with name value)) t))
+effect t (DropAttr n name) =
+    at t n (λ s. if is_text s.row then Err NotElement else Ok (changed n (with_attrs (attrs_without name)) t))
 effect t (SetText n text) = at t n (λ s. if is_text s.row then Ok (changed n (with_text text) t) else Err NotText)
 effect t (SetFacts n facts) = at t n (λ s. Ok (changed n (with_facts facts) t))
-effect t (Insert p place rows) = in_place t p place (if has_taken t rows then Err NumberTaken else taken_alone rows (λ others. Ok (inserted p place (hung p others) t)))
+effect t (Insert p place rows) =
+    in_place t p place (
+    if has_taken t rows then Err NumberTaken
+    else taken_alone rows (λ others. Ok (inserted p place (hung p others) t)))
 effect t (Remove n) = at t n (λ s. if is_root s then Err RootMoved else Ok (without n t))
 effect t (Move n p place) =
     at t n (λ s.

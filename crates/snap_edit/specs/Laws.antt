@@ -28,9 +28,13 @@ then_edits n edits (Ok t) = after_others n (edited_all t edits)
 
 -- a list in two parts is the second part applied to what the first gives
 abbrev pub GoesInParts : Type 0
-GoesInParts = (t : Trees) (xs ys : List Edit) → length (xs ++ ys) ≤ most_edits → edited_all t (xs ++ ys) ≡ then_edits (length xs) ys (edited_all t xs)
+GoesInParts =
+    (t : Trees) (xs ys : List Edit)
+    → length (xs ++ ys) ≤ most_edits → edited_all t (xs ++ ys) ≡ then_edits (length xs) ys (edited_all t xs)
 
 -- an attribute that a page's element doesn't have is set, and dropped: the page is as before
 abbrev pub DropUndoesSet : Type 0
 DropUndoesSet =
-    (rows : List Row) (n : NodeId) (name value : List ℕ) (t : Trees) → tree_fault rows ≡ None → IfSome (spot (grown rows) n) (λ s. attribute name s.row ≡ None) → edited (grown rows) (SetAttr n name value) ≡ Ok t → edited t (DropAttr n name) ≡ Ok (grown rows)
+    (rows : List Row) (n : NodeId) (name value : List ℕ) (t : Trees)
+    → tree_fault rows ≡ None → IfSome (spot (grown rows) n) (λ s. attribute name s.row ≡ None)
+    → edited (grown rows) (SetAttr n name value) ≡ Ok t → edited t (DropAttr n name) ≡ Ok (grown rows)

@@ -9,7 +9,7 @@ ghost use Rattle.snap_edit.specs.Made.{Makes, Declines};
 
 use crate::attrs::{attrs_with, attrs_without};
 use crate::fault::{EditKind, Refusal};
-use crate::place::place_of;
+use crate::place::{element_at, node_at};
 use snap_tree::{Attr, Body, Facts, List, NodeId, Row, Text};
 use std::alloc::Global;
 
@@ -35,14 +35,8 @@ pub(crate) fn set_attr(
     ensures made { IfOk result (λ new. Makes new.items (effect (grown rows.items) (SetAttr node name.now value.now))) }
     ensures refused { IfErr result (λ f. Declines f (effect (grown rows.items) (SetAttr node name.now value.now))) }
 {
-    let Some(place) = place_of(rows.as_slice(), node) else {
-        return Err(Refusal::Kind(EditKind::NoNode));
-    };
-    let row = &rows[place];
-    if row.is_text() {
-        return Err(Refusal::Kind(EditKind::NotElement));
-    }
-    let attrs = attrs_with(alloc, row.attrs(), name, value)?;
+    let place = element_at(rows.as_slice(), node)?;
+    let attrs = attrs_with(alloc, rows[place].attrs(), name, value)?;
     put_attrs(&mut rows, place, attrs);
     Ok(rows)
 }
@@ -58,14 +52,8 @@ pub(crate) fn drop_attr(
     ensures made { IfOk result (λ new. Makes new.items (effect (grown rows.items) (DropAttr node name.now))) }
     ensures refused { IfErr result (λ f. Declines f (effect (grown rows.items) (DropAttr node name.now))) }
 {
-    let Some(place) = place_of(rows.as_slice(), node) else {
-        return Err(Refusal::Kind(EditKind::NoNode));
-    };
-    let row = &rows[place];
-    if row.is_text() {
-        return Err(Refusal::Kind(EditKind::NotElement));
-    }
-    let attrs = attrs_without(alloc, row.attrs(), name)?;
+    let place = element_at(rows.as_slice(), node)?;
+    let attrs = attrs_without(alloc, rows[place].attrs(), name)?;
     put_attrs(&mut rows, place, attrs);
     Ok(rows)
 }
@@ -81,9 +69,7 @@ pub(crate) fn set_text(
     ensures made { IfOk result (λ new. Makes new.items (effect (grown rows.items) (SetText node text.now))) }
     ensures refused { IfErr result (λ f. Declines f (effect (grown rows.items) (SetText node text.now))) }
 {
-    let Some(place) = place_of(rows.as_slice(), node) else {
-        return Err(Refusal::Kind(EditKind::NoNode));
-    };
+    let place = node_at(rows.as_slice(), node)?;
     if !rows[place].is_text() {
         return Err(Refusal::Kind(EditKind::NotText));
     }
@@ -98,9 +84,7 @@ pub(crate) fn set_facts(mut rows: Vec<Row>, node: NodeId, facts: Facts) -> Resul
     ensures made { IfOk result (λ new. Makes new.items (effect (grown rows.items) (SetFacts node facts))) }
     ensures refused { IfErr result (λ f. Declines f (effect (grown rows.items) (SetFacts node facts))) }
 {
-    let Some(place) = place_of(rows.as_slice(), node) else {
-        return Err(Refusal::Kind(EditKind::NoNode));
-    };
+    let place = node_at(rows.as_slice(), node)?;
     rows[place].facts = facts;
     Ok(rows)
 }

@@ -1,13 +1,17 @@
-ghost use Rattle.std.specs.Prelude.{◌≡◌, None, IfOk, IfErr, is_none};
+ghost use Rattle.std.specs.Prelude.{◌≡◌, None, Result, IfOk, IfErr, is_none};
+ghost use Rattle.snap_tree.specs.Trees.{Trees};
 ghost use Rattle.snap_tree.specs.Grown.{grown};
+ghost use Rattle.snap_tree.specs.Spots.{Spot};
 ghost use Rattle.snap_tree.specs.Faults.{tree_fault};
 ghost use Rattle.snap_edit.specs.declared.edit.Edit.TheVariants.{Insert, Remove, Move};
+ghost use Rattle.snap_edit.specs.declared.fault.EditKind.{EditKind};
 ghost use Rattle.snap_edit.specs.Edits.{effect};
+ghost use Rattle.snap_edit.specs.Places.{IsMovableAt, at_movable};
 ghost use Rattle.snap_edit.specs.Made.{Makes, Declines};
 
 use crate::alone::alone_fault;
 use crate::fault::{EditKind, Refusal};
-use crate::place::place_of;
+use crate::place::{node_at, place_of, row_at};
 use crate::subtree::{place_in, put_in, take_out};
 use crate::taken::has_taken;
 use snap_tree::{List, NodeId, Row, copies_of};
@@ -20,18 +24,26 @@ fn is_root(row: &Row) -> bool
     row.parent.is_none()
 }
 
+// The place of a node that may be taken out; or its NoNode or RootMoved.
+fn movable_at(rows: &[Row], node: NodeId) -> Result<usize, Refusal>
+    requires { tree_fault rows.now ≡ None }
+    ensures place { IfOk result (λ place. IsMovableAt rows.now node place) }
+    ensures refused { IfErr result (λ f. (next : Spot → Result Trees EditKind) → Declines f (at_movable (grown rows.now) node next)) }
+{
+    let place = node_at(rows, node)?;
+    if is_root(row_at(rows, place)) {
+        return Err(Refusal::Kind(EditKind::RootMoved));
+    }
+    Ok(place)
+}
+
 /// Takes a node out, and all that is below it.
 pub(crate) fn remove(alloc: Global, mut rows: Vec<Row>, node: NodeId) -> Result<Vec<Row>, Refusal>
     requires { tree_fault rows.items ≡ None }
     ensures made { IfOk result (λ new. Makes new.items (effect (grown rows.items) (Remove node))) }
     ensures refused { IfErr result (λ f. Declines f (effect (grown rows.items) (Remove node))) }
 {
-    let Some(place) = place_of(rows.as_slice(), node) else {
-        return Err(Refusal::Kind(EditKind::NoNode));
-    };
-    if is_root(&rows[place]) {
-        return Err(Refusal::Kind(EditKind::RootMoved));
-    }
+    let place = movable_at(rows.as_slice(), node)?;
     let _subtree = take_out(alloc, &mut rows, place)?;
     Ok(rows)
 }
@@ -48,10 +60,7 @@ pub(crate) fn insert(
     ensures made { IfOk result (λ all. Makes all.items (effect (grown rows.items) (Insert parent place new.now))) }
     ensures refused { IfErr result (λ f. Declines f (effect (grown rows.items) (Insert parent place new.now))) }
 {
-    let begin = match place_in(alloc, rows.as_slice(), parent, place) {
-        Ok(begin) => begin,
-        Err(fault) => return Err(fault),
-    };
+    let begin = place_in(alloc, rows.as_slice(), parent, place)?;
     if has_taken(alloc, rows.as_slice(), new.as_slice())? {
         return Err(Refusal::Kind(EditKind::NumberTaken));
     }
@@ -75,20 +84,12 @@ pub(crate) fn move_to(
     ensures made { IfOk result (λ new. Makes new.items (effect (grown rows.items) (Move node parent place))) }
     ensures refused { IfErr result (λ f. Declines f (effect (grown rows.items) (Move node parent place))) }
 {
-    let Some(from) = place_of(rows.as_slice(), node) else {
-        return Err(Refusal::Kind(EditKind::NoNode));
-    };
-    if is_root(&rows[from]) {
-        return Err(Refusal::Kind(EditKind::RootMoved));
-    }
+    let from = movable_at(rows.as_slice(), node)?;
     let subtree = take_out(alloc, &mut rows, from)?;
     if place_of(subtree.as_slice(), parent).is_some() {
         return Err(Refusal::Kind(EditKind::IntoItself));
     }
-    let begin = match place_in(alloc, rows.as_slice(), parent, place) {
-        Ok(begin) => begin,
-        Err(fault) => return Err(fault),
-    };
+    let begin = place_in(alloc, rows.as_slice(), parent, place)?;
     put_in(&mut rows, begin, subtree, parent)?;
     Ok(rows)
 }

@@ -8,7 +8,7 @@ ghost use Rattle.snap_edit.specs.Edits.{in_place};
 ghost use Rattle.snap_edit.specs.Made.{IsPage, Declines};
 
 use crate::fault::{EditKind, Refusal};
-use crate::place::{place_of, row_at};
+use crate::place::element_at;
 use snap_tree::{Branches, NodeId, OutOfMemory, Row, run_below, sizes_of};
 use std::alloc::Global;
 
@@ -76,12 +76,7 @@ pub(crate) fn place_in(
     ensures place { IfOk result (λ place. IsPlaceIn rows.now parent count place) }
     ensures refused { IfErr result (λ f. (next : Result Trees EditKind) → Declines f (in_place (grown rows.now) parent count next)) }
 {
-    let Some(above) = place_of(rows, parent) else {
-        return Err(Refusal::Kind(EditKind::NoNode));
-    };
-    if row_at(rows, above).is_text() {
-        return Err(Refusal::Kind(EditKind::NotElement));
-    }
+    let above = element_at(rows, parent)?;
     match place_below(alloc, rows, above, count)? {
         Some(place) => Ok(place),
         None => Err(Refusal::Kind(EditKind::PlaceOut)),

@@ -43,8 +43,8 @@ fits first r above false false false false ea eb ec h = record {
 
 -- ---- numbers
 
-other_number : (r x : Row) → has_number r.id x ≡ false → has_number x.id r ≡ false
-other_number r x h = grind (arith, nat_tests)
+pub same_number : (a b : ℕ) → (a == b) ≡ (b == a)
+same_number a b = grind (arith, nat_tests)
 
 or_false : (a b : Bool) → (a || b) ≡ false → (a ≡ false) × (b ≡ false)
 or_false true b h = cc
@@ -60,7 +60,7 @@ apart_push : (rows : List Row) (r : Row) → AreApart rows → list_any (has_num
 apart_push [] r a h = (refl, tt)
 apart_push (x ∷ rows) r a h =
     let both = or_false (has_number r.id x) (list_any (has_number r.id) rows) h in
-    (any_push x.id rows r a.0 (other_number r x both.0), apart_push rows r a.1 both.1)
+    (any_push x.id rows r a.0 (same_number r.id.0 x.id.0 ∙ both.0), apart_push rows r a.1 both.1)
 
 all_push : (rows : List Row) (r : Row) → AllByRecursion IsWellRow rows → IsWellRow r → AllByRecursion IsWellRow (rows ++ r ∷ [])
 all_push [] r a h = (h, tt)
@@ -198,7 +198,7 @@ free_of : (earlier : List Row) (r : Row) (b : Bool) → list_any (has_number r.i
 free_of earlier r true e h = let no : Some (DoubleNumber r.id) ≡ None = rw e at h in cc
 free_of earlier r false e h = (e, rw e at h)
 
-none_or : (a b : Option TreeFault) → option_or a b ≡ None → (a ≡ None) × (b ≡ None)
+pub none_or : (a b : Option TreeFault) → option_or a b ≡ None → (a ≡ None) × (b ≡ None)
 none_or None b h = (refl, h)
 none_or (Some f) b h = cc
 

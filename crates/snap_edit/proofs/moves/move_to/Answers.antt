@@ -1,71 +1,45 @@
-use Rattle.std.proofs.Common.{sym, ◌∙◌, ap, subst, arith}
-use Rattle.std.specs.Option.{is_some}
-use Rattle.snap_tree.specs.Grown.{grown}
-use Rattle.snap_tree.specs.Places.{place_from}
-use Rattle.snap_edit.specs.Places.{IsPlaceIn}
-use Rattle.snap_edit.specs.Made.{IsPage, Declines}
-use Rattle.snap_edit.proofs.Standing.{page_of_sound, stands, at_stranger}
-use Rattle.snap_edit.proofs.Taking.{taken_out}
-use Rattle.snap_edit.proofs.Moving.{root_refused, not_root, is_within_by, into_itself, elsewhere, moved_in, move_makes}
+use Rattle.snap_edit.proofs.Standing.{run_at}
+use Rattle.snap_edit.proofs.Settling.{passed_on}
+use Rattle.snap_edit.proofs.Moving.{lifted, within, into_itself, move_declined, move_makes}
 use Rattle.snap_edit.proofs.moves.move_to.Goals as goal
 
-pub returns-in_default-clause-refused : goal.returns-in_default-clause-refused
-returns-in_default-clause-refused c =
-    at_stranger c.args.rows.items c.args.node _ (ap (place_from 0 c.args.node.0) (sym c.as_slice.ensures.value) ∙ sym c.place_of.ensures ∙ c.in_default.is)
-
-pub index-requires : goal.index-requires
-index-requires c =
-    let h = (stands c.args.rows.items c.args.node c.in-Some.from (page_of_sound c.args.rows.items c.requires).apart (ap (place_from 0 c.args.node.0) (sym c.as_slice.ensures.value) ∙ sym c.place_of.ensures ∙ c.in-Some.is)) in
-    omega (arith, h.in_range, c.args.rows.ok.0)
-
-pub returns-then-is_root-clause-refused : goal.returns-then-is_root-clause-refused
-returns-then-is_root-clause-refused c =
-    let h = (stands c.args.rows.items c.args.node c.in-Some.from (page_of_sound c.args.rows.items c.requires).apart (ap (place_from 0 c.args.node.0) (sym c.as_slice.ensures.value) ∙ sym c.place_of.ensures ∙ c.in-Some.is)) in
-    root_refused c.args.rows.items c.args.node c.in-Some.from (page_of_sound c.args.rows.items c.requires) h c.index.result.now _ c.index.ensures (sym c.is_root.ensures ∙ c.if-is_root.true)
+pub returns-in_err-from-clause-refused : goal.returns-in_err-from-clause-refused
+returns-in_err-from-clause-refused c =
+    passed_on _ _ _ c.from_residual.ensures.1 (rw (← c.as_slice.ensures.value) (c.in_err-from.ensures.refused _))
 
 pub take_out-requires : goal.take_out-requires
-take_out-requires c =
-    let h = (stands c.args.rows.items c.args.node c.in-Some.from (page_of_sound c.args.rows.items c.requires).apart (ap (place_from 0 c.args.node.0) (sym c.as_slice.ensures.value) ∙ sym c.place_of.ensures ∙ c.in-Some.is)) in
-    h.run
+take_out-requires c = run_at (rw c.as_slice.ensures.value at c.in_ok-from.ensures.place).node
 
 pub returns-then-is_some-clause-refused : goal.returns-then-is_some-clause-refused
 returns-then-is_some-clause-refused c =
-    let h = (stands c.args.rows.items c.args.node c.in-Some.from (page_of_sound c.args.rows.items c.requires).apart (ap (place_from 0 c.args.node.0) (sym c.as_slice.ensures.value) ∙ sym c.place_of.ensures ∙ c.in-Some.is)) in
-    let out = taken_out c.args.rows.items c.args.node c.in-Some.from (page_of_sound c.args.rows.items c.requires) h in
-    let subtree = c.in_ok-subtree.ensures.subtree ∙ out.subtree in
-    let within =
-    is_within_by c.args.parent h.there c.in_ok-subtree.subtree.items subtree ∙ ap (λ rs. is_some (place_from 0 c.args.parent.0 rs)) (sym c.as_slice-2.ensures.value) ∙ ap is_some (sym c.place_of-2.ensures) ∙ sym c.is_some.ensures
+    let at = rw c.as_slice.ensures.value at c.in_ok-from.ensures.place in
+    let l = lifted c.requires at c.in_ok-subtree.ensures.subtree c.in_ok-subtree.ensures.rest in
+    let here =
+    within c.args.parent l c.as_slice-2.ensures.value c.place_of.ensures c.is_some.ensures c.if-is_some.true
     in
-    let moved = not_root c.args.rows.items c.args.node c.in-Some.from (page_of_sound c.args.rows.items c.requires) h c.index.result.now _ c.index.ensures (sym c.is_root.ensures ∙ c.if-is_root.false) in
-    moved ∙ into_itself c.args.rows.items c.args.node c.args.parent c.in-Some.from h _ (within ∙ c.if-is_some.true)
+    into_itself c.args.parent c.args.place l here
 
 pub place_in-requires : goal.place_in-requires
 place_in-requires c =
-    let h = (stands c.args.rows.items c.args.node c.in-Some.from (page_of_sound c.args.rows.items c.requires).apart (ap (place_from 0 c.args.node.0) (sym c.as_slice.ensures.value) ∙ sym c.place_of.ensures ∙ c.in-Some.is)) in
-    subst IsPage (sym (c.as_slice-3.ensures.value ∙ c.in_ok-subtree.ensures.rest)) (taken_out c.args.rows.items c.args.node c.in-Some.from (page_of_sound c.args.rows.items c.requires) h).page
+    let at = rw c.as_slice.ensures.value at c.in_ok-from.ensures.place in
+    let l = lifted c.requires at c.in_ok-subtree.ensures.subtree c.in_ok-subtree.ensures.rest in
+    rw c.as_slice-3.ensures.value l.page
 
-pub returns-in-Err-clause-refused : goal.returns-in-Err-clause-refused
-returns-in-Err-clause-refused c =
-    let h = (stands c.args.rows.items c.args.node c.in-Some.from (page_of_sound c.args.rows.items c.requires).apart (ap (place_from 0 c.args.node.0) (sym c.as_slice.ensures.value) ∙ sym c.place_of.ensures ∙ c.in-Some.is)) in
-    let out = taken_out c.args.rows.items c.args.node c.in-Some.from (page_of_sound c.args.rows.items c.requires) h in
-    let subtree = c.in_ok-subtree.ensures.subtree ∙ out.subtree in
-    let within =
-    is_within_by c.args.parent h.there c.in_ok-subtree.subtree.items subtree ∙ ap (λ rs. is_some (place_from 0 c.args.parent.0 rs)) (sym c.as_slice-2.ensures.value) ∙ ap is_some (sym c.place_of-2.ensures) ∙ sym c.is_some.ensures
+pub returns-in_err-begin-clause-refused : goal.returns-in_err-begin-clause-refused
+returns-in_err-begin-clause-refused c =
+    let at = rw c.as_slice.ensures.value at c.in_ok-from.ensures.place in
+    let l = lifted c.requires at c.in_ok-subtree.ensures.subtree c.in_ok-subtree.ensures.rest in
+    let out =
+    within c.args.parent l c.as_slice-2.ensures.value c.place_of.ensures c.is_some.ensures c.if-is_some.false
     in
-    let moved = not_root c.args.rows.items c.args.node c.in-Some.from (page_of_sound c.args.rows.items c.requires) h c.index.result.now _ c.index.ensures (sym c.is_root.ensures ∙ c.if-is_root.false) in
-    let there = elsewhere c.args.rows.items c.args.node c.args.parent c.in-Some.from c.args.place (page_of_sound c.args.rows.items c.requires) h (within ∙ c.if-is_some.false) in
-    let rest = c.as_slice-3.ensures.value ∙ c.in_ok-subtree.ensures.rest in
-    subst (Declines c.in-Err.fault) (sym (moved ∙ there ∙ ap (λ rs. moved_in (grown rs) c.args.parent c.args.place h.there) (sym rest))) (c.in-Err.ensures.refused _)
+    let declined = rw c.as_slice-3.ensures.value at c.in_err-begin.ensures.refused in
+    passed_on _ _ _ c.from_residual-in_err-begin.ensures.1 (move_declined _ c.args.parent c.args.place l out declined)
 
 pub returns-clause-made : goal.returns-clause-made
 returns-clause-made c =
-    let h = (stands c.args.rows.items c.args.node c.in-Some.from (page_of_sound c.args.rows.items c.requires).apart (ap (place_from 0 c.args.node.0) (sym c.as_slice.ensures.value) ∙ sym c.place_of.ensures ∙ c.in-Some.is)) in
-    let out = taken_out c.args.rows.items c.args.node c.in-Some.from (page_of_sound c.args.rows.items c.requires) h in
-    let subtree = c.in_ok-subtree.ensures.subtree ∙ out.subtree in
-    let within =
-    is_within_by c.args.parent h.there c.in_ok-subtree.subtree.items subtree ∙ ap (λ rs. is_some (place_from 0 c.args.parent.0 rs)) (sym c.as_slice-2.ensures.value) ∙ ap is_some (sym c.place_of-2.ensures) ∙ sym c.is_some.ensures
+    let at = rw c.as_slice.ensures.value at c.in_ok-from.ensures.place in
+    let l = lifted c.requires at c.in_ok-subtree.ensures.subtree c.in_ok-subtree.ensures.rest in
+    let out =
+    within c.args.parent l c.as_slice-2.ensures.value c.place_of.ensures c.is_some.ensures c.if-is_some.false
     in
-    let moved = not_root c.args.rows.items c.args.node c.in-Some.from (page_of_sound c.args.rows.items c.requires) h c.index.result.now _ c.index.ensures (sym c.is_root.ensures ∙ c.if-is_root.false) in
-    let there = elsewhere c.args.rows.items c.args.node c.args.parent c.in-Some.from c.args.place (page_of_sound c.args.rows.items c.requires) h (within ∙ c.if-is_some.false) in
-    let place = subst (λ rs. IsPlaceIn rs c.args.parent c.args.place c.in-Ok.begin) c.as_slice-3.ensures.value c.in-Ok.ensures.place in
-    move_makes c.args.rows.items c.take_out.new.rows.items c.put_in.new.rows.items c.in_ok-subtree.subtree.items c.args.node c.args.parent c.in-Some.from c.args.place c.in-Ok.begin _ (page_of_sound c.args.rows.items c.requires) h c.in_ok-subtree.ensures.rest subtree place c.in_ok-put_in.ensures (moved ∙ there)
+    move_makes l out (rw c.as_slice-3.ensures.value at c.in_ok-begin.ensures.place) c.in_ok-put_in.ensures

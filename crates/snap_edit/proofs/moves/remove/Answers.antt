@@ -1,29 +1,16 @@
-use Rattle.std.proofs.Common.{sym, ◌∙◌, ap, arith}
-use Rattle.snap_tree.specs.Places.{place_from}
-use Rattle.snap_edit.proofs.Standing.{page_of_sound, stands, at_stranger}
-use Rattle.snap_edit.proofs.Moving.{root_refused, removed}
+use Rattle.snap_edit.proofs.Standing.{run_at}
+use Rattle.snap_edit.proofs.Settling.{passed_on}
+use Rattle.snap_edit.proofs.Moving.{removed}
 use Rattle.snap_edit.proofs.moves.remove.Goals as goal
 
-pub returns-in_default-clause-refused : goal.returns-in_default-clause-refused
-returns-in_default-clause-refused c =
-    at_stranger c.args.rows.items c.args.node _ (ap (place_from 0 c.args.node.0) (sym c.as_slice.ensures.value) ∙ sym c.place_of.ensures ∙ c.in_default.is)
-
-pub index-requires : goal.index-requires
-index-requires c =
-    let h = (stands c.args.rows.items c.args.node c.in-Some.place (page_of_sound c.args.rows.items c.requires).apart (ap (place_from 0 c.args.node.0) (sym c.as_slice.ensures.value) ∙ sym c.place_of.ensures ∙ c.in-Some.is)) in
-    omega (arith, h.in_range, c.args.rows.ok.0)
-
-pub returns-then-is_root-clause-refused : goal.returns-then-is_root-clause-refused
-returns-then-is_root-clause-refused c =
-    let h = (stands c.args.rows.items c.args.node c.in-Some.place (page_of_sound c.args.rows.items c.requires).apart (ap (place_from 0 c.args.node.0) (sym c.as_slice.ensures.value) ∙ sym c.place_of.ensures ∙ c.in-Some.is)) in
-    root_refused c.args.rows.items c.args.node c.in-Some.place (page_of_sound c.args.rows.items c.requires) h c.index.result.now _ c.index.ensures (sym c.is_root.ensures ∙ c.if-is_root.true)
+pub returns-in_err-place-clause-refused : goal.returns-in_err-place-clause-refused
+returns-in_err-place-clause-refused c =
+    passed_on _ _ _ c.from_residual.ensures.1 (rw (← c.as_slice.ensures.value) (c.in_err-place.ensures.refused _))
 
 pub take_out-requires : goal.take_out-requires
-take_out-requires c =
-    let h = (stands c.args.rows.items c.args.node c.in-Some.place (page_of_sound c.args.rows.items c.requires).apart (ap (place_from 0 c.args.node.0) (sym c.as_slice.ensures.value) ∙ sym c.place_of.ensures ∙ c.in-Some.is)) in
-    h.run
+take_out-requires c = run_at (rw c.as_slice.ensures.value at c.in_ok-place.ensures.place).node
 
 pub returns-clause-made : goal.returns-clause-made
 returns-clause-made c =
-    let h = (stands c.args.rows.items c.args.node c.in-Some.place (page_of_sound c.args.rows.items c.requires).apart (ap (place_from 0 c.args.node.0) (sym c.as_slice.ensures.value) ∙ sym c.place_of.ensures ∙ c.in-Some.is)) in
-    removed c.args.rows.items c.take_out.new.rows.items c.args.node c.in-Some.place (page_of_sound c.args.rows.items c.requires) h c.index.result.now c.index.ensures (sym c.is_root.ensures ∙ c.if-is_root.false) c.in_ok-_subtree.ensures.rest
+    let at = rw c.as_slice.ensures.value at c.in_ok-place.ensures.place in
+    removed c.requires at c.in_ok-_subtree.ensures.rest
