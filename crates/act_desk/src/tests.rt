@@ -26,20 +26,21 @@ const PARAGRAPH: &str = r#"{"url":"https://example.org/","nodes":[{"n":1,"p":nul
 const PARAGRAPH_REPORT: &str =
     "page https://example.org/\n2779a5 inapplicable\nb5c3f8 inapplicable\npassed 0 failed 0 cantTell 0 inapplicable 2\n";
 
-// What a run is given: its input, its words, how many bytes a read gives at most, which reads fail, how
-// many bytes the sinks have room for, and which writes fail. And what it ends with: its status, and what
-// the sinks hold.
+// A run, and what it ends with.
 #[derive(Clone, Copy)]
 struct Case {
     name: &'static str,
     input: &'static str,
     words: &'static [&'static str],
+    // how many bytes a read gives at most, and which reads fail
     piece: usize,
     reads: &'static [u64],
+    // how many bytes each sink has room for, and which of its writes fail
     out_room: usize,
     out_writes: &'static [u64],
     err_room: usize,
     err_writes: &'static [u64],
+    // the status, and what the sinks hold then
     status: u8,
     out: &'static str,
     err: &'static str,
@@ -60,26 +61,94 @@ const REPORTED: Case = Case {
     err: "",
 };
 
-const USAGE_FAULT: Case = Case {
-    status: 2,
-    out: "",
-    err: "usage fault\n",
-    ..REPORTED
-};
+// What a run ended with, and what the sinks hold.
+#[derive(Drop)]
+struct Ended {
+    status: u8,
+    out: MemSink,
+    err: MemSink,
+}
 
-const READ_FAULT: Case = Case {
-    status: 3,
-    out: "",
-    err: "read fault\n",
-    ..REPORTED
-};
+fn texts(alloc: Global, words: &[&str]) -> Result<List<Text>, AllocError> {
+    let mut texts = Vec::new(alloc);
+    for word in words {
+        texts.push(Text::from_string(String::from_str(alloc, word)?))?;
+    }
+    Ok(List::from_vec(texts))
+}
 
-const WRITE_FAULT: Case = Case {
-    status: 4,
-    out: "",
-    err: "write fault\n",
-    ..REPORTED
-};
+fn source(alloc: Global, bytes: &[u8], case: &Case) -> Result<MemSource, AllocError> {
+    let bytes = Vec::from_slice(alloc, bytes)?;
+    let fails = Vec::from_slice(alloc, case.reads)?;
+    let bytes = List::from_vec(bytes);
+    Ok(MemSource::new(bytes, case.piece, List::from_vec(fails)))
+}
+
+fn sink(alloc: Global, room: usize, fails: &[u64]) -> Result<MemSink, OutOfMemory> {
+    let fails = Vec::from_slice(alloc, fails)?;
+    MemSink::new(alloc, room, List::from_vec(fails))
+}
+
+fn sinks(alloc: Global, case: &Case) -> Result<(MemSink, MemSink), OutOfMemory> {
+    let out = sink(alloc, case.out_room, case.out_writes)?;
+    let err = sink(alloc, case.err_room, case.err_writes)?;
+    Ok((out, err))
+}
+
+fn run_to_end(
+    alloc: Global,
+    words: List<Text>,
+    mut input: MemSource,
+    mut out: MemSink,
+    mut err: MemSink,
+) -> Ended {
+    let mut book = Early::new();
+    let status = run(alloc, &words, &mut input, &mut out, &mut err, &mut book);
+    Ended { status, out, err }
+}
+
+fn run_over(alloc: Global, bytes: &[u8], case: &Case) -> Result<Ended, Fail> {
+    let words = texts(alloc, case.words)?;
+    let input = source(alloc, bytes, case)?;
+    let (out, err) = sinks(alloc, case)?;
+    Ok(run_to_end(alloc, words, input, out, err))
+}
+
+// Whether a run wanted memory, and wrote nothing but the line that says so, as far as the sink took it.
+fn wants_memory(end: &Ended) -> bool {
+    let line = end.err.bytes();
+    let is_whole = line == b"no memory\n".as_slice();
+    let is_begun = line.starts_with(b"no") && b"no memory\n".starts_with(line);
+    end.out.bytes().is_empty()
+        && match end.status {
+            8 => is_whole,
+            4 => is_begun && !is_whole,
+            _ => false,
+        }
+}
+
+fn ended_so(rt: &impl Abort, end: &Ended, case: &Case) {
+    let name = case.name;
+    let ended = (end.status, end.out.bytes(), end.err.bytes());
+    let wanted = (case.status, case.out.as_bytes(), case.err.as_bytes());
+    assert_eq!(rt; ended, wanted, "{name}");
+}
+
+fn ends_so(rt: &impl Abort, alloc: Global, bytes: &[u8], case: &Case) -> Result<(), Fail> {
+    let end = run_over(alloc, bytes, case)?;
+    if wants_memory(&end) {
+        return Err(Fail::from(OutOfMemory));
+    }
+    ended_so(rt, &end, case);
+    Ok(())
+}
+
+fn each_ends_so(rt: &impl Abort, alloc: Global, cases: &[Case]) -> Result<(), Fail> {
+    for case in cases {
+        ends_so(rt, alloc, case.input.as_bytes(), case)?;
+    }
+    Ok(())
+}
 
 const NO_SNAPSHOT: Case = Case {
     status: 5,
@@ -146,6 +215,18 @@ static INPUTS: [Case; 10] = [
     },
 ];
 
+#[test]
+fn each_input_has_its_status_and_lines(rt: HostRuntime) -> Result<(), Fail> {
+    each_ends_so(&rt, rt.alloc(), INPUTS.as_slice())
+}
+
+const USAGE_FAULT: Case = Case {
+    status: 2,
+    out: "",
+    err: "usage fault\n",
+    ..REPORTED
+};
+
 static OTHER_WORDS: [Case; 5] = [
     Case {
         name: "no word",
@@ -173,6 +254,18 @@ static OTHER_WORDS: [Case; 5] = [
         ..USAGE_FAULT
     },
 ];
+
+#[test]
+fn other_words_are_no_command(rt: HostRuntime) -> Result<(), Fail> {
+    each_ends_so(&rt, rt.alloc(), OTHER_WORDS.as_slice())
+}
+
+const READ_FAULT: Case = Case {
+    status: 3,
+    out: "",
+    err: "read fault\n",
+    ..REPORTED
+};
 
 static SOURCES: [Case; 7] = [
     Case {
@@ -212,6 +305,18 @@ static SOURCES: [Case; 7] = [
         ..REPORTED
     },
 ];
+
+#[test]
+fn faults_of_the_source_are_told(rt: HostRuntime) -> Result<(), Fail> {
+    each_ends_so(&rt, rt.alloc(), SOURCES.as_slice())
+}
+
+const WRITE_FAULT: Case = Case {
+    status: 4,
+    out: "",
+    err: "write fault\n",
+    ..REPORTED
+};
 
 static SINKS: [Case; 7] = [
     Case {
@@ -260,6 +365,11 @@ static SINKS: [Case; 7] = [
     },
 ];
 
+#[test]
+fn faults_of_the_sinks_are_told(rt: HostRuntime) -> Result<(), Fail> {
+    each_ends_so(&rt, rt.alloc(), SINKS.as_slice())
+}
+
 // 128 reads of 65,536 bytes, and one of 1 byte: a 130th would fail.
 static TOO_LONG: Case = Case {
     name: "one byte too many",
@@ -267,117 +377,6 @@ static TOO_LONG: Case = Case {
     err: "snapshot fault 5 TooLong\n",
     ..NO_SNAPSHOT
 };
-
-// What a run ended with, and what the sinks hold.
-#[derive(Drop)]
-struct Ended {
-    status: u8,
-    out: MemSink,
-    err: MemSink,
-}
-
-fn texts(alloc: Global, words: &[&str]) -> Result<List<Text>, AllocError> {
-    let mut texts = Vec::new(alloc);
-    for word in words {
-        texts.push(Text::from_string(String::from_str(alloc, word)?))?;
-    }
-    Ok(List::from_vec(texts))
-}
-
-fn source(alloc: Global, bytes: &[u8], case: &Case) -> Result<MemSource, AllocError> {
-    let bytes = Vec::from_slice(alloc, bytes)?;
-    let fails = Vec::from_slice(alloc, case.reads)?;
-    Ok(MemSource::new(List::from_vec(bytes), case.piece, List::from_vec(fails)))
-}
-
-fn sink(alloc: Global, room: usize, fails: &[u64]) -> Result<MemSink, OutOfMemory> {
-    let fails = Vec::from_slice(alloc, fails)?;
-    MemSink::new(alloc, room, List::from_vec(fails))
-}
-
-fn sinks(alloc: Global, case: &Case) -> Result<(MemSink, MemSink), OutOfMemory> {
-    let out = sink(alloc, case.out_room, case.out_writes)?;
-    let err = sink(alloc, case.err_room, case.err_writes)?;
-    Ok((out, err))
-}
-
-fn run_to_end(
-    alloc: Global,
-    words: List<Text>,
-    mut input: MemSource,
-    mut out: MemSink,
-    mut err: MemSink,
-) -> Ended {
-    let mut book = Early::new();
-    let status = run(alloc, &words, &mut input, &mut out, &mut err, &mut book);
-    Ended { status, out, err }
-}
-
-fn run_over(alloc: Global, bytes: &[u8], case: &Case) -> Result<Ended, Fail> {
-    let words = texts(alloc, case.words)?;
-    let input = source(alloc, bytes, case)?;
-    let (out, err) = sinks(alloc, case)?;
-    Ok(run_to_end(alloc, words, input, out, err))
-}
-
-// Whether a run wanted memory, and wrote nothing but the line that says so, as far as the sink took it.
-fn wants_memory(end: &Ended) -> bool {
-    let line = end.err.bytes();
-    let is_whole = line == b"no memory\n".as_slice();
-    let is_begun = line.starts_with(b"no") && b"no memory\n".starts_with(line);
-    end.out.bytes().is_empty()
-        && match end.status {
-            8 => is_whole,
-            4 => is_begun && !is_whole,
-            _ => false,
-        }
-}
-
-fn has_ended_so(rt: &impl Abort, end: &Ended, case: &Case) {
-    let wanted = (case.status, case.out.as_bytes(), case.err.as_bytes());
-    assert_eq!(rt;
-        (end.status, end.out.bytes(), end.err.bytes()),
-        wanted,
-        "{}",
-        case.name
-    );
-}
-
-fn ends_so(rt: &impl Abort, alloc: Global, bytes: &[u8], case: &Case) -> Result<(), Fail> {
-    let end = run_over(alloc, bytes, case)?;
-    if wants_memory(&end) {
-        return Err(Fail::from(OutOfMemory));
-    }
-    has_ended_so(rt, &end, case);
-    Ok(())
-}
-
-fn each_ends_so(rt: &impl Abort, alloc: Global, cases: &[Case]) -> Result<(), Fail> {
-    for case in cases {
-        ends_so(rt, alloc, case.input.as_bytes(), case)?;
-    }
-    Ok(())
-}
-
-#[test]
-fn each_input_has_its_status_and_lines(rt: HostRuntime) -> Result<(), Fail> {
-    each_ends_so(&rt, rt.alloc(), INPUTS.as_slice())
-}
-
-#[test]
-fn other_words_are_no_command(rt: HostRuntime) -> Result<(), Fail> {
-    each_ends_so(&rt, rt.alloc(), OTHER_WORDS.as_slice())
-}
-
-#[test]
-fn faults_of_the_source_are_told(rt: HostRuntime) -> Result<(), Fail> {
-    each_ends_so(&rt, rt.alloc(), SOURCES.as_slice())
-}
-
-#[test]
-fn faults_of_the_sinks_are_told(rt: HostRuntime) -> Result<(), Fail> {
-    each_ends_so(&rt, rt.alloc(), SINKS.as_slice())
-}
 
 fn spaces_are_too_long(rt: &impl Abort, alloc: Global, count: usize) -> Result<(), Fail> {
     let bytes = vec![in alloc; b' '; count]?;
