@@ -1,5 +1,5 @@
 -- What each status says, from what a run has found and what it has written of it.
-use Rattle.std.proofs.Common.{◌≡◌, ◌≢◌, ℕ, ◌<◌, ◌≤◌, ◌⊎◌, inl, inr, Bool, true, false, cond, List, [], ◌++◌, length, codes, Option, Some, None, IfSome, Ok, Err, refl, sym, ap, ◌∙◌, subst, append-nil, length-append, arith}
+use Rattle.std.proofs.Common.{◌≡◌, ◌≢◌, ◌==◌, ℕ, ◌<◌, ◌≤◌, ◌⊎◌, inl, inr, Bool, true, false, cond, List, [], ◌++◌, length, codes, Option, Some, None, IfSome, Ok, Err, refl, sym, ap, ◌∙◌, subst, append-nil, length-append, arith}
 use Rattle.std.proofs.Math.Seq.{take-length}
 use Rattle.std.proofs.lemmas.List.{take_all}
 use Rattle.std.proofs.lemmas.Bool.{cases_lt, lt-leb}
@@ -13,7 +13,7 @@ use Rattle.act_desk.specs.declared.found.Found.TheVariants.{Audited, Usage, Read
 use Rattle.act_desk.specs.Counts.{greatest, next, Rose, StoodStill}
 use Rattle.act_desk.specs.Streams.{AppendsFront}
 use Rattle.act_desk.specs.Audit.{Book, report_of, fails, limit, Input, Gave, ReportsOn}
-use Rattle.act_desk.specs.Telling.{Output, Took, BrokeOff, command, Finds, report_in, line_on, write_fault, status_of, IsReportCut, IsLineCut, Tells}
+use Rattle.act_desk.specs.Telling.{Output, Took, BrokeOff, command, Finds, report_in, line_on, write_fault, status_of, IsWritten, IsReportCut, IsLineCut, Tells}
 use Rattle.act_desk.specs.Run.{Outside, Stays, IsStatus, GaveAll, Audits, RefusesWords, MetReadFault, HasFront, IsLine, HasLineFront, FailedOnce, MetWriteFault, RefusesInput, WantsMemory, NoFaults, IsComplete, Runs}
 
 -- ---- sinks
@@ -94,14 +94,15 @@ all_refused old new left bytes page fault is gave not good =
 
 -- ---- what was written whole
 
--- what a run that wrote all says
-abbrev Says : Book → List (List ℕ) → Outside → Outside → Found → Type 0
-Says book words old new (Audited report true) = Audits book words old new true
-Says book words old new (Audited report false) = Audits book words old new false
-Says book words old new Usage = RefusesWords words old new
-Says book words old new ReadFault = MetReadFault old new
-Says book words old new (NotSnapshot line) = RefusesInput old new
-Says book words old new NoMemory = WantsMemory old new
+-- what a run that wrote all says by its status: there is no other
+abbrev Says : Book → List (List ℕ) → Outside → Outside → ℕ → Type 0
+Says book words old new status =
+    cond (status == 0) (Audits book words old new false)
+    (cond (status == 1) (Audits book words old new true)
+    (cond (status == 2) (RefusesWords words old new)
+    (cond (status == 3) (MetReadFault old new)
+    (cond (status == 5) (RefusesInput old new)
+    (cond (status == 8) (WantsMemory old new) ⊥)))))
 
 audits : (book : Book) (words : List (List ℕ)) (old new : Outside) (report : List ℕ) (failed : Bool) → words ≡ command →
     (bytes : List ℕ) × Gave old.input new.input bytes × ReportsOn book bytes report failed → Took old.out new.out report → Took old.err new.err [] → Audits book words old new failed
@@ -121,7 +122,7 @@ audits book words old new report failed is found out err =
     }
 
 says : (book : Book) (words : List (List ℕ)) (old new : Outside) (found : Found) → Finds book words old.input new.input found →
-    Took old.out new.out (report_in found) → Took old.err new.err (line_on found) → Says book words old new found
+    Took old.out new.out (report_in found) → Took old.err new.err (line_on found) → Says book words old new (status_of found)
 says book words old new (Audited report true) f out err = audits book words old new report true f.0 f.1 out err
 says book words old new (Audited report false) f out err = audits book words old new report false f.0 f.1 out err
 says book words old new Usage f out err = record { words_are_not = f.0; input = f.1; out = stays old.out new.out out; err = err }
@@ -192,14 +193,6 @@ pub record Ran (book : Book) (words : List (List ℕ)) (old new : Outside) (foun
   pub finds : Finds book words old.input new.input found
   pub tells : Tells found old.out new.out old.err new.err status
 
--- where the status isn't 4, all was written
-written : (book : Book) (words : List (List ℕ)) (old new : Outside) (found : Found) (status : ℕ) → Ran book words old new found status → status ≢ 4 → (status ≡ status_of found) × Says book words old new found
-written book words old new found status ran other =
-    elim ran.tells [
-      | inl w ↦ (w.status_is, says book words old new found ran.finds w.out_took w.err_took)
-      | inr cut ↦ elim cut [ inl r ↦ absurd (other r.status_is) | inr l ↦ absurd (other l.status_is) ]
-    ]
-
 is_status : (found : Found) → IsStatus (status_of found)
 is_status (Audited report true) = refl
 is_status (Audited report false) = refl
@@ -215,97 +208,30 @@ status_known book words old new found status ran =
       | inr cut ↦ elim cut [ inl r ↦ subst IsStatus (sym r.status_is) refl | inr l ↦ subst IsStatus (sym l.status_is) refl ]
     ]
 
-at_0 : (book : Book) (words : List (List ℕ)) (old new : Outside) (found : Found) → 0 ≡ status_of found → Says book words old new found → Audits book words old new false
-at_0 book words old new (Audited report true) e s = absurd (omega arith)
-at_0 book words old new (Audited report false) e s = s
-at_0 book words old new Usage e s = absurd (omega arith)
-at_0 book words old new ReadFault e s = absurd (omega arith)
-at_0 book words old new (NotSnapshot line) e s = absurd (omega arith)
-at_0 book words old new NoMemory e s = absurd (omega arith)
+-- what was written whole says what its status says
+says_at : (book : Book) (words : List (List ℕ)) (old new : Outside) (found : Found) (status n : ℕ) → Finds book words old.input new.input found → IsWritten found old.out new.out old.err new.err status → status ≡ n → Says book words old new n
+says_at book words old new found status n finds w is =
+    subst (Says book words old new) (sym w.status_is ∙ is) (says book words old new found finds w.out_took w.err_took)
 
-at_1 : (book : Book) (words : List (List ℕ)) (old new : Outside) (found : Found) → 1 ≡ status_of found → Says book words old new found → Audits book words old new true
-at_1 book words old new (Audited report true) e s = s
-at_1 book words old new (Audited report false) e s = absurd (omega arith)
-at_1 book words old new Usage e s = absurd (omega arith)
-at_1 book words old new ReadFault e s = absurd (omega arith)
-at_1 book words old new (NotSnapshot line) e s = absurd (omega arith)
-at_1 book words old new NoMemory e s = absurd (omega arith)
-
-at_2 : (book : Book) (words : List (List ℕ)) (old new : Outside) (found : Found) → 2 ≡ status_of found → Says book words old new found → RefusesWords words old new
-at_2 book words old new (Audited report true) e s = absurd (omega arith)
-at_2 book words old new (Audited report false) e s = absurd (omega arith)
-at_2 book words old new Usage e s = s
-at_2 book words old new ReadFault e s = absurd (omega arith)
-at_2 book words old new (NotSnapshot line) e s = absurd (omega arith)
-at_2 book words old new NoMemory e s = absurd (omega arith)
-
-at_3 : (book : Book) (words : List (List ℕ)) (old new : Outside) (found : Found) → 3 ≡ status_of found → Says book words old new found → MetReadFault old new
-at_3 book words old new (Audited report true) e s = absurd (omega arith)
-at_3 book words old new (Audited report false) e s = absurd (omega arith)
-at_3 book words old new Usage e s = absurd (omega arith)
-at_3 book words old new ReadFault e s = s
-at_3 book words old new (NotSnapshot line) e s = absurd (omega arith)
-at_3 book words old new NoMemory e s = absurd (omega arith)
-
-at_5 : (book : Book) (words : List (List ℕ)) (old new : Outside) (found : Found) → 5 ≡ status_of found → Says book words old new found → RefusesInput old new
-at_5 book words old new (Audited report true) e s = absurd (omega arith)
-at_5 book words old new (Audited report false) e s = absurd (omega arith)
-at_5 book words old new Usage e s = absurd (omega arith)
-at_5 book words old new ReadFault e s = absurd (omega arith)
-at_5 book words old new (NotSnapshot line) e s = s
-at_5 book words old new NoMemory e s = absurd (omega arith)
-
-at_8 : (book : Book) (words : List (List ℕ)) (old new : Outside) (found : Found) → 8 ≡ status_of found → Says book words old new found → WantsMemory old new
-at_8 book words old new (Audited report true) e s = absurd (omega arith)
-at_8 book words old new (Audited report false) e s = absurd (omega arith)
-at_8 book words old new Usage e s = absurd (omega arith)
-at_8 book words old new ReadFault e s = absurd (omega arith)
-at_8 book words old new (NotSnapshot line) e s = absurd (omega arith)
-at_8 book words old new NoMemory e s = s
-
-none_failed : (book : Book) (words : List (List ℕ)) (old new : Outside) (found : Found) (status : ℕ) → Ran book words old new found status → status ≡ 0 → Audits book words old new false
-none_failed book words old new found status ran is =
-    let w = written book words old new found status ran (λ e. omega arith) in at_0 book words old new found (sym is ∙ w.0) w.1
-
-some_failed : (book : Book) (words : List (List ℕ)) (old new : Outside) (found : Found) (status : ℕ) → Ran book words old new found status → status ≡ 1 → Audits book words old new true
-some_failed book words old new found status ran is =
-    let w = written book words old new found status ran (λ e. omega arith) in at_1 book words old new found (sym is ∙ w.0) w.1
-
-usage_fault : (book : Book) (words : List (List ℕ)) (old new : Outside) (found : Found) (status : ℕ) → Ran book words old new found status → status ≡ 2 → RefusesWords words old new
-usage_fault book words old new found status ran is =
-    let w = written book words old new found status ran (λ e. omega arith) in at_2 book words old new found (sym is ∙ w.0) w.1
-
-read_fault : (book : Book) (words : List (List ℕ)) (old new : Outside) (found : Found) (status : ℕ) → Ran book words old new found status → status ≡ 3 → MetReadFault old new
-read_fault book words old new found status ran is =
-    let w = written book words old new found status ran (λ e. omega arith) in at_3 book words old new found (sym is ∙ w.0) w.1
-
-no_snapshot : (book : Book) (words : List (List ℕ)) (old new : Outside) (found : Found) (status : ℕ) → Ran book words old new found status → status ≡ 5 → RefusesInput old new
-no_snapshot book words old new found status ran is =
-    let w = written book words old new found status ran (λ e. omega arith) in at_5 book words old new found (sym is ∙ w.0) w.1
-
-no_memory : (book : Book) (words : List (List ℕ)) (old new : Outside) (found : Found) (status : ℕ) → Ran book words old new found status → status ≡ 8 → WantsMemory old new
-no_memory book words old new found status ran is =
-    let w = written book words old new found status ran (λ e. omega arith) in at_8 book words old new found (sym is ∙ w.0) w.1
-
-not_4 : (found : Found) → 4 ≡ status_of found → ⊥
-not_4 (Audited report true) e = omega arith
-not_4 (Audited report false) e = omega arith
-not_4 Usage e = omega arith
-not_4 ReadFault e = omega arith
-not_4 (NotSnapshot line) e = omega arith
-not_4 NoMemory e = omega arith
+-- at each status but 4 all was written
+told_at : (book : Book) (words : List (List ℕ)) (old new : Outside) (found : Found) (status n : ℕ) → n ≢ 4 → Ran book words old new found status → status ≡ n → Says book words old new n
+told_at book words old new found status n other ran is =
+    elim ran.tells [
+      | inl w ↦ says_at book words old new found status n ran.finds w is
+      | inr cut ↦ elim cut [ inl r ↦ absurd (other (sym is ∙ r.status_is)) | inr l ↦ absurd (other (sym is ∙ l.status_is)) ]
+    ]
 
 met_write_fault : (book : Book) (words : List (List ℕ)) (old new : Outside) (found : Found) (status : ℕ) → Ran book words old new found status → status ≡ 4 → MetWriteFault book old new
 met_write_fault book words old new found status ran is =
     elim ran.tells [
-      | inl w ↦ absurd (not_4 found (sym is ∙ w.status_is))
+      | inl w ↦ absurd (says_at book words old new found status 4 ran.finds w is)
       | inr cut ↦ elim cut [ inl r ↦ report_cut book words old new found status ran.finds r | inr l ↦ line_cut book words old new found status ran.finds l ]
     ]
 
 -- ---- without faults
 
 -- without faults all was written
-unbroken : (book : Book) (words : List (List ℕ)) (old new : Outside) (found : Found) (status : ℕ) → Ran book words old new found status → NoFaults old new → (status ≡ status_of found) × Says book words old new found
+unbroken : (book : Book) (words : List (List ℕ)) (old new : Outside) (found : Found) (status : ℕ) → Ran book words old new found status → NoFaults old new → (status ≡ status_of found) × Says book words old new (status_of found)
 unbroken book words old new found status ran none =
     elim ran.tells [
       | inl w ↦ (w.status_is, says book words old new found ran.finds w.out_took w.err_took)
@@ -334,7 +260,7 @@ reported book words old new status failed left page is a told_left good =
     same_page : (l b : List ℕ) (p q : Document) → l ≡ b → sent_tree l ≡ Ok p → sent_tree b ≡ Ok q → q ≡ p
     same_page l b p q e h k = cc (ap sent_tree e)
 
-on_snapshot : (book : Book) (words : List (List ℕ)) (old new : Outside) (found : Found) (status : ℕ) → Finds book words old.input new.input found → status ≡ status_of found → Says book words old new found → NoFaults old new → words ≡ command →
+on_snapshot : (book : Book) (words : List (List ℕ)) (old new : Outside) (found : Found) (status : ℕ) → Finds book words old.input new.input found → status ≡ status_of found → Says book words old new (status_of found) → NoFaults old new → words ≡ command →
     (left : List ℕ) (page : Document) → old.input.left ≡ Some left → sent_tree left ≡ Ok page → ((status ≡ cond (fails book page) 1 0) × Took old.out new.out (report_of book page) × Stays old.err new.err) ⊎ (status ≡ 8)
 on_snapshot book words old new (Audited report true) status f is s none cmd left page told_left good = inl (reported book words old new status true left page is s told_left good)
 on_snapshot book words old new (Audited report false) status f is s none cmd left page told_left good = inl (reported book words old new status false left page is s told_left good)
@@ -343,7 +269,7 @@ on_snapshot book words old new ReadFault status f is s none cmd left page told_l
 on_snapshot book words old new (NotSnapshot line) status f is s none cmd left page told_left good = absurd (all_refused old.input new.input left f.1.0 page f.1.2.fault told_left f.1.1 f.1.2.is_refused good)
 on_snapshot book words old new NoMemory status f is s none cmd left page told_left good = inr is
 
-on_other : (book : Book) (words : List (List ℕ)) (old new : Outside) (found : Found) (status : ℕ) → Finds book words old.input new.input found → status ≡ status_of found → Says book words old new found → NoFaults old new → words ≡ command →
+on_other : (book : Book) (words : List (List ℕ)) (old new : Outside) (found : Found) (status : ℕ) → Finds book words old.input new.input found → status ≡ status_of found → Says book words old new (status_of found) → NoFaults old new → words ≡ command →
     (left : List ℕ) (fault : SnapFault) → old.input.left ≡ Some left → sent_tree left ≡ Err fault → (status ≡ 5) ⊎ (status ≡ 8)
 on_other book words old new (Audited report failed) status f is s none cmd left fault told_left bad =
     let on = f.1.2 in
@@ -368,12 +294,12 @@ pub runs : (book : Book) (words : List (List ℕ)) (old new : Outside) (found : 
 runs book words old new found status ran =
     record {
       no_other = status_known book words old new found status ran;
-      none_failed = none_failed book words old new found status ran;
-      some_failed = some_failed book words old new found status ran;
-      usage_fault = usage_fault book words old new found status ran;
-      read_fault = read_fault book words old new found status ran;
+      none_failed = told_at book words old new found status 0 (λ e. omega arith) ran;
+      some_failed = told_at book words old new found status 1 (λ e. omega arith) ran;
+      usage_fault = told_at book words old new found status 2 (λ e. omega arith) ran;
+      read_fault = told_at book words old new found status 3 (λ e. omega arith) ran;
       write_fault = met_write_fault book words old new found status ran;
-      no_snapshot = no_snapshot book words old new found status ran;
-      no_memory = no_memory book words old new found status ran;
+      no_snapshot = told_at book words old new found status 5 (λ e. omega arith) ran;
+      no_memory = told_at book words old new found status 8 (λ e. omega arith) ran;
       complete = complete book words old new found status ran;
     }
