@@ -97,9 +97,21 @@ fn texts_of(alloc: Global, strings: Args) -> Result<Vec<Text>, OutOfMemory>
 #[cfg(test)]
 mod tests {
     use super::*;
+    use std::process::Abort;
     use std::test::Fail;
 
-    // The status that the program ends with by these arguments; none where it has the words of a command.
+    // Arguments, and the status that the program ends with by them; none where they have the words of a
+    // command.
+    static ARGUMENTS: [(&[&str], Option<u8>); 7] = [
+        (&["act_desk", "-", "audit"], None),
+        (&["act_desk", "-", "audit", "x"], None),
+        (&[], Some(2)),
+        (&["act_desk"], Some(2)),
+        (&["act_desk", "-"], Some(2)),
+        (&["act_desk", "", "audit"], Some(6)),
+        (&["act_desk", "store"], Some(6)),
+    ];
+
     fn status_by(alloc: Global, args: &[&str]) -> Result<Option<u8>, Fail> {
         let mut strings = Vec::new(alloc);
         for arg in args {
@@ -116,19 +128,14 @@ mod tests {
         }
     }
 
+    fn is_status(rt: &impl Abort, status: Option<u8>, wanted: Option<u8>) {
+        assert_eq!(rt; status, wanted);
+    }
+
     #[test]
     fn arguments_give_words_or_a_status(rt: HostRuntime) -> Result<(), Fail> {
-        let rows: [(&[&str], Option<u8>); 7] = [
-            (&["act_desk", "-", "audit"], None),
-            (&["act_desk", "-", "audit", "x"], None),
-            (&[], Some(2)),
-            (&["act_desk"], Some(2)),
-            (&["act_desk", "-"], Some(2)),
-            (&["act_desk", "", "audit"], Some(6)),
-            (&["act_desk", "store"], Some(6)),
-        ];
-        for (args, status) in rows {
-            assert_eq!(rt; status_by(rt.alloc(), args)?, status);
+        for (args, wanted) in ARGUMENTS.as_slice() {
+            is_status(&rt, status_by(rt.alloc(), args)?, *wanted);
         }
         Ok(())
     }
@@ -137,9 +144,10 @@ mod tests {
     fn an_error_of_the_arguments_has_its_status(rt: HostRuntime) {
         // a word that is no text, and want of memory
         for (kind, status) in [(ErrorKind::InvalidData, 2), (ErrorKind::OutOfMemory, 8)] {
-            assert_eq!(rt;
-                Refusal::from(io::Error::from(kind)).status().number(),
-                status
+            is_status(
+                &rt,
+                Some(Refusal::from(io::Error::from(kind)).status().number()),
+                Some(status),
             );
         }
     }

@@ -6,6 +6,7 @@ use crate::mem_source::MemSource;
 use crate::run::run;
 use snap_tree::{List, OutOfMemory, Text};
 use std::alloc::{AllocError, Global};
+use std::process::Abort;
 use std::test::Fail;
 
 const HOME: &str =
@@ -25,25 +26,39 @@ const PARAGRAPH: &str = r#"{"url":"https://example.org/","nodes":[{"n":1,"p":nul
 const PARAGRAPH_REPORT: &str =
     "page https://example.org/\n2779a5 inapplicable\nb5c3f8 inapplicable\npassed 0 failed 0 cantTell 0 inapplicable 2\n";
 
-// A source and sinks: how many bytes a read gives at most, which reads fail, how many bytes the sinks
-// have room for, and which writes fail.
+// A run, and what it ends with.
 #[derive(Clone, Copy)]
-struct Around {
+struct Case {
+    name: &'static str,
+    input: &'static str,
+    words: &'static [&'static str],
+    // how many bytes a read gives at most, and which reads fail
     piece: usize,
     reads: &'static [u64],
+    // how many bytes each sink has room for, and which of its writes fail
     out_room: usize,
     out_writes: &'static [u64],
     err_room: usize,
     err_writes: &'static [u64],
+    // the status, and what the sinks hold then
+    status: u8,
+    out: &'static str,
+    err: &'static str,
 }
 
-const SOUND: Around = Around {
+const REPORTED: Case = Case {
+    name: "a page",
+    input: HOME,
+    words: &["audit"],
     piece: 1_000_000,
     reads: &[],
     out_room: 1_000,
     out_writes: &[],
     err_room: 1_000,
     err_writes: &[],
+    status: 0,
+    out: HOME_REPORT,
+    err: "",
 };
 
 // What a run ended with, and what the sinks hold.
@@ -62,21 +77,41 @@ fn texts(alloc: Global, words: &[&str]) -> Result<List<Text>, AllocError> {
     Ok(List::from_vec(texts))
 }
 
-fn run_over(alloc: Global, words: &[&str], bytes: Vec<u8>, around: &Around) -> Result<Ended, Fail> {
-    let words = texts(alloc, words)?;
-    let reads = List::from_vec(Vec::from_slice(alloc, around.reads)?);
-    let out_writes = List::from_vec(Vec::from_slice(alloc, around.out_writes)?);
-    let err_writes = List::from_vec(Vec::from_slice(alloc, around.err_writes)?);
-    let mut input = MemSource::new(List::from_vec(bytes), around.piece, reads);
-    let mut out = MemSink::new(alloc, around.out_room, out_writes)?;
-    let mut err = MemSink::new(alloc, around.err_room, err_writes)?;
+fn source(alloc: Global, bytes: &[u8], case: &Case) -> Result<MemSource, AllocError> {
+    let bytes = Vec::from_slice(alloc, bytes)?;
+    let fails = Vec::from_slice(alloc, case.reads)?;
+    let bytes = List::from_vec(bytes);
+    Ok(MemSource::new(bytes, case.piece, List::from_vec(fails)))
+}
+
+fn sink(alloc: Global, room: usize, fails: &[u64]) -> Result<MemSink, OutOfMemory> {
+    let fails = Vec::from_slice(alloc, fails)?;
+    MemSink::new(alloc, room, List::from_vec(fails))
+}
+
+fn sinks(alloc: Global, case: &Case) -> Result<(MemSink, MemSink), OutOfMemory> {
+    let out = sink(alloc, case.out_room, case.out_writes)?;
+    let err = sink(alloc, case.err_room, case.err_writes)?;
+    Ok((out, err))
+}
+
+fn run_to_end(
+    alloc: Global,
+    words: List<Text>,
+    mut input: MemSource,
+    mut out: MemSink,
+    mut err: MemSink,
+) -> Ended {
     let mut book = Early::new();
     let status = run(alloc, &words, &mut input, &mut out, &mut err, &mut book);
-    let end = Ended { status, out, err };
-    if wants_memory(&end) {
-        return Err(Fail::from(OutOfMemory));
-    }
-    Ok(end)
+    Ended { status, out, err }
+}
+
+fn run_over(alloc: Global, bytes: &[u8], case: &Case) -> Result<Ended, Fail> {
+    let words = texts(alloc, case.words)?;
+    let input = source(alloc, bytes, case)?;
+    let (out, err) = sinks(alloc, case)?;
+    Ok(run_to_end(alloc, words, input, out, err))
 }
 
 // Whether a run wanted memory, and wrote nothing but the line that says so, as far as the sink took it.
@@ -92,220 +127,276 @@ fn wants_memory(end: &Ended) -> bool {
         }
 }
 
-#[test]
-fn each_input_has_its_status_and_lines(rt: HostRuntime) -> Result<(), Fail> {
-    let rows: [(&str, u8, &str, &str); 10] = [
-        (HOME, 0, HOME_REPORT, ""),
-        (BLANK, 1, BLANK_REPORT, ""),
-        (PARAGRAPH, 0, PARAGRAPH_REPORT, ""),
-        ("", 5, "", "snapshot fault 1 NotJson\n"),
-        (
-            r#"{"url":"https://example.org/","nodes":[]}"#,
-            5,
-            "",
-            "snapshot fault 4 Tree 1 Empty\n",
-        ),
-        (
-            r#"{"url":"https://example.org/","nodes":[{"n":1,"p":null,"tag":"html"},{"n":2,"p":1,"tag":"head"},{"n":7,"p":9,"tag":"body"}]}"#,
-            5,
-            "",
-            "snapshot fault 4 Tree 4 ParentUnknownOrNotOpen node 7\n",
-        ),
-        (
-            r#"{"url":"https://example.org/","nodes":[{"n":1,"p":null,"tag":"html"},{"n":2,"p":1}]}"#,
-            5,
-            "",
-            "snapshot fault 2 Shape place 2 field tag\n",
-        ),
-        (
-            r#"{"url":"https://example.org/"}"#,
-            5,
-            "",
-            "snapshot fault 2 Shape place 0 field nodes\n",
-        ),
-        (
-            r#"{"url":"ftp://a/","nodes":[]}"#,
-            5,
-            "",
-            "snapshot fault 3 BadUrl\n",
-        ),
-        ("[]", 5, "", "snapshot fault 2 Shape place 0 field top\n"),
-    ];
-    for (input, status, out, err) in rows {
-        let bytes = Vec::from_slice(rt.alloc(), input.as_bytes())?;
-        let end = run_over(rt.alloc(), &["audit"], bytes, &SOUND)?;
-        assert_eq!(rt; end.status, status, "{input}");
-        assert_eq!(rt; end.out.bytes(), out.as_bytes(), "{input}");
-        assert_eq!(rt; end.err.bytes(), err.as_bytes(), "{input}");
+fn ended_so(rt: &impl Abort, end: &Ended, case: &Case) {
+    let name = case.name;
+    let ended = (end.status, end.out.bytes(), end.err.bytes());
+    let wanted = (case.status, case.out.as_bytes(), case.err.as_bytes());
+    assert_eq!(rt; ended, wanted, "{name}");
+}
+
+fn ends_so(rt: &impl Abort, alloc: Global, bytes: &[u8], case: &Case) -> Result<(), Fail> {
+    let end = run_over(alloc, bytes, case)?;
+    if wants_memory(&end) {
+        return Err(Fail::from(OutOfMemory));
+    }
+    ended_so(rt, &end, case);
+    Ok(())
+}
+
+fn each_ends_so(rt: &impl Abort, alloc: Global, cases: &[Case]) -> Result<(), Fail> {
+    for case in cases {
+        ends_so(rt, alloc, case.input.as_bytes(), case)?;
     }
     Ok(())
 }
+
+const NO_SNAPSHOT: Case = Case {
+    status: 5,
+    out: "",
+    ..REPORTED
+};
+
+static INPUTS: [Case; 10] = [
+    REPORTED,
+    Case {
+        name: "a blank language and no title",
+        input: BLANK,
+        status: 1,
+        out: BLANK_REPORT,
+        ..REPORTED
+    },
+    Case {
+        name: "a page that is no document",
+        input: PARAGRAPH,
+        out: PARAGRAPH_REPORT,
+        ..REPORTED
+    },
+    Case {
+        name: "no bytes",
+        input: "",
+        err: "snapshot fault 1 NotJson\n",
+        ..NO_SNAPSHOT
+    },
+    Case {
+        name: "a page of no rows",
+        input: r#"{"url":"https://example.org/","nodes":[]}"#,
+        err: "snapshot fault 4 Tree 1 Empty\n",
+        ..NO_SNAPSHOT
+    },
+    Case {
+        name: "a parent that isn't there",
+        input: r#"{"url":"https://example.org/","nodes":[{"n":1,"p":null,"tag":"html"},{"n":2,"p":1,"tag":"head"},{"n":7,"p":9,"tag":"body"}]}"#,
+        err: "snapshot fault 4 Tree 4 ParentUnknownOrNotOpen node 7\n",
+        ..NO_SNAPSHOT
+    },
+    Case {
+        name: "a row without tag and text",
+        input: r#"{"url":"https://example.org/","nodes":[{"n":1,"p":null,"tag":"html"},{"n":2,"p":1}]}"#,
+        err: "snapshot fault 2 Shape place 2 field tag\n",
+        ..NO_SNAPSHOT
+    },
+    Case {
+        name: "no nodes",
+        input: r#"{"url":"https://example.org/"}"#,
+        err: "snapshot fault 2 Shape place 0 field nodes\n",
+        ..NO_SNAPSHOT
+    },
+    Case {
+        name: "an address of another scheme",
+        input: r#"{"url":"ftp://a/","nodes":[]}"#,
+        err: "snapshot fault 3 BadUrl\n",
+        ..NO_SNAPSHOT
+    },
+    Case {
+        name: "a top that is no object",
+        input: "[]",
+        err: "snapshot fault 2 Shape place 0 field top\n",
+        ..NO_SNAPSHOT
+    },
+];
+
+#[test]
+fn each_input_has_its_status_and_lines(rt: HostRuntime) -> Result<(), Fail> {
+    each_ends_so(&rt, rt.alloc(), INPUTS.as_slice())
+}
+
+const USAGE_FAULT: Case = Case {
+    status: 2,
+    out: "",
+    err: "usage fault\n",
+    ..REPORTED
+};
+
+static OTHER_WORDS: [Case; 5] = [
+    Case {
+        name: "no word",
+        words: &[],
+        ..USAGE_FAULT
+    },
+    Case {
+        name: "a second word",
+        words: &["audit", "x"],
+        ..USAGE_FAULT
+    },
+    Case {
+        name: "another word",
+        words: &["report"],
+        ..USAGE_FAULT
+    },
+    Case {
+        name: "a capital letter",
+        words: &["Audit"],
+        ..USAGE_FAULT
+    },
+    Case {
+        name: "the store's name",
+        words: &["-", "audit"],
+        ..USAGE_FAULT
+    },
+];
 
 #[test]
 fn other_words_are_no_command(rt: HostRuntime) -> Result<(), Fail> {
-    let rows: [&[&str]; 5] = [
-        &[],
-        &["audit", "x"],
-        &["report"],
-        &["Audit"],
-        &["-", "audit"],
-    ];
-    for words in rows {
-        let bytes = Vec::from_slice(rt.alloc(), HOME.as_bytes())?;
-        let end = run_over(rt.alloc(), words, bytes, &SOUND)?;
-        assert_eq!(rt; end.status, 2);
-        assert_eq!(rt; end.out.bytes(), b"".as_slice());
-        assert_eq!(rt; end.err.bytes(), b"usage fault\n".as_slice());
-    }
-    Ok(())
+    each_ends_so(&rt, rt.alloc(), OTHER_WORDS.as_slice())
 }
 
+const READ_FAULT: Case = Case {
+    status: 3,
+    out: "",
+    err: "read fault\n",
+    ..REPORTED
+};
+
+static SOURCES: [Case; 7] = [
+    Case {
+        name: "reads of no byte, which give 1",
+        piece: 0,
+        ..REPORTED
+    },
+    Case {
+        name: "reads of 1 byte",
+        piece: 1,
+        ..REPORTED
+    },
+    Case {
+        name: "reads of 7 bytes",
+        piece: 7,
+        ..REPORTED
+    },
+    Case {
+        name: "a fault in the middle",
+        piece: 7,
+        reads: &[2],
+        ..READ_FAULT
+    },
+    Case {
+        name: "a fault at the end",
+        reads: &[2],
+        ..READ_FAULT
+    },
+    Case {
+        name: "a fault at the first read",
+        reads: &[1],
+        ..READ_FAULT
+    },
+    Case {
+        name: "a fault after the end, where nobody asks",
+        reads: &[3],
+        ..REPORTED
+    },
+];
+
 #[test]
-fn faults_of_the_source_and_the_sinks_are_told(rt: HostRuntime) -> Result<(), Fail> {
-    let rows = [
-        // however the source cuts its bytes
-        (Around { piece: 0, ..SOUND }, 0, HOME_REPORT, ""),
-        (Around { piece: 1, ..SOUND }, 0, HOME_REPORT, ""),
-        (Around { piece: 7, ..SOUND }, 0, HOME_REPORT, ""),
-        // a source that fails at its second read, in the middle and at the end, and at its first
-        (
-            Around {
-                piece: 7,
-                reads: &[2],
-                ..SOUND
-            },
-            3,
-            "",
-            "read fault\n",
-        ),
-        (
-            Around {
-                reads: &[2],
-                ..SOUND
-            },
-            3,
-            "",
-            "read fault\n",
-        ),
-        (
-            Around {
-                reads: &[1],
-                ..SOUND
-            },
-            3,
-            "",
-            "read fault\n",
-        ),
-        // a source that fails after its end isn't asked
-        (
-            Around {
-                reads: &[3],
-                ..SOUND
-            },
-            0,
-            HOME_REPORT,
-            "",
-        ),
-        // a sink that fails at its first write, at a later one, and for want of room
-        (
-            Around {
-                out_writes: &[1],
-                ..SOUND
-            },
-            4,
-            "",
-            "write fault\n",
-        ),
-        (
-            Around {
-                out_room: 10,
-                out_writes: &[2],
-                ..SOUND
-            },
-            4,
-            "page https",
-            "write fault\n",
-        ),
-        (
-            Around {
-                out_room: 10,
-                ..SOUND
-            },
-            4,
-            "page https",
-            "write fault\n",
-        ),
-        (
-            Around {
-                out_room: 0,
-                ..SOUND
-            },
-            4,
-            "",
-            "write fault\n",
-        ),
-        // a line that can't be written
-        (
-            Around {
-                reads: &[1],
-                err_writes: &[1],
-                ..SOUND
-            },
-            4,
-            "",
-            "",
-        ),
-        (
-            Around {
-                reads: &[1],
-                err_room: 4,
-                ..SOUND
-            },
-            4,
-            "",
-            "read",
-        ),
-        (
-            Around {
-                out_writes: &[1],
-                err_room: 4,
-                ..SOUND
-            },
-            4,
-            "",
-            "writ",
-        ),
-    ];
-    for (around, status, out, err) in rows {
-        let bytes = Vec::from_slice(rt.alloc(), HOME.as_bytes())?;
-        let end = run_over(rt.alloc(), &["audit"], bytes, &around)?;
-        assert_eq!(rt; end.status, status, "{out}{err}");
-        assert_eq!(rt; end.out.bytes(), out.as_bytes());
-        assert_eq!(rt; end.err.bytes(), err.as_bytes());
-    }
-    Ok(())
+fn faults_of_the_source_are_told(rt: HostRuntime) -> Result<(), Fail> {
+    each_ends_so(&rt, rt.alloc(), SOURCES.as_slice())
+}
+
+const WRITE_FAULT: Case = Case {
+    status: 4,
+    out: "",
+    err: "write fault\n",
+    ..REPORTED
+};
+
+static SINKS: [Case; 7] = [
+    Case {
+        name: "a fault at the first write",
+        out_writes: &[1],
+        ..WRITE_FAULT
+    },
+    Case {
+        name: "a fault at a later write",
+        out_room: 10,
+        out_writes: &[2],
+        out: "page https",
+        ..WRITE_FAULT
+    },
+    Case {
+        name: "room for 10 bytes",
+        out_room: 10,
+        out: "page https",
+        ..WRITE_FAULT
+    },
+    Case {
+        name: "no room",
+        out_room: 0,
+        ..WRITE_FAULT
+    },
+    Case {
+        name: "a line that can't be written",
+        reads: &[1],
+        err_writes: &[1],
+        err: "",
+        ..WRITE_FAULT
+    },
+    Case {
+        name: "room for 4 bytes of the line on the source",
+        reads: &[1],
+        err_room: 4,
+        err: "read",
+        ..WRITE_FAULT
+    },
+    Case {
+        name: "room for 4 bytes of the line on the sink",
+        out_writes: &[1],
+        err_room: 4,
+        err: "writ",
+        ..WRITE_FAULT
+    },
+];
+
+#[test]
+fn faults_of_the_sinks_are_told(rt: HostRuntime) -> Result<(), Fail> {
+    each_ends_so(&rt, rt.alloc(), SINKS.as_slice())
+}
+
+// 128 reads of 65,536 bytes, and one of 1 byte: a 130th would fail.
+static TOO_LONG: Case = Case {
+    name: "one byte too many",
+    reads: &[130],
+    err: "snapshot fault 5 TooLong\n",
+    ..NO_SNAPSHOT
+};
+
+fn spaces_are_too_long(rt: &impl Abort, alloc: Global, count: usize) -> Result<(), Fail> {
+    let bytes = vec![in alloc; b' '; count]?;
+    ends_so(rt, alloc, bytes.as_slice(), &TOO_LONG)
 }
 
 #[test]
 fn an_audit_stops_reading_after_one_byte_too_many(rt: HostRuntime) -> Result<(), Fail> {
-    // 128 reads of 65,536 bytes, and one of 1 byte: a 130th would fail
-    let around = Around {
-        reads: &[130],
-        ..SOUND
-    };
-    for count in [8_388_609, 8_388_700] {
-        let bytes = vec![in rt.alloc(); b' '; count]?;
-        let end = run_over(rt.alloc(), &["audit"], bytes, &around)?;
-        assert_eq!(rt; end.status, 5);
-        assert_eq!(rt; end.err.bytes(), b"snapshot fault 5 TooLong\n".as_slice());
-    }
-    Ok(())
+    spaces_are_too_long(&rt, rt.alloc(), 8_388_609)?;
+    spaces_are_too_long(&rt, rt.alloc(), 8_388_700)
+}
+
+pub(crate) fn is_text(rt: &impl Abort, text: &str, wanted: &str) {
+    assert_eq!(rt; text, wanted);
 }
 
 #[test]
 fn a_fault_says_so(rt: HostRuntime) -> Result<(), Fail> {
     let fault = Failed;
     let text = format!(in rt.alloc(); "{fault}")?;
-    assert_eq!(rt; text.as_str(), "fault");
+    is_text(&rt, text.as_str(), "fault");
     Ok(())
 }

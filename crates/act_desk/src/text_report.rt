@@ -210,30 +210,42 @@ pub fn count_of(outcome: Auto, rows: &[OutRow]) -> usize
 #[cfg(test)]
 mod tests {
     use super::*;
+    use crate::tests::is_text;
     use rule_core::{Reason, RuleNo};
-    use snap_tree::{List, NodeId};
+    use snap_tree::NodeId;
     use std::test::Fail;
+
+    // A final outcome, who judged, and the line.
+    static ROWS: [(Auto, &str, &str); 4] = [
+        (Auto::Passed, "", " node 7 passed judge-heading\n"),
+        (Auto::Failed, "", " node 7 failed judge-heading\n"),
+        (Auto::CantTell, "", " node 7 cantTell judge-heading\n"),
+        (Auto::Passed, "bob", " node 7 passed judged by bob\n"),
+    ];
+
+    fn row(alloc: Global, last: Auto, hand: &str) -> Result<OutRow, OutOfMemory> {
+        let hand = Text::from_str(alloc, hand)?;
+        Ok(OutRow {
+            rule: RuleNo(14),
+            node: NodeId(7),
+            auto: Auto::CantTell,
+            reason: Reason::JudgeHeading,
+            evidence: Text::new(alloc),
+            last,
+            hand,
+        })
+    }
+
+    fn line(alloc: Global, last: Auto, hand: &str) -> Result<String, OutOfMemory> {
+        let row = row(alloc, last, hand)?;
+        row_line(alloc, &row)
+    }
 
     #[test]
     fn a_row_tells_its_reason_or_its_judge(rt: HostRuntime) -> Result<(), Fail> {
-        let rows = [
-            (Auto::Passed, "", " node 7 passed judge-heading\n"),
-            (Auto::Failed, "", " node 7 failed judge-heading\n"),
-            (Auto::CantTell, "", " node 7 cantTell judge-heading\n"),
-            (Auto::Passed, "bob", " node 7 passed judged by bob\n"),
-        ];
-        for (last, hand, wanted) in rows {
-            let row = OutRow {
-                rule: RuleNo(14),
-                node: NodeId(7),
-                auto: Auto::CantTell,
-                reason: Reason::JudgeHeading,
-                evidence: Text::new(rt.alloc()),
-                last,
-                hand: Text::from_str(rt.alloc(), hand)?,
-            };
-            let line = row_line(rt.alloc(), &row)?;
-            assert_eq!(rt; line.as_str(), wanted);
+        for (last, hand, wanted) in ROWS.as_slice() {
+            let line = line(rt.alloc(), *last, hand)?;
+            is_text(&rt, line.as_str(), wanted);
         }
         Ok(())
     }
@@ -241,9 +253,10 @@ mod tests {
     #[test]
     fn the_last_line_counts_final_outcomes(rt: HostRuntime) -> Result<(), Fail> {
         let line = totals_line(rt.alloc(), 11, 0, 7, 13)?;
-        assert_eq!(rt;
+        is_text(
+            &rt,
             line.as_str(),
-            "passed 11 failed 0 cantTell 7 inapplicable 13\n"
+            "passed 11 failed 0 cantTell 7 inapplicable 13\n",
         );
         Ok(())
     }
