@@ -11,3 +11,4 @@ pub mod Spotting
 pub mod Climbing
 pub mod Weights
 pub mod Naming
+pub mod Soundness

@@ -92,21 +92,42 @@ placed-beside above (tree x kids after) r h p = (h.0, (h.1.0, placed-beside abov
 abbrev Stays : Row → List Row → Trees → Option Trees → Type 0
 Stays r above t new = MatchOption new (Unit {0}) (λ t'. IsGood r (from_parent r (open_rows t) ++ above) → EachPlaced above t')
 
+-- an element stays in its place whatever stands below it
+pub placed_over : (above : List Row) (x : Row) (kids k : Trees) → IsPlaced above x k → is_text x ≡ false → IsPlaced above x kids
+placed_over above x kids k p e = record { named = p.named; shallow = p.shallow; childless = λ t. absurd (no t) }
+  where
+    no : is_text x ≡ true → ⊥
+    no t = let both : true ≡ false = sym t ∙ e in cc
+
+-- what has something below it is an element
+pub element_above : (x : Row) (k : Trees) → (is_text x ≡ true → k ≡ empty) → (k ≡ empty → ⊥) → is_text x ≡ false
+element_above x k childless some = by_text (is_text x) refl
+  where
+    by_text : (b : Bool) → is_text x ≡ b → is_text x ≡ false
+    by_text true e = absurd (some (childless e))
+    by_text false e = e
+
+-- the nodes above a row, where its parent stands below the last root, and where it is the last root
+pub above_lower : (r x p : Row) (xs lower above : List Row) → from_parent r xs ≡ p ∷ lower → from_parent r (xs ++ x ∷ []) ++ above ≡ from_parent r xs ++ x ∷ above
+above_lower r x p xs lower above e =
+    ap (λ rows. rows ++ above) (from_parent-found r p xs (x ∷ []) lower e) ∙ append_assoc (p ∷ lower) (x ∷ []) above ∙ ap (λ rows. rows ++ x ∷ above) (sym e)
+
+pub above_last : (r x : Row) (xs above : List Row) → from_parent r xs ≡ [] → names r x ≡ true → from_parent r (xs ++ x ∷ []) ++ above ≡ x ∷ above
+above_last r x xs above e n =
+    let one : from_parent r (x ∷ []) ≡ x ∷ [] = rw n refl in
+    ap (λ rows. rows ++ above) (from_parent-none r xs (x ∷ []) e ∙ one)
+
 kids_are : (r : Row) (kids k : Trees) → under r kids ≡ Some k → kids ≡ empty → ⊥
 kids_are r kids k e h = let no : None ≡ Some k = sym (ap (under r) h) ∙ e in cc
 
 stays_below : (r x : Row) (above : List Row) (kids : Trees) (o : Option Trees) (b : Bool) → under r kids ≡ o → names r x ≡ b → IsPlaced above x kids → EachPlaced (x ∷ above) kids → Stays r (x ∷ above) kids o → MatchOption o (from_parent r (open_rows kids) ≡ []) (Went r kids)
     → Stays r above (tree x kids empty) (option_or (option_map (λ k. tree x k empty) o) (if b then Some (tree x (beside kids (tree r empty empty)) empty) else None))
 stays_below r x above kids (Some k) b eo e p h s w = λ good.
-    let anc : from_parent r (open_rows kids ++ x ∷ []) ++ above ≡ from_parent r (open_rows kids) ++ x ∷ above =
-    ap (λ rows. rows ++ above) (from_parent-found r w.parent (open_rows kids) (x ∷ []) w.above w.found) ∙ append_assoc (w.parent ∷ w.above) (x ∷ []) above ∙ ap (λ rows. rows ++ x ∷ above) (sym w.found)
-    in
-    (record { named = p.named; shallow = p.shallow; childless = λ t. absurd (kids_are r kids k eo (p.childless t)) }, (s (subst (IsGood r) anc good), tt))
+    let element = element_above x kids p.childless (kids_are r kids k eo) in
+    (placed_over above x k kids p element, (s (subst (IsGood r) (above_lower r x w.parent (open_rows kids) w.above above w.found) good), tt))
 stays_below r x above kids None true eo e p h s w = λ good.
-    let one : from_parent r (x ∷ []) ≡ x ∷ [] = rw e refl in
-    let anc : from_parent r (open_rows kids ++ x ∷ []) ++ above ≡ x ∷ above = ap (λ rows. rows ++ above) (from_parent-none r (open_rows kids) (x ∷ []) w ∙ one) in
-    let g : IsGood r (x ∷ above) = subst (IsGood r) anc good in
-    (record { named = p.named; shallow = p.shallow; childless = λ t. let no : true ≡ false = sym t ∙ g.below_element in cc }, (placed-beside (x ∷ above) kids r h g.leaf, tt))
+    let g = subst (IsGood r) (above_last r x (open_rows kids) above w e) good in
+    (placed_over above x (beside kids (tree r empty empty)) kids p g.below_element, (placed-beside (x ∷ above) kids r h g.leaf, tt))
 stays_below r x above kids None false eo e p h s w = tt
 
 stays_after : (r x : Row) (above : List Row) (kids s : Trees) (o : Option Trees) → open_rows (tree x kids s) ≡ open_rows s → IsPlaced above x kids → EachPlaced (x ∷ above) kids → Stays r above s o → Stays r above (tree x kids s) (option_map (tree x kids) o)
@@ -122,7 +143,7 @@ under_placed r above (tree x kids (tree y b a)) h =
 
 -- ---- rows that grow
 
-abbrev IsRooted : Trees → Type 0
+abbrev pub IsRooted : Trees → Type 0
 IsRooted empty = Unit {0}
 IsRooted (tree r kids empty) = is_text r ≡ false
 IsRooted (tree r kids (tree y below after)) = ⊥
@@ -138,17 +159,17 @@ rooted_under r (tree x kids empty) new e h = by_open (under r kids) (names r x) 
 rooted_under r (tree x kids (tree y below after)) new e h = absurd h
 
 -- what holds of rows so far
-record Grows (rows : List Row) : Type 0 where
-  rooted : IsRooted (grown rows)
-  placed : EachPlaced [] (grown rows)
-  apart : AreApart rows
-  rows_well : AllByRecursion IsWellRow rows
+pub record Grows (rows : List Row) : Type 0 where
+  pub rooted : IsRooted (grown rows)
+  pub placed : EachPlaced [] (grown rows)
+  pub apart : AreApart rows
+  pub rows_well : AllByRecursion IsWellRow rows
 
 -- the first row is the root
 first_grows : (r : Row) → Fits true r 0 false → Grows (r ∷ [])
 first_grows r f = record {
   rooted = f.root;
-  placed = (record { named = no_parent r.parent f.in_place; shallow = f.shallow; childless = λ _. refl }, (tt, tt));
+  placed = (record { named = no_parent r.parent f.in_place; shallow = omega arith; childless = λ _. refl }, (tt, tt));
   apart = (refl, tt);
   rows_well = (f.own, tt);
 }
@@ -160,7 +181,7 @@ first_grows r f = record {
 -- the row's place among open nodes
 good_place : (r p : Row) (above : List Row) → names r p ≡ true → Fits false r (length (p ∷ above)) (is_text p) → IsGood r (p ∷ above)
 good_place r p above n f = record {
-  leaf = record { named = named_by r p r.parent n; shallow = f.shallow; childless = λ _. refl };
+  leaf = record { named = named_by r p r.parent n; shallow = omega arith; childless = λ _. refl };
   below_element = f.parent;
 }
 
