@@ -1,10 +1,12 @@
 pub mod Growth
 pub mod Cuts
+pub mod EachRow
 pub mod Wording
 pub mod Opening
 pub mod Entering
 pub mod Sized
 pub mod Found
+pub mod RowLimits
 pub mod Wellness
 pub mod Labelled
 pub mod Spotting

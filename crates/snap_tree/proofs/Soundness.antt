@@ -3,19 +3,22 @@ use Rattle.std.proofs.Common.{◌≡◌, ℕ, ◌<◌, ◌≤◌, ◌==◌, List
 use Rattle.std.proofs.lemmas.List.{append-nil}
 use Rattle.std.proofs.lemmas.Bool.Decides.{nat_tests}
 use Rattle.std.specs.Option.{option_or, is_some}
-use Rattle.std.specs.List.{list_any, AllByRecursion}
+use Rattle.std.specs.List.{list_any}
 use Rattle.snap_tree.specs.declared.row.Row.{Row}
 use Rattle.snap_tree.specs.Trees.{Trees, empty, tree, rows_of, beside}
 use Rattle.snap_tree.specs.Grown.{names, grown, under}
 use Rattle.snap_tree.specs.Rows.{has_number, is_text}
 use Rattle.snap_tree.specs.Faults.{most_nodes, most_depth, open_rows, from_parent, ancestors, is_below_text, place_fault, row_fault, rows_fault, shape_fault, tree_fault}
-use Rattle.snap_tree.specs.Well.{IsPlaced, EachPlaced, HasRoot, AreApart, IsWellRow, IsWell}
+use Rattle.snap_tree.specs.Well.{IsPlaced, EachPlaced, HasRoot, AreApart, IsWell}
+use Rattle.snap_tree.specs.WellRow.{IsWellRow}
 use Rattle.snap_tree.specs.Weight.{reference_weight, most_weight}
 use Rattle.snap_tree.proofs.Growth.{grown_push}
 use Rattle.snap_tree.proofs.Cuts.{length-rows_of}
+use Rattle.snap_tree.proofs.EachRow.{all_parts}
 use Rattle.snap_tree.proofs.Opening.{under_opens, Went}
 use Rattle.snap_tree.proofs.Climbing.{apart_append, later_number, same_id}
 use Rattle.snap_tree.proofs.Naming.{regrown, named_placed}
+use Rattle.snap_tree.proofs.RowLimits.{sound_row}
 use Rattle.snap_tree.proofs.Wellness.{Fits, IsGood, placed_over, element_above, above_lower, above_last, IsRooted, Grows, IsShaped}
 
 -- ---- where a row went, each node stood in its place before, and the row's place is good
@@ -85,7 +88,7 @@ rooted_before r (tree x kids (tree y below after)) new e h = by_open (under r (t
 
 -- the row's place among nodes that were open
 place_fits : (r p : Row) (above : List Row) → IsGood r (p ∷ above) → IsWellRow r → Fits false r (length (p ∷ above)) (is_text p)
-place_fits r p above g own = record { in_place = grind (arith, nat_tests); root = refl; parent = g.below_element; shallow = g.leaf.shallow; own = own }
+place_fits r p above g own = record { in_place = grind (arith, nat_tests); root = refl; parent = g.below_element; shallow = g.leaf.shallow; own = sound_row r own }
 
 later_before : (r y : Row) (b a : Trees) (o : Option Trees) → under r (tree y b a) ≡ o → MatchOption o (from_parent r (open_rows (tree y b a)) ≡ []) (Went r (tree y b a)) → Stood r [] (tree y b a) o → IsRooted (unwrap_or o (beside (tree y b a) (tree r empty empty))) → EachPlaced [] (unwrap_or o (beside (tree y b a) (tree r empty empty))) → IsWellRow r
     → IsRooted (tree y b a) × EachPlaced [] (tree y b a) × Fits false r (length (ancestors r (tree y b a))) (is_below_text (ancestors r (tree y b a)))
@@ -96,22 +99,18 @@ later_before r y b a (Some new) e w s root placed own =
     let good : IsGood r (w.parent ∷ w.above) = subst (IsGood r) (append-nil _ ∙ w.found) stood.1 in
     (rooted_before r (tree y b a) new e root, stood.0, subst (λ rows. Fits false r (length rows) (is_below_text rows)) (sym w.found) (place_fits r w.parent w.above good own))
 
-all_before : (rows : List Row) (r : Row) → AllByRecursion IsWellRow (rows ++ r ∷ []) → AllByRecursion IsWellRow rows × IsWellRow r
-all_before [] r h = (tt, h.0)
-all_before (x ∷ rows) r h = let rest = all_before rows r h.1 in ((h.0, rest.0), rest.1)
-
 new_number : (rows : List Row) (r : Row) → AreApart (rows ++ r ∷ []) → list_any (has_number r.id) rows ≡ false
 new_number rows r a = later_number r.id rows (r ∷ []) a (ap (λ b. b || false) (same_id r))
 
 row_sound : (earlier : List Row) (r : Row) → Grows (earlier ++ r ∷ []) → Grows earlier × (row_fault earlier r ≡ None)
 row_sound [] r g =
-    let f : Fits true r 0 false = record { in_place = ap is_some g.placed.0.named; root = g.rooted; parent = refl; shallow = g.placed.0.shallow; own = g.rows_well.0 } in
+    let f : Fits true r 0 false = record { in_place = ap is_some g.placed.0.named; root = g.rooted; parent = refl; shallow = g.placed.0.shallow; own = sound_row r g.rows_well.0 } in
     (record { rooted = tt; placed = tt; apart = tt; rows_well = tt }, place_sound true r 0 false f)
 row_sound (x ∷ earlier) r g =
     let t = grown (x ∷ earlier) in
-    let wells = all_before (x ∷ earlier) r g.rows_well in
+    let wells = all_parts IsWellRow (x ∷ earlier) (r ∷ []) g.rows_well in
     let pushed = grown_push (x ∷ earlier) r in
-    let before = later_before r x _ _ (under r t) refl (under_opens r t) (under_stood r [] t) (subst IsRooted pushed g.rooted) (subst (EachPlaced []) pushed g.placed) wells.1 in
+    let before = later_before r x _ _ (under r t) refl (under_opens r t) (under_stood r [] t) (subst IsRooted pushed g.rooted) (subst (EachPlaced []) pushed g.placed) wells.1.0 in
     let free = new_number (x ∷ earlier) r g.apart in
     (record { rooted = before.0; placed = before.1; apart = (apart_append (x ∷ earlier) (r ∷ []) g.apart).0; rows_well = wells.0 }, rw free (place_sound false r _ _ before.2))
 

@@ -1,6 +1,7 @@
 -- Rows without a fault make a well tree.
 use Rattle.std.proofs.Common.{◌≡◌, ℕ, ◌<◌, ◌≤◌, ◌==◌, List, [], ◌∷◌, ◌++◌, length, Bool, true, false, ◌||◌, ◌&&◌, Option, Some, None, option_map, unwrap_or, if◌then◌else◌, refl, sym, ◌∙◌, ap, subst, arith, append_assoc, MatchOption, nat_le, nat_lt}
 use Rattle.std.proofs.lemmas.List.{append-nil}
+use Rattle.std.proofs.lemmas.Bool.{or_parts}
 use Rattle.std.proofs.lemmas.Bool.Decides.{nat_tests}
 use Rattle.std.specs.Option.{option_or, is_some}
 use Rattle.std.specs.List.{list_any, AllByRecursion}
@@ -12,10 +13,13 @@ use Rattle.snap_tree.specs.Trees.{Trees, empty, tree, rows_of, count, beside}
 use Rattle.snap_tree.specs.Grown.{names, is_number, grown, under, planted}
 use Rattle.snap_tree.specs.Rows.{has_number, is_text, own_fault}
 use Rattle.snap_tree.specs.Faults.{most_nodes, most_depth, open_rows, from_parent, ancestors, is_first, is_misplaced, is_below_text, place_fault, row_fault, rows_fault, shape_fault, weight_fault, tree_fault}
-use Rattle.snap_tree.specs.Well.{IsPlaced, EachPlaced, HasRoot, AreApart, IsWellRow, IsWell}
+use Rattle.snap_tree.specs.Well.{IsPlaced, EachPlaced, HasRoot, AreApart, IsWell}
+use Rattle.snap_tree.specs.WellRow.{IsWellRow}
 use Rattle.snap_tree.specs.Weight.{reference_weight, most_weight}
 use Rattle.snap_tree.proofs.Growth.{rows_of_grown, grown_push}
+use Rattle.snap_tree.proofs.RowLimits.{well_row}
 use Rattle.snap_tree.proofs.Cuts.{length-rows_of}
+use Rattle.snap_tree.proofs.EachRow.{all_append}
 use Rattle.snap_tree.proofs.Opening.{from_parent-found, from_parent-none, under_opens, Went}
 
 -- ---- what a row without a fault tells
@@ -46,25 +50,17 @@ fits first r above false false false false ea eb ec h = record {
 other_number : (r x : Row) → has_number r.id x ≡ false → has_number x.id r ≡ false
 other_number r x h = grind (arith, nat_tests)
 
-or_false : (a b : Bool) → (a || b) ≡ false → (a ≡ false) × (b ≡ false)
-or_false true b h = cc
-or_false false b h = (refl, h)
-
 any_push : (n : NodeId) (rows : List Row) (r : Row) → list_any (has_number n) rows ≡ false → has_number n r ≡ false → list_any (has_number n) (rows ++ r ∷ []) ≡ false
 any_push n [] r a h = ap (λ b. b || false) h
 any_push n (x ∷ rows) r a h =
-    let both = or_false (has_number n x) (list_any (has_number n) rows) a in
+    let both = or_parts (has_number n x) (list_any (has_number n) rows) a in
     ap (λ b. b || list_any (has_number n) (rows ++ r ∷ [])) both.0 ∙ any_push n rows r both.1 h
 
 apart_push : (rows : List Row) (r : Row) → AreApart rows → list_any (has_number r.id) rows ≡ false → AreApart (rows ++ r ∷ [])
 apart_push [] r a h = (refl, tt)
 apart_push (x ∷ rows) r a h =
-    let both = or_false (has_number r.id x) (list_any (has_number r.id) rows) h in
+    let both = or_parts (has_number r.id x) (list_any (has_number r.id) rows) h in
     (any_push x.id rows r a.0 (other_number r x both.0), apart_push rows r a.1 both.1)
-
-all_push : (rows : List Row) (r : Row) → AllByRecursion IsWellRow rows → IsWellRow r → AllByRecursion IsWellRow (rows ++ r ∷ [])
-all_push [] r a h = (h, tt)
-all_push (x ∷ rows) r a h = (a.0, all_push rows r a.1 h)
 
 -- ---- places
 
@@ -171,7 +167,7 @@ first_grows r f = record {
   rooted = f.root;
   placed = (record { named = no_parent r.parent f.in_place; shallow = omega arith; childless = λ _. refl }, (tt, tt));
   apart = (refl, tt);
-  rows_well = (f.own, tt);
+  rows_well = (well_row r f.own, tt);
 }
   where
     no_parent : (parent : Option NodeId) → is_some parent ≡ false → parent ≡ None
@@ -212,7 +208,7 @@ row_grows (x ∷ rows) r g free f =
       rooted = subst IsRooted (sym (grown_push (x ∷ rows) r)) both.0;
       placed = subst (EachPlaced []) (sym (grown_push (x ∷ rows) r)) both.1;
       apart = apart_push (x ∷ rows) r g.apart free;
-      rows_well = all_push (x ∷ rows) r g.rows_well f.own;
+      rows_well = all_append IsWellRow (x ∷ rows) (r ∷ []) g.rows_well (well_row r f.own, tt);
     }
 
 free_of : (earlier : List Row) (r : Row) (b : Bool) → list_any (has_number r.id) earlier ≡ b → row_fault earlier r ≡ None → (list_any (has_number r.id) earlier ≡ false) × (place_fault (is_first earlier) r (length (ancestors r (grown earlier))) (is_below_text (ancestors r (grown earlier))) ≡ None)
