@@ -1,32 +1,24 @@
 -- A tree that was written is read back.
-use Rattle.std.proofs.Common.{◌≡◌, ℕ, ◌≤◌, List, [], length, true, Some, None, Ok, refl, sym, ap, ◌∙◌, cond, le-leb}
-use Rattle.std.specs.Prelude.{nat_lt, ◌==◌, if◌then◌else◌}
+use Rattle.std.proofs.Common.{◌≡◌, ℕ, ◌≤◌, List, length, true, Some, None, Ok, refl, sym, ap, subst, ◌∙◌, cond, le-leb}
 use Rattle.std.specs.List.{AllByRecursion}
 use Rattle.url.specs.Parts.{serialize}
-use Rattle.snap_tree.specs.declared.row.Row.{Row}
 use Rattle.snap_tree.specs.Trees.{Document, rows_of}
 use Rattle.snap_tree.specs.Grown.{grown}
-use Rattle.snap_tree.specs.declared.fault.TreeFault.TheVariants.{Empty, TooMany}
-use Rattle.snap_tree.specs.Faults.{most_nodes, shape_fault, tree_fault, rows_fault}
-use Rattle.snap_tree.proofs.Wellness.{shape_of_sound}
+use Rattle.snap_tree.specs.Faults.{tree_fault}
+use Rattle.snap_tree.specs.Well.{IsWell}
+use Rattle.snap_tree.proofs.Wellness.{well_from_sound}
 use Rattle.snap_json.specs.declared.limits.Limits.{Limits}
 use Rattle.snap_json.specs.Address.{web_text, address_of, IsWebAddress}
 use Rattle.snap_json.specs.Pages.{within, json_of, page_in, tree_in, sent, kept, sent_tree, kept_tree}
 use Rattle.snap_json.specs.Small.{IsSmall}
 use Rattle.snap_json.specs.Written.{page_data}
 use Rattle.snap_json.proofs.ReadBack.{page_back}
-use Rattle.snap_json.proofs.Readable.{chosen, readable}
+use Rattle.snap_json.proofs.Readable.{readable}
 
 -- a web address stands for itself
 own_address : (text : List ℕ) → IsWebAddress text → address_of text ≡ Some text
 unfolding address_of
 own_address text web = ap web_text web.parsed ∙ ap (λ b. cond b (Some (serialize web.url)) None) web.web ∙ ap Some (sym web.same)
-
--- rows that make a tree have no fault
-rows_sound : (rows : List Row) → tree_fault rows ≡ None → rows_fault [] rows ≡ None
-unfolding shape_fault
-rows_sound rows h =
-    chosen (nat_lt most_nodes (length rows)) TooMany (rows_fault [] rows) (chosen (length rows == 0) Empty (if nat_lt most_nodes (length rows) then Some TooMany else rows_fault [] rows) (shape_of_sound rows h))
 
 tree_back : (limits : Limits) (tree : Document) (bytes : List ℕ)
     → within limits.snapshot (length bytes) ≡ true → within limits.address (length tree.address) ≡ true
@@ -36,7 +28,8 @@ tree_back : (limits : Limits) (tree : Document) (bytes : List ℕ)
 unfolding tree_in page_in
 tree_back limits tree bytes fits short json small sound regrown web =
     let rows = rows_of tree.trees in
-    rw (fits, json, page_back limits tree.address rows (own_address tree.address web) short (readable rows (rows_sound rows sound) small), sound, regrown) refl
+    let well = subst IsWell regrown (well_from_sound rows sound) in
+    rw (fits, json, page_back limits tree.address rows (own_address tree.address web) short (readable tree.trees well small), sound, regrown) refl
 
 pub kept_back : (tree : Document) (bytes : List ℕ) → json_of bytes ≡ Some (page_data tree.address (rows_of tree.trees)) → AllByRecursion IsSmall (rows_of tree.trees)
     → tree_fault (rows_of tree.trees) ≡ None → grown (rows_of tree.trees) ≡ tree.trees → IsWebAddress tree.address → kept_tree bytes ≡ Ok tree

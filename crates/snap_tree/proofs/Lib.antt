@@ -1,13 +1,16 @@
 pub mod Growth
 pub mod Cuts
+pub mod EachRow
 pub mod Wording
 pub mod Opening
 pub mod Entering
 pub mod Sized
 pub mod Found
+pub mod RowLimits
 pub mod Wellness
 pub mod Labelled
 pub mod Spotting
 pub mod Climbing
 pub mod Weights
 pub mod Naming
+pub mod Soundness

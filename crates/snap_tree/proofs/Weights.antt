@@ -1,10 +1,10 @@
 -- What references find, weighed by sums over the rows.
-use Rattle.std.proofs.Common.{◌≡◌, ℕ, zero, suc, ◌+◌, ◌-◌, ◌*◌, ◌^◌, ◌<◌, ◌≤◌, ◌||◌, List, [], ◌∷◌, ◌++◌, length, take, drop, get_or, map, filter, Bool, true, false, nat_lt, Option, Some, None, option_map, unwrap_or, if◌then◌else◌, String, Vec, refl, sym, ◌∙◌, ap, subst, arith}
+use Rattle.std.proofs.Common.{◌≡◌, ℕ, zero, suc, ◌+◌, ◌-◌, ◌*◌, ◌^◌, ◌<◌, ◌≤◌, List, [], ◌∷◌, ◌++◌, length, take, drop, get_or, map, filter, Bool, true, false, nat_lt, Option, Some, None, option_map, unwrap_or, if◌then◌else◌, String, Vec, refl, sym, ◌∙◌, ap, subst, arith}
 use Rattle.std.proofs.lemmas.List.{append-nil, take_more, take-append-drop, drop_more, take-take, drop-take, length-map, get_or-map, get_or_append_left, get_or-append_right}
 use Rattle.std.proofs.lemmas.List.Sums.{sum_by-cons, sum_by-append, sum_by_push, sum_by_more}
 use Rattle.std.proofs.lemmas.Bool.Decides.{nat_tests}
 use Rattle.std.specs.Option.{option_or, option_map_or, option_to_list}
-use Rattle.std.specs.List.{sum_by, list_any, find, slice_get}
+use Rattle.std.specs.List.{AllByRecursion, sum_by, find, slice_get}
 use Rattle.std.specs.BTreeMap.{BTreeMap}
 use Rattle.snap_tree.specs.declared.row.NodeId.{NodeId}
 use Rattle.snap_tree.specs.declared.row.Attr.{Attr}
@@ -12,7 +12,7 @@ use Rattle.snap_tree.specs.declared.row.Body.{Body}
 use Rattle.snap_tree.specs.declared.row.Body.TheVariants.{Element, Words}
 use Rattle.snap_tree.specs.declared.row.Row.{Row}
 use Rattle.snap_tree.specs.declared.fault.TreeFault.{TreeFault}
-use Rattle.snap_tree.specs.declared.fault.TreeFault.TheVariants.{TooManyAttrs, TextTooLong, ReferenceWeight}
+use Rattle.snap_tree.specs.declared.fault.TreeFault.TheVariants.{ReferenceWeight}
 use Rattle.snap_tree.specs.declared.fault.BuildFault.{BuildFault}
 use Rattle.snap_tree.specs.declared.fault.BuildFault.TheVariants.{Tree, OutOfMemory}
 use Rattle.snap_tree.specs.Trees.{Trees, empty, tree, rows_of, count, sizes_of}
@@ -21,7 +21,8 @@ use Rattle.snap_tree.specs.declared.groups.Key.TheVariants.{Id, For}
 use Rattle.snap_tree.specs.Groups.{AreGroups, group_at}
 use Rattle.snap_tree.specs.Labelling.{labels_in, all_labels_in}
 use Rattle.snap_tree.specs.Grown.{is_number, grown}
-use Rattle.snap_tree.specs.Rows.{attrs_of, attrs_in, own_fault, most_attrs, is_long, has_long, is_key}
+use Rattle.snap_tree.specs.Rows.{is_key}
+use Rattle.snap_tree.specs.WellRow.{IsWellAttr, IsWellBody, IsWellRow}
 use Rattle.snap_tree.specs.Faults.{shape_fault, weight_fault, tree_fault}
 use Rattle.snap_tree.specs.Opened.{Breaks}
 use Rattle.snap_tree.specs.Spots.{Spot, spots_in, spots}
@@ -36,37 +37,17 @@ use Rattle.snap_tree.proofs.Labelled.{rows-spots}
 
 -- ---- a row within its limits
 
-or_false : (a b : Bool) → (a || b) ≡ false → (a ≡ false) × (b ≡ false)
-or_false true b h = cc
-or_false false b h = (refl, h)
-
-values_bound : (attrs : List Attr) → list_any (λ a. is_long a.name || is_long a.value) attrs ≡ false → sum_by (λ a. length a.value) attrs ≤ length attrs * 65536
+values_bound : (attrs : List Attr) → AllByRecursion IsWellAttr attrs → sum_by (λ a. length a.value) attrs ≤ length attrs * 65536
 values_bound [] h = omega arith
-values_bound (a ∷ attrs) h =
-    let both = or_false (is_long a.name || is_long a.value) (list_any (λ b. is_long b.name || is_long b.value) attrs) h in
-    let value : is_long a.value ≡ false = (or_false (is_long a.name) (is_long a.value) both.0).1 in
-    let short : length a.value ≤ 65536 = grind (arith, nat_tests) in
-    let rest = values_bound attrs both.1 in
-    omega (arith, sum_by-cons (λ b. length b.value) a attrs)
+values_bound (a ∷ attrs) h = omega (arith, h.0.short, values_bound attrs h.1, sum_by-cons (λ b. length b.value) a attrs)
 
-body_bound : (b : Body) → nat_lt most_attrs (length (attrs_in b)) ≡ false → has_long b ≡ false → bytes_in b ≤ 4194304
-body_bound (Element space tag attrs) m l =
-    let few : length attrs ≤ 64 = grind (arith, nat_tests) in
-    let all = values_bound attrs (or_false (is_long tag) (list_any (λ a. is_long a.name || is_long a.value) attrs) l).1 in
-    omega arith
-body_bound (Words text) m l = let short : length text ≤ 65536 = grind (arith, nat_tests) in omega arith
+body_bound : (b : Body) → IsWellBody b → bytes_in b ≤ 4194304
+body_bound (Element space tag attrs) h = omega (arith, h.few, values_bound attrs h.each_well)
+body_bound (Words text) h = omega arith
 
-own_by : (r : Row) (a b : Bool) → nat_lt most_attrs (length (attrs_of r)) ≡ a → has_long r.body ≡ b → own_fault r ≡ None → (a ≡ false) × (b ≡ false)
-unfolding own_fault
-own_by r true b ea eb h = let no : Some (TooManyAttrs r.id) ≡ None = rw ea at h in cc
-own_by r false true ea eb h = let no : Some (TextTooLong r.id) ≡ None = rw (ea, eb) at h in cc
-own_by r false false ea eb h = (refl, refl)
-
--- a row without a fault has at most 64 values of 65,536 bytes
-pub light_row : (r : Row) → own_fault r ≡ None → bytes_in r.body ≤ 4194304
-light_row r h =
-    let both = own_by r (nat_lt most_attrs (length (attrs_of r))) (has_long r.body) refl refl h in
-    body_bound r.body both.0 both.1
+-- a row within its limits has at most 64 values of 65,536 bytes
+pub light_row : (r : Row) → IsWellRow r → bytes_in r.body ≤ 4194304
+light_row r well = body_bound r.body well.body_well
 
 -- ---- sums
 

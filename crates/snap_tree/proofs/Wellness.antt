@@ -1,6 +1,7 @@
 -- Rows without a fault make a well tree.
 use Rattle.std.proofs.Common.{◌≡◌, ℕ, ◌<◌, ◌≤◌, ◌==◌, List, [], ◌∷◌, ◌++◌, length, Bool, true, false, ◌||◌, ◌&&◌, Option, Some, None, option_map, unwrap_or, if◌then◌else◌, refl, sym, ◌∙◌, ap, subst, arith, append_assoc, MatchOption, nat_le, nat_lt}
 use Rattle.std.proofs.lemmas.List.{append-nil}
+use Rattle.std.proofs.lemmas.Bool.{or_parts}
 use Rattle.std.proofs.lemmas.Bool.Decides.{nat_tests}
 use Rattle.std.specs.Option.{option_or, is_some}
 use Rattle.std.specs.List.{list_any, AllByRecursion}
@@ -12,10 +13,13 @@ use Rattle.snap_tree.specs.Trees.{Trees, empty, tree, rows_of, count, beside}
 use Rattle.snap_tree.specs.Grown.{names, is_number, grown, under, planted}
 use Rattle.snap_tree.specs.Rows.{has_number, is_text, own_fault}
 use Rattle.snap_tree.specs.Faults.{most_nodes, most_depth, open_rows, from_parent, ancestors, is_first, is_misplaced, is_below_text, place_fault, row_fault, rows_fault, shape_fault, weight_fault, tree_fault}
-use Rattle.snap_tree.specs.Well.{IsPlaced, EachPlaced, HasRoot, AreApart, IsWellRow, IsWell}
+use Rattle.snap_tree.specs.Well.{IsPlaced, EachPlaced, HasRoot, AreApart, IsWell}
+use Rattle.snap_tree.specs.WellRow.{IsWellRow}
 use Rattle.snap_tree.specs.Weight.{reference_weight, most_weight}
 use Rattle.snap_tree.proofs.Growth.{rows_of_grown, grown_push}
+use Rattle.snap_tree.proofs.RowLimits.{well_row}
 use Rattle.snap_tree.proofs.Cuts.{length-rows_of}
+use Rattle.snap_tree.proofs.EachRow.{all_append}
 use Rattle.snap_tree.proofs.Opening.{from_parent-found, from_parent-none, under_opens, Went}
 
 -- ---- what a row without a fault tells
@@ -46,25 +50,17 @@ fits first r above false false false false ea eb ec h = record {
 pub same_number : (a b : ℕ) → (a == b) ≡ (b == a)
 same_number a b = grind (arith, nat_tests)
 
-or_false : (a b : Bool) → (a || b) ≡ false → (a ≡ false) × (b ≡ false)
-or_false true b h = cc
-or_false false b h = (refl, h)
-
 any_push : (n : NodeId) (rows : List Row) (r : Row) → list_any (has_number n) rows ≡ false → has_number n r ≡ false → list_any (has_number n) (rows ++ r ∷ []) ≡ false
 any_push n [] r a h = ap (λ b. b || false) h
 any_push n (x ∷ rows) r a h =
-    let both = or_false (has_number n x) (list_any (has_number n) rows) a in
+    let both = or_parts (has_number n x) (list_any (has_number n) rows) a in
     ap (λ b. b || list_any (has_number n) (rows ++ r ∷ [])) both.0 ∙ any_push n rows r both.1 h
 
 apart_push : (rows : List Row) (r : Row) → AreApart rows → list_any (has_number r.id) rows ≡ false → AreApart (rows ++ r ∷ [])
 apart_push [] r a h = (refl, tt)
 apart_push (x ∷ rows) r a h =
-    let both = or_false (has_number r.id x) (list_any (has_number r.id) rows) h in
+    let both = or_parts (has_number r.id x) (list_any (has_number r.id) rows) h in
     (any_push x.id rows r a.0 (same_number r.id.0 x.id.0 ∙ both.0), apart_push rows r a.1 both.1)
-
-all_push : (rows : List Row) (r : Row) → AllByRecursion IsWellRow rows → IsWellRow r → AllByRecursion IsWellRow (rows ++ r ∷ [])
-all_push [] r a h = (h, tt)
-all_push (x ∷ rows) r a h = (a.0, all_push rows r a.1 h)
 
 -- ---- places
 
@@ -92,21 +88,42 @@ placed-beside above (tree x kids after) r h p = (h.0, (h.1.0, placed-beside abov
 abbrev Stays : Row → List Row → Trees → Option Trees → Type 0
 Stays r above t new = MatchOption new (Unit {0}) (λ t'. IsGood r (from_parent r (open_rows t) ++ above) → EachPlaced above t')
 
+-- an element stays in its place whatever stands below it
+pub placed_over : (above : List Row) (x : Row) (kids k : Trees) → IsPlaced above x k → is_text x ≡ false → IsPlaced above x kids
+placed_over above x kids k p e = record { named = p.named; shallow = p.shallow; childless = λ t. absurd (no t) }
+  where
+    no : is_text x ≡ true → ⊥
+    no t = let both : true ≡ false = sym t ∙ e in cc
+
+-- what has something below it is an element
+pub element_above : (x : Row) (k : Trees) → (is_text x ≡ true → k ≡ empty) → (k ≡ empty → ⊥) → is_text x ≡ false
+element_above x k childless some = by_text (is_text x) refl
+  where
+    by_text : (b : Bool) → is_text x ≡ b → is_text x ≡ false
+    by_text true e = absurd (some (childless e))
+    by_text false e = e
+
+-- the nodes above a row, where its parent stands below the last root, and where it is the last root
+pub above_lower : (r x p : Row) (xs lower above : List Row) → from_parent r xs ≡ p ∷ lower → from_parent r (xs ++ x ∷ []) ++ above ≡ from_parent r xs ++ x ∷ above
+above_lower r x p xs lower above e =
+    ap (λ rows. rows ++ above) (from_parent-found r p xs (x ∷ []) lower e) ∙ append_assoc (p ∷ lower) (x ∷ []) above ∙ ap (λ rows. rows ++ x ∷ above) (sym e)
+
+pub above_last : (r x : Row) (xs above : List Row) → from_parent r xs ≡ [] → names r x ≡ true → from_parent r (xs ++ x ∷ []) ++ above ≡ x ∷ above
+above_last r x xs above e n =
+    let one : from_parent r (x ∷ []) ≡ x ∷ [] = rw n refl in
+    ap (λ rows. rows ++ above) (from_parent-none r xs (x ∷ []) e ∙ one)
+
 kids_are : (r : Row) (kids k : Trees) → under r kids ≡ Some k → kids ≡ empty → ⊥
 kids_are r kids k e h = let no : None ≡ Some k = sym (ap (under r) h) ∙ e in cc
 
 stays_below : (r x : Row) (above : List Row) (kids : Trees) (o : Option Trees) (b : Bool) → under r kids ≡ o → names r x ≡ b → IsPlaced above x kids → EachPlaced (x ∷ above) kids → Stays r (x ∷ above) kids o → MatchOption o (from_parent r (open_rows kids) ≡ []) (Went r kids)
     → Stays r above (tree x kids empty) (option_or (option_map (λ k. tree x k empty) o) (if b then Some (tree x (beside kids (tree r empty empty)) empty) else None))
 stays_below r x above kids (Some k) b eo e p h s w = λ good.
-    let anc : from_parent r (open_rows kids ++ x ∷ []) ++ above ≡ from_parent r (open_rows kids) ++ x ∷ above =
-    ap (λ rows. rows ++ above) (from_parent-found r w.parent (open_rows kids) (x ∷ []) w.above w.found) ∙ append_assoc (w.parent ∷ w.above) (x ∷ []) above ∙ ap (λ rows. rows ++ x ∷ above) (sym w.found)
-    in
-    (record { named = p.named; shallow = p.shallow; childless = λ t. absurd (kids_are r kids k eo (p.childless t)) }, (s (subst (IsGood r) anc good), tt))
+    let element = element_above x kids p.childless (kids_are r kids k eo) in
+    (placed_over above x k kids p element, (s (subst (IsGood r) (above_lower r x w.parent (open_rows kids) w.above above w.found) good), tt))
 stays_below r x above kids None true eo e p h s w = λ good.
-    let one : from_parent r (x ∷ []) ≡ x ∷ [] = rw e refl in
-    let anc : from_parent r (open_rows kids ++ x ∷ []) ++ above ≡ x ∷ above = ap (λ rows. rows ++ above) (from_parent-none r (open_rows kids) (x ∷ []) w ∙ one) in
-    let g : IsGood r (x ∷ above) = subst (IsGood r) anc good in
-    (record { named = p.named; shallow = p.shallow; childless = λ t. let no : true ≡ false = sym t ∙ g.below_element in cc }, (placed-beside (x ∷ above) kids r h g.leaf, tt))
+    let g = subst (IsGood r) (above_last r x (open_rows kids) above w e) good in
+    (placed_over above x (beside kids (tree r empty empty)) kids p g.below_element, (placed-beside (x ∷ above) kids r h g.leaf, tt))
 stays_below r x above kids None false eo e p h s w = tt
 
 stays_after : (r x : Row) (above : List Row) (kids s : Trees) (o : Option Trees) → open_rows (tree x kids s) ≡ open_rows s → IsPlaced above x kids → EachPlaced (x ∷ above) kids → Stays r above s o → Stays r above (tree x kids s) (option_map (tree x kids) o)
@@ -122,7 +139,7 @@ under_placed r above (tree x kids (tree y b a)) h =
 
 -- ---- rows that grow
 
-abbrev IsRooted : Trees → Type 0
+abbrev pub IsRooted : Trees → Type 0
 IsRooted empty = Unit {0}
 IsRooted (tree r kids empty) = is_text r ≡ false
 IsRooted (tree r kids (tree y below after)) = ⊥
@@ -138,19 +155,19 @@ rooted_under r (tree x kids empty) new e h = by_open (under r kids) (names r x) 
 rooted_under r (tree x kids (tree y below after)) new e h = absurd h
 
 -- what holds of rows so far
-record Grows (rows : List Row) : Type 0 where
-  rooted : IsRooted (grown rows)
-  placed : EachPlaced [] (grown rows)
-  apart : AreApart rows
-  rows_well : AllByRecursion IsWellRow rows
+pub record Grows (rows : List Row) : Type 0 where
+  pub rooted : IsRooted (grown rows)
+  pub placed : EachPlaced [] (grown rows)
+  pub apart : AreApart rows
+  pub rows_well : AllByRecursion IsWellRow rows
 
 -- the first row is the root
 first_grows : (r : Row) → Fits true r 0 false → Grows (r ∷ [])
 first_grows r f = record {
   rooted = f.root;
-  placed = (record { named = no_parent r.parent f.in_place; shallow = f.shallow; childless = λ _. refl }, (tt, tt));
+  placed = (record { named = no_parent r.parent f.in_place; shallow = omega arith; childless = λ _. refl }, (tt, tt));
   apart = (refl, tt);
-  rows_well = (f.own, tt);
+  rows_well = (well_row r f.own, tt);
 }
   where
     no_parent : (parent : Option NodeId) → is_some parent ≡ false → parent ≡ None
@@ -160,7 +177,7 @@ first_grows r f = record {
 -- the row's place among open nodes
 good_place : (r p : Row) (above : List Row) → names r p ≡ true → Fits false r (length (p ∷ above)) (is_text p) → IsGood r (p ∷ above)
 good_place r p above n f = record {
-  leaf = record { named = named_by r p r.parent n; shallow = f.shallow; childless = λ _. refl };
+  leaf = record { named = named_by r p r.parent n; shallow = omega arith; childless = λ _. refl };
   below_element = f.parent;
 }
 
@@ -191,7 +208,7 @@ row_grows (x ∷ rows) r g free f =
       rooted = subst IsRooted (sym (grown_push (x ∷ rows) r)) both.0;
       placed = subst (EachPlaced []) (sym (grown_push (x ∷ rows) r)) both.1;
       apart = apart_push (x ∷ rows) r g.apart free;
-      rows_well = all_push (x ∷ rows) r g.rows_well f.own;
+      rows_well = all_append IsWellRow (x ∷ rows) (r ∷ []) g.rows_well (well_row r f.own, tt);
     }
 
 free_of : (earlier : List Row) (r : Row) (b : Bool) → list_any (has_number r.id) earlier ≡ b → row_fault earlier r ≡ None → (list_any (has_number r.id) earlier ≡ false) × (place_fault (is_first earlier) r (length (ancestors r (grown earlier))) (is_below_text (ancestors r (grown earlier))) ≡ None)

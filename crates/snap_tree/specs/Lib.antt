@@ -15,6 +15,7 @@ pub mod Groups
 pub mod Indexed
 pub mod Weighing
 pub mod Lookups
+pub mod WellRow
 pub mod Well
 pub mod Spots
 pub mod SpotLaws

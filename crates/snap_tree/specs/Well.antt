@@ -1,9 +1,10 @@
 -- What holds of every tree that is built.
-use Rattle.std.specs.Prelude.{◌≡◌, ◌<◌, ◌≤◌, List, [], ◌∷◌, length, true, false, None}
+use Rattle.std.specs.Prelude.{◌≡◌, ◌<◌, ◌≤◌, List, [], ◌∷◌, length, true, false}
 use Rattle.std.specs.List.{list_any, AllByRecursion}
 use Rattle.snap_tree.specs.declared.row.Row.{Row}
 use Rattle.snap_tree.specs.Trees.{Trees, empty, tree, rows_of, count}
-use Rattle.snap_tree.specs.Rows.{has_number, is_text, own_fault}
+use Rattle.snap_tree.specs.Rows.{has_number, is_text}
+use Rattle.snap_tree.specs.WellRow.{IsWellRow}
 use Rattle.snap_tree.specs.Faults.{most_nodes, most_depth}
 use Rattle.snap_tree.specs.Weight.{reference_weight, most_weight}
 pub use Rattle.snap_tree.specs.Spots.{number_of}
@@ -29,10 +30,6 @@ HasRoot (tree r kids (tree y below after)) = ⊥
 abbrev pub AreApart : List Row → Type 0
 AreApart [] = Unit {0}
 AreApart (r ∷ rows) = (list_any (has_number r.id) rows ≡ false) × AreApart rows
-
--- the row keeps the limits on attributes, texts and names
-abbrev pub IsWellRow : Row → Type 0
-IsWellRow r = own_fault r ≡ None
 
 pub record IsWell (t : Trees) : Type 0 where
   pub rooted : HasRoot t

@@ -1,10 +1,12 @@
-ghost use Rattle.std.specs.Prelude.{◌≡◌, List, [], ◌∷◌, ◌++◌, None};
+ghost use Rattle.std.specs.Prelude.{◌≡◌, List, [], ◌∷◌, ◌++◌, None, ◌↔◌};
 ghost use Rattle.snap_tree.specs.declared.row.NodeId.{NodeId};
 ghost use Rattle.snap_tree.specs.declared.row.Row.{Row};
 ghost use Rattle.snap_tree.specs.Trees.{Trees, rows_of};
 ghost use Rattle.snap_tree.specs.Grown.{grown, planted};
 ghost use Rattle.snap_tree.specs.Faults.{tree_fault};
 ghost use Rattle.snap_tree.specs.Well.{IsWell, AreApart};
+ghost use Rattle.snap_tree.specs.Rows.{own_fault};
+ghost use Rattle.snap_tree.specs.WellRow.{IsWellRow};
 ghost use Rattle.snap_tree.specs.Naming.{AreNamed};
 ghost use Rattle.snap_tree.specs.SpotLaws.{AbsentHasNoSpot, SpotHasRow, NamesFirstAbove, ClimbsAbove, WalksAbove, GrowBeside};
 
@@ -12,14 +14,19 @@ ghost use Rattle.snap_tree.specs.SpotLaws.{AbsentHasNoSpot, SpotHasRow, NamesFir
 ///
 /// Growing is the plain way of making a tree of rows: one row after another goes under its parent as
 /// the last child. No row is lost or made, and rows without a fault make a well tree. Trees in which
-/// each node names the one above it, and whose numbers differ, are what their rows grow to.
-#[tactic(auto, using(crate::proofs::Growth::grown_push, crate::proofs::Growth::rows_of_grown, crate::proofs::Wellness::well_from_sound, crate::proofs::Naming::regrown))]
+/// each node names the one above it, and whose numbers differ, are what their rows grow to. The rows of a
+/// well tree have no fault, so the rows that `Tree::build` accepts are exactly those of well trees. A row
+/// has no fault by itself exactly where it keeps the limits.
+#[tactic(auto, using(crate::proofs::Growth::grown_push, crate::proofs::Growth::rows_of_grown, crate::proofs::Wellness::well_from_sound, crate::proofs::Naming::regrown, crate::proofs::Naming::named_well, crate::proofs::Soundness::sound_from_well, crate::proofs::RowLimits::row_limits))]
 pub fn laws_of_growth()
     ensures first { (r : Row) → grown (r ∷ []) ≡ planted r (grown []) }
     ensures next { (rows : List Row) (r : Row) → grown (rows ++ r ∷ []) ≡ planted r (grown rows) }
     ensures kept { (rows : List Row) → rows_of (grown rows) ≡ rows }
     ensures well { (rows : List Row) → tree_fault rows ≡ None → IsWell (grown rows) }
     ensures regrown { (t : Trees) → AreNamed None t → AreApart (rows_of t) → grown (rows_of t) ≡ t }
+    ensures named { (t : Trees) → IsWell t → AreNamed None t }
+    ensures exact { (t : Trees) → IsWell t → tree_fault (rows_of t) ≡ None }
+    ensures limits { (r : Row) → (own_fault r ≡ None) ↔ IsWellRow r }
 {}
 
 /// Laws of the spot of a node: its row, what is below it, and what is above it.

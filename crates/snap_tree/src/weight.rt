@@ -1,10 +1,10 @@
 ghost use Rattle.std.specs.Prelude.{◌≡◌, ◌+◌, ◌^◌, ◌<◌, ◌≤◌, None, length, nat_lt, IfOk};
 ghost use Rattle.std.specs.Option.{option_copied};
 ghost use Rattle.std.specs.List.{sum_by, AllByRecursion};
-ghost use Rattle.snap_tree.specs.Rows.{own_fault, most_attrs};
+ghost use Rattle.snap_tree.specs.Rows.{most_attrs};
 ghost use Rattle.snap_tree.specs.Grown.{grown};
 ghost use Rattle.snap_tree.specs.Faults.{most_nodes, shape_fault};
-ghost use Rattle.snap_tree.specs.Well.{IsWellRow};
+ghost use Rattle.snap_tree.specs.WellRow.{IsWellRow};
 ghost use Rattle.snap_tree.specs.Spots.{spots};
 ghost use Rattle.snap_tree.specs.Indexed.{IsIndex};
 ghost use Rattle.snap_tree.specs.Weight.{bytes_in, node_weight, weight_of, id_weight, listed, references, reference_weight, most_weight};
@@ -44,7 +44,7 @@ fn bytes_in(body: &Body) -> usize
 // The weight of a node within its limits, which is at most 1 + 64 * 65,536 / 64.
 #[tactic(auto, using(crate::proofs::Weights::light_row), unfolding(crate::specs::Weight::node_weight))]
 fn node_weight(row: &Row) -> u64
-    requires { own_fault row.now ≡ None }
+    requires { IsWellRow row.now }
     ensures weight { result ≡ node_weight row.now }
     ensures small { result ≤ 65537 }
 {
