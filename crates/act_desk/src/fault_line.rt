@@ -1,6 +1,6 @@
 ghost use Rattle.std.specs.Prelude.{◌≡◌, ◌++◌, codes, decimal, IfOk};
 ghost use Rattle.std.specs.String.{string_bytes};
-ghost use Rattle.act_desk.specs.FaultLine.{numbered, at_node, tree_fault_text, fault_text, fault_line};
+ghost use Rattle.act_desk.specs.FaultLine.{tree_fault_text, details, fault_text, fault_line};
 
 use snap_json::SnapFault;
 use snap_tree::{NodeId, OutOfMemory, Text, TreeFault};
@@ -18,71 +18,40 @@ pub fn fault_line(alloc: Global, fault: SnapFault) -> Result<Text, OutOfMemory>
 fn fault_text(alloc: Global, fault: SnapFault) -> Result<String, OutOfMemory>
     ensures { IfOk result (λ t. string_bytes t ≡ fault_text fault) }
 {
-    match fault {
-        SnapFault::NotJson => numbered(alloc, 1, "NotJson"),
-        SnapFault::Shape { place, field } => shape(alloc, place, field.name()),
-        SnapFault::BadUrl => numbered(alloc, 3, "BadUrl"),
-        SnapFault::Tree(fault) => {
-            let tree = numbered(alloc, 4, "Tree")?;
-            let fault = tree_fault_text(alloc, fault)?;
-            joined(alloc, tree.as_str(), fault.as_str())
-        }
-        SnapFault::TooLong => numbered(alloc, 5, "TooLong"),
-        SnapFault::OutOfMemory => Ok(String::new(alloc)),
+    let name = fault.name();
+    let details = details(alloc, fault)?;
+    match fault.number() {
+        Some(number) => Ok(format!(in alloc; " {number} {name}{details}")?),
+        None => Err(OutOfMemory),
     }
+}
+
+fn details(alloc: Global, fault: SnapFault) -> Result<String, OutOfMemory>
+    ensures { IfOk result (λ t. string_bytes t ≡ details fault) }
+{
+    match fault {
+        SnapFault::Shape { place, field } => shape(alloc, place, field.name()),
+        SnapFault::Tree(fault) => tree_fault_text(alloc, fault),
+        _ => Ok(String::new(alloc)),
+    }
+}
+
+fn shape(alloc: Global, place: u32, field: &str) -> Result<String, OutOfMemory>
+    ensures { IfOk result
+        (λ t. string_bytes t ≡ codes " place " ++ decimal place ++ codes " field " ++ field.now) }
+{
+    Ok(format!(in alloc; " place {place} field {field}")?)
 }
 
 fn tree_fault_text(alloc: Global, fault: TreeFault) -> Result<String, OutOfMemory>
     ensures { IfOk result (λ t. string_bytes t ≡ tree_fault_text fault) }
 {
-    match fault {
-        TreeFault::Empty => numbered(alloc, 1, "Empty"),
-        TreeFault::TooMany => numbered(alloc, 2, "TooMany"),
-        TreeFault::DoubleNumber { node } => on_node(alloc, 3, "DoubleNumber", node),
-        TreeFault::ParentUnknownOrNotOpen { node } => on_node(
-            alloc,
-            4,
-            "ParentUnknownOrNotOpen",
-            node,
-        ),
-        TreeFault::TooDeep { node } => on_node(alloc, 5, "TooDeep", node),
-        TreeFault::TooManyAttrs { node } => on_node(alloc, 6, "TooManyAttrs", node),
-        TreeFault::TextTooLong { node } => on_node(alloc, 7, "TextTooLong", node),
-        TreeFault::DoubleAttr { node } => on_node(alloc, 8, "DoubleAttr", node),
-        TreeFault::TextHasKids { node } => on_node(alloc, 9, "TextHasKids", node),
-        TreeFault::ReferenceWeight => numbered(alloc, 10, "ReferenceWeight"),
-        TreeFault::RootNotElement { node } => on_node(alloc, 11, "RootNotElement", node),
-        TreeFault::EmptyName { node } => on_node(alloc, 12, "EmptyName", node),
+    let number = fault.number();
+    let name = fault.name();
+    match fault.node() {
+        Some(NodeId(node)) => Ok(format!(in alloc; " {number} {name} node {node}")?),
+        None => Ok(format!(in alloc; " {number} {name}")?),
     }
-}
-
-#[tactic(auto, unfolding(crate::specs::FaultLine::numbered))]
-fn numbered(alloc: Global, number: u8, name: &str) -> Result<String, OutOfMemory>
-    ensures { IfOk result (λ t. string_bytes t ≡ numbered number name.now) }
-{
-    Ok(format!(in alloc; " {number} {name}")?)
-}
-
-fn on_node(alloc: Global, number: u8, name: &str, node: NodeId) -> Result<String, OutOfMemory>
-    ensures { IfOk result (λ t. string_bytes t ≡ numbered number name.now ++ at_node node) }
-{
-    let fault = numbered(alloc, number, name)?;
-    let n = node.0;
-    Ok(format!(in alloc; "{fault} node {n}")?)
-}
-
-fn shape(alloc: Global, place: u32, field: &str) -> Result<String, OutOfMemory>
-    ensures { IfOk result (λ t. string_bytes t
-        ≡ numbered 2 (codes "Shape") ++ codes " place " ++ decimal place ++ codes " field " ++ field.now) }
-{
-    let fault = numbered(alloc, 2, "Shape")?;
-    Ok(format!(in alloc; "{fault} place {place} field {field}")?)
-}
-
-fn joined(alloc: Global, first: &str, second: &str) -> Result<String, OutOfMemory>
-    ensures { IfOk result (λ t. string_bytes t ≡ first.now ++ second.now) }
-{
-    Ok(format!(in alloc; "{first}{second}")?)
 }
 
 #[cfg(test)]
