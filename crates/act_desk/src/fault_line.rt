@@ -1,9 +1,8 @@
-ghost use Rattle.std.specs.Prelude.{◌≡◌, ◌++◌, codes, decimal, IfOk};
-ghost use Rattle.std.specs.String.{string_bytes};
-ghost use Rattle.act_desk.specs.FaultLine.{tree_fault_text, details, fault_text, fault_line};
+ghost use Rattle.std.specs.Prelude.{◌≡◌, IfOk};
+ghost use Rattle.act_desk.specs.FaultLine.{fault_line};
 
 use snap_json::SnapFault;
-use snap_tree::{NodeId, OutOfMemory, Text, TreeFault};
+use snap_tree::{OutOfMemory, Text};
 use std::alloc::Global;
 
 /// The line that names what is wrong with a snapshot: the number and the name of the fault, and then
@@ -11,47 +10,7 @@ use std::alloc::Global;
 pub fn fault_line(alloc: Global, fault: SnapFault) -> Result<Text, OutOfMemory>
     ensures { IfOk result (λ line. line ≡ fault_line fault) }
 {
-    let fault = fault_text(alloc, fault)?;
-    Ok(Text::from_string(format!(in alloc; "snapshot fault{fault}\n")?))
-}
-
-fn fault_text(alloc: Global, fault: SnapFault) -> Result<String, OutOfMemory>
-    ensures { IfOk result (λ t. string_bytes t ≡ fault_text fault) }
-{
-    let name = fault.name();
-    let details = details(alloc, fault)?;
-    match fault.number() {
-        Some(number) => Ok(format!(in alloc; " {number} {name}{details}")?),
-        None => Err(OutOfMemory),
-    }
-}
-
-fn details(alloc: Global, fault: SnapFault) -> Result<String, OutOfMemory>
-    ensures { IfOk result (λ t. string_bytes t ≡ details fault) }
-{
-    match fault {
-        SnapFault::Shape { place, field } => shape(alloc, place, field.name()),
-        SnapFault::Tree(fault) => tree_fault_text(alloc, fault),
-        _ => Ok(String::new(alloc)),
-    }
-}
-
-fn shape(alloc: Global, place: u32, field: &str) -> Result<String, OutOfMemory>
-    ensures { IfOk result
-        (λ t. string_bytes t ≡ codes " place " ++ decimal place ++ codes " field " ++ field.now) }
-{
-    Ok(format!(in alloc; " place {place} field {field}")?)
-}
-
-fn tree_fault_text(alloc: Global, fault: TreeFault) -> Result<String, OutOfMemory>
-    ensures { IfOk result (λ t. string_bytes t ≡ tree_fault_text fault) }
-{
-    let number = fault.number();
-    let name = fault.name();
-    match fault.node() {
-        Some(NodeId(node)) => Ok(format!(in alloc; " {number} {name} node {node}")?),
-        None => Ok(format!(in alloc; " {number} {name}")?),
-    }
+    Ok(Text::from_string(format!(in alloc; "snapshot fault {fault}\n")?))
 }
 
 #[cfg(test)]
@@ -59,6 +18,7 @@ mod tests {
     use super::*;
     use crate::tests::is_text;
     use snap_json::Field;
+    use snap_tree::{NodeId, TreeFault};
     use std::process::Abort;
     use std::test::Fail;
 

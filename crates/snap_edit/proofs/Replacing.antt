@@ -1,5 +1,6 @@
 -- The first node of a number, and the rows of trees in which others stand in its place.
 use Rattle.std.proofs.Common.{◌≡◌, ℕ, ◌+◌, ◌==◌, List, [], ◌∷◌, ◌++◌, length, Bool, true, false, ◌||◌, Option, Some, None, unwrap_or, refl, sym, ◌∙◌, ap, subst, arith, inl, inr, ◌⊎◌, append_assoc, add-zero}
+use Rattle.std.proofs.lemmas.Bool.{or_parts}
 use Rattle.std.specs.List.{list_any}
 use Rattle.snap_tree.specs.declared.row.NodeId.{NodeId}
 use Rattle.snap_tree.specs.declared.row.Row.{Row}
@@ -10,7 +11,7 @@ use Rattle.snap_tree.specs.Places.{place_from}
 use Rattle.snap_tree.specs.Well.{AreApart}
 use Rattle.snap_tree.specs.Naming.{AreNamed}
 use Rattle.snap_tree.proofs.Growth.{rows_of-beside}
-use Rattle.snap_tree.proofs.Climbing.{any_append, or_false, apart_append, later_number, spot_any}
+use Rattle.snap_tree.proofs.Climbing.{any_append, apart_append, later_number, spot_any}
 use Rattle.snap_edit.specs.Trees.{replaced}
 
 -- the trees hold this spot of the number, and no other node of it
@@ -64,7 +65,7 @@ pub none_in_both :
     → list_any (has_number n) (xs ++ ys) ≡ false
     → (list_any (has_number n) xs ≡ false) × (list_any (has_number n) ys ≡ false)
 none_in_both n xs ys h =
-    or_false (list_any (has_number n) xs) (list_any (has_number n) ys) (sym (any_append n xs ys) ∙ h)
+    or_parts (list_any (has_number n) xs) (list_any (has_number n) ys) (sym (any_append n xs ys) ∙ h)
 
 -- where the trees don't hold the number, they stay
 pub absent :
@@ -72,7 +73,7 @@ pub absent :
     → list_any (has_number n) (rows_of t) ≡ false → replaced n f t ≡ t
 absent n f empty h = refl
 absent n f (tree r kids after) h =
-    let first = or_false (has_number n r) (list_any (has_number n) (rows_of kids ++ rows_of after)) h in
+    let first = or_parts (has_number n r) (list_any (has_number n) (rows_of kids ++ rows_of after)) h in
     let rest = none_in_both n (rows_of kids) (rows_of after) first.1 in
     let below = absent n f kids rest.0 in
     rw first.0 (ap (λ k. tree r k (replaced n f after)) below ∙ ap (tree r kids) (absent n f after rest.1))
@@ -203,7 +204,7 @@ pub place_after :
     → place_from from n.0 (before ++ r ∷ rest) ≡ Some (from + length before)
 place_after from n [] r rest h e = rw e (ap Some (sym (add-zero from)))
 place_after from n (x ∷ before) r rest h e =
-    let both = or_false (has_number n x) (list_any (has_number n) before) h in
+    let both = or_parts (has_number n x) (list_any (has_number n) before) h in
     let first : (x.id.0 == n.0) ≡ false = both.0 in
     let sums : from + 1 + length before ≡ from + length (x ∷ before) = omega arith in
     rw first (place_after (from + 1) n before r rest both.1 e ∙ ap Some sums)

@@ -1,5 +1,6 @@
 -- The ancestors of a node are the nodes that its parent leads to.
 use Rattle.std.proofs.Common.{◌≡◌, ◌==◌, List, [], ◌∷◌, ◌++◌, Bool, true, false, ◌||◌, Option, Some, None, IfSome, option_and_then, refl, sym, ◌∙◌, ap, subst, arith, inl, inr, ◌⊎◌}
+use Rattle.std.proofs.lemmas.Bool.{or_parts}
 use Rattle.std.proofs.lemmas.Bool.Decides.{nat_tests}
 use Rattle.std.specs.Option.{option_map, option_map_or}
 use Rattle.std.specs.List.{list_any, find}
@@ -23,15 +24,11 @@ any_append n (x ∷ xs) ys = by_number (has_number n x) refl (any_append n xs ys
     by_number true e h = rw e refl
     by_number false e h = rw e h
 
-pub or_false : (a b : Bool) → (a || b) ≡ false → (a ≡ false) × (b ≡ false)
-or_false true b h = cc
-or_false false b h = (refl, h)
-
 pub apart_append : (xs ys : List Row) → AreApart (xs ++ ys) → AreApart xs × AreApart ys
 apart_append [] ys h = (tt, h)
 apart_append (x ∷ xs) ys h =
     let rest = apart_append xs ys h.1 in
-    let both = or_false _ _ (sym (any_append x.id xs ys) ∙ h.0) in
+    let both = or_parts _ _ (sym (any_append x.id xs ys) ∙ h.0) in
     ((both.0, rest.0), rest.1)
 
 pub found_any : (n : NodeId) (rows : List Row) (x : Row) → find (has_number n) rows ≡ Some x → list_any (has_number n) rows ≡ true
@@ -52,7 +49,7 @@ later_number n (x ∷ xs) ys a h = by_number (has_number n x) refl (later_number
 
     by_number : (b : Bool) → has_number n x ≡ b → list_any (has_number n) xs ≡ false → list_any (has_number n) (x ∷ xs) ≡ false
     by_number true e k =
-        let clash : list_any (has_number x.id) ys ≡ false = (or_false (list_any (has_number x.id) xs) (list_any (has_number x.id) ys) (sym (any_append x.id xs ys) ∙ a.0)).1 in
+        let clash : list_any (has_number x.id) ys ≡ false = (or_parts (list_any (has_number x.id) xs) (list_any (has_number x.id) ys) (sym (any_append x.id xs ys) ∙ a.0)).1 in
         let clashes : true ≡ false = sym h ∙ sym (same_any ys e) ∙ clash in cc
     by_number false e k = rw e k
 
