@@ -122,7 +122,7 @@ spot_changed n g above (tree r kids after) s k (inr (inr h)) =
     let e : has_number n r ≡ false = h.0 in
     rw e (rw e (ap (λ t. option_or (spot_in n (r ∷ above) t) (spot_in n above (changed n g after))) (absent n (λ r kids. tree (g r) kids empty) kids h.1) ∙ ap (λ o. option_or o (spot_in n above (changed n g after))) (none_any n (r ∷ above) kids h.1) ∙ spot_changed n g above after s k h.2))
 
-text_kept : (f : List Attr → List Attr) (r : Row) → is_text (with_attrs f r) ≡ is_text r
+pub text_kept : (f : List Attr → List Attr) (r : Row) → is_text (with_attrs f r) ≡ is_text r
 text_kept f r = by_body r.body
   where
     by_body : (b : Body) → is_text (record { id = r.id; parent = r.parent; body = body_with f b; facts = r.facts }) ≡ is_text (record { id = r.id; parent = r.parent; body = b; facts = r.facts })
