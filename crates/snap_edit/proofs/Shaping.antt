@@ -10,7 +10,7 @@ use Rattle.snap_tree.specs.declared.row.Body.{Body}
 use Rattle.snap_tree.specs.declared.row.Body.TheVariants.{Element, Words}
 use Rattle.snap_tree.specs.declared.fault.TreeFault.{TreeFault}
 use Rattle.snap_tree.specs.declared.fault.TreeFault.TheVariants.{ReferenceWeight}
-use Rattle.snap_tree.specs.Trees.{Trees, empty, tree, rows_of, beside}
+use Rattle.snap_tree.specs.Trees.{Trees, empty, tree, rows_of}
 use Rattle.snap_tree.specs.Grown.{grown}
 use Rattle.snap_tree.specs.Rows.{has_number, is_text, same_folded}
 use Rattle.snap_tree.specs.Spots.{Spot, spot, number_of}
@@ -20,7 +20,7 @@ use Rattle.snap_tree.specs.Well.{IsPlaced, EachPlaced, HasRoot, AreApart}
 use Rattle.snap_tree.specs.WellRow.{IsWellBody, IsWellRow}
 use Rattle.snap_tree.proofs.Cuts.{length-rows_of}
 use Rattle.snap_tree.proofs.EachRow.{all_append, all_parts}
-use Rattle.snap_tree.proofs.Wellness.{IsShaped, shaped, shape_of_sound}
+use Rattle.snap_tree.proofs.Wellness.{placed_beside, IsShaped, shaped, shape_of_sound}
 use Rattle.snap_tree.proofs.Soundness.{regrown_shaped, shape_of_placed}
 use Rattle.snap_edit.specs.declared.edit.Edit.TheVariants.{DropAttr, Remove}
 use Rattle.snap_edit.specs.declared.fault.EditKind.TheVariants.{NoNode, NotElement, RootMoved, Tree}
@@ -90,10 +90,6 @@ placed_under xs ys empty e l h = tt
 placed_under xs ys (tree r kids after) e l h =
     (record { named = h.0.named ∙ e; shallow = subst (λ n. n < most_depth) l h.0.shallow; childless = h.0.childless }, (placed_under (r ∷ xs) (r ∷ ys) kids refl (ap suc l) h.1.0, placed_under xs ys after e l h.1.1))
 
-placed_both : (above : List Row) (a b : Trees) → EachPlaced above a → EachPlaced above b → EachPlaced above (beside a b)
-placed_both above empty b h k = k
-placed_both above (tree r kids after) b h k = (h.0, (h.1.0, placed_both above after b h.1.1 k))
-
 -- what stands in a node's place below the same nodes is placed there
 abbrev KeepsPlace : (Row → Trees → Trees) → Type 0
 KeepsPlace f = (above : List Row) (r : Row) (kids : Trees) → IsPlaced above r kids → EachPlaced (r ∷ above) kids → EachPlaced above (f r kids)
@@ -107,7 +103,7 @@ placed_replaced n f above (tree r kids after) k h =
     own = record { named = h.0.named; shallow = h.0.shallow; childless = λ text. ap (replaced n f) (h.0.childless text) }
 
     by_number : (b : Bool) → has_number n r ≡ b → EachPlaced (r ∷ above) (replaced n f kids) → EachPlaced above (replaced n f after) → EachPlaced above (replaced n f (tree r kids after))
-    by_number true e lower later = rw e (placed_both above (f r kids) after (k above r kids h.0 h.1.0) h.1.1)
+    by_number true e lower later = rw e (placed_beside above (f r kids) after (k above r kids h.0 h.1.0) h.1.1)
     by_number false e lower later = rw e (own, (lower, later))
 
 -- ---- an attribute taken out
