@@ -9,3 +9,4 @@ pub mod Undoing
 pub mod Taking
 pub mod Numbers
 pub mod TakenAlone
+pub mod Shaping

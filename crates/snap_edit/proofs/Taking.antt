@@ -30,7 +30,7 @@ any_less n xs ys zs h =
     let inner = none_in_both n ys zs outer.1 in
     any_append n xs zs ∙ ap (λ b. b || list_any (has_number n) zs) outer.0 ∙ inner.1
 
-apart_less : (xs ys zs : List Row) → AreApart (xs ++ (ys ++ zs)) → AreApart (xs ++ zs)
+pub apart_less : (xs ys zs : List Row) → AreApart (xs ++ (ys ++ zs)) → AreApart (xs ++ zs)
 apart_less [] ys zs a = (apart_append ys zs a).1
 apart_less (x ∷ xs) ys zs a = (any_less x.id xs ys zs a.0, apart_less xs ys zs a.1)
 

@@ -165,7 +165,7 @@ spot_changed n g above (tree r kids after) s k (inr (inr h)) =
     let later = spot_changed n g above after s k h.2 in
     rw e (rw e (ap (λ o. option_or o (spot_in n above (changed n g after))) none ∙ later))
 
-text_kept : (f : List Attr → List Attr) (r : Row) → is_text (with_attrs f r) ≡ is_text r
+pub text_kept : (f : List Attr → List Attr) (r : Row) → is_text (with_attrs f r) ≡ is_text r
 text_kept f r = by_body r.body
   where
     by_body : (b : Body) → is_text (with_body r (body_with f b)) ≡ is_text (with_body r b)

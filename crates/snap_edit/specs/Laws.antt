@@ -3,6 +3,8 @@ use Rattle.std.specs.Prelude.{◌≡◌, ◌+◌, ◌≤◌, ℕ, List, ◌++◌
 use Rattle.std.specs.Option.{IfSome}
 use Rattle.snap_tree.specs.declared.row.NodeId.{NodeId}
 use Rattle.snap_tree.specs.declared.row.Row.{Row}
+use Rattle.snap_tree.specs.declared.fault.TreeFault.{TreeFault}
+use Rattle.snap_tree.specs.declared.fault.TreeFault.TheVariants.{ReferenceWeight}
 use Rattle.snap_tree.specs.Trees.{Trees}
 use Rattle.snap_tree.specs.Grown.{grown}
 use Rattle.snap_tree.specs.Rows.{attribute}
@@ -10,6 +12,7 @@ use Rattle.snap_tree.specs.Spots.{spot}
 use Rattle.snap_tree.specs.Faults.{tree_fault}
 use Rattle.snap_edit.specs.declared.edit.Edit.{Edit}
 use Rattle.snap_edit.specs.declared.edit.Edit.TheVariants.{SetAttr, DropAttr}
+use Rattle.snap_edit.specs.declared.fault.EditKind.TheVariants.{Tree}
 use Rattle.snap_edit.specs.declared.fault.EditFault.{EditFault}
 use Rattle.snap_edit.specs.declared.fault.EditFault.TheVariants.{At}
 use Rattle.snap_edit.specs.declared.fault.EditFault.TheVariants as fault
@@ -38,3 +41,7 @@ DropUndoesSet =
     (rows : List Row) (n : NodeId) (name value : List ℕ) (t : Trees)
     → tree_fault rows ≡ None → IfSome (spot (grown rows) n) (λ s. attribute name s.row ≡ None)
     → edited (grown rows) (SetAttr n name value) ≡ Ok t → edited t (DropAttr n name) ≡ Ok (grown rows)
+
+-- a page so edited has one fault at the most: what references find is too heavy
+abbrev pub IsHeavyAtMost : Edit → Type 0
+IsHeavyAtMost e = (rows : List Row) (f : TreeFault) → tree_fault rows ≡ None → edited (grown rows) e ≡ Err (Tree f) → f ≡ ReferenceWeight

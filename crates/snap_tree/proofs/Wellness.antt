@@ -81,9 +81,9 @@ pub record IsGood (r : Row) (above : List Row) : Type 0 where
   pub leaf : IsPlaced above r empty
   pub below_element : is_below_text above ≡ false
 
-placed-beside : (above : List Row) (t : Trees) (r : Row) → EachPlaced above t → IsPlaced above r empty → EachPlaced above (beside t (tree r empty empty))
-placed-beside above empty r h p = (p, (tt, tt))
-placed-beside above (tree x kids after) r h p = (h.0, (h.1.0, placed-beside above after r h.1.1 p))
+pub placed_beside : (above : List Row) (t others : Trees) → EachPlaced above t → EachPlaced above others → EachPlaced above (beside t others)
+placed_beside above empty others h k = k
+placed_beside above (tree x kids after) others h k = (h.0, (h.1.0, placed_beside above after others h.1.1 k))
 
 abbrev Stays : Row → List Row → Trees → Option Trees → Type 0
 Stays r above t new = MatchOption new (Unit {0}) (λ t'. IsGood r (from_parent r (open_rows t) ++ above) → EachPlaced above t')
@@ -123,7 +123,7 @@ stays_below r x above kids (Some k) b eo e p h s w = λ good.
     (placed_over above x k kids p element, (s (subst (IsGood r) (above_lower r x w.parent (open_rows kids) w.above above w.found) good), tt))
 stays_below r x above kids None true eo e p h s w = λ good.
     let g = subst (IsGood r) (above_last r x (open_rows kids) above w e) good in
-    (placed_over above x (beside kids (tree r empty empty)) kids p g.below_element, (placed-beside (x ∷ above) kids r h g.leaf, tt))
+    (placed_over above x (beside kids (tree r empty empty)) kids p g.below_element, (placed_beside (x ∷ above) kids (tree r empty empty) h (g.leaf, (tt, tt)), tt))
 stays_below r x above kids None false eo e p h s w = tt
 
 stays_after : (r x : Row) (above : List Row) (kids s : Trees) (o : Option Trees) → open_rows (tree x kids s) ≡ open_rows s → IsPlaced above x kids → EachPlaced (x ∷ above) kids → Stays r above s o → Stays r above (tree x kids s) (option_map (tree x kids) o)

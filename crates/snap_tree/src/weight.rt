@@ -1,7 +1,6 @@
 ghost use Rattle.std.specs.Prelude.{◌≡◌, ◌+◌, ◌^◌, ◌<◌, ◌≤◌, None, length, nat_lt, IfOk};
 ghost use Rattle.std.specs.Option.{option_copied};
 ghost use Rattle.std.specs.List.{sum_by, AllByRecursion};
-ghost use Rattle.snap_tree.specs.Rows.{most_attrs};
 ghost use Rattle.snap_tree.specs.Grown.{grown};
 ghost use Rattle.snap_tree.specs.Faults.{most_nodes, shape_fault};
 ghost use Rattle.snap_tree.specs.WellRow.{IsWellRow};
