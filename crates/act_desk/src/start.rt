@@ -144,11 +144,8 @@ mod tests {
     fn an_error_of_the_arguments_has_its_status(rt: HostRuntime) {
         // a word that is no text, and want of memory
         for (kind, status) in [(ErrorKind::InvalidData, 2), (ErrorKind::OutOfMemory, 8)] {
-            is_status(
-                &rt,
-                Some(Refusal::from(io::Error::from(kind)).status().number()),
-                Some(status),
-            );
+            let refusal = Refusal::from(io::Error::from(kind));
+            is_status(&rt, Some(refusal.status().number()), Some(status));
         }
     }
 }
