@@ -10,3 +10,5 @@ pub mod Taking
 pub mod Numbers
 pub mod TakenAlone
 pub mod Shaping
+pub mod Bare
+pub mod Facts

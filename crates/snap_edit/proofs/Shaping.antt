@@ -1,4 +1,5 @@
--- An attribute or a subtree taken out of a page keeps its shape, so that it can only become too heavy.
+-- A page whose row is changed, or from which a subtree is taken, keeps its shape: it can only become too
+-- heavy.
 use Rattle.std.proofs.Common.{◌≡◌, ℕ, suc, ◌<◌, ◌≤◌, List, [], ◌∷◌, ◌++◌, length, map, Bool, true, false, ◌||◌, nat_lt, Option, Some, None, Ok, Err, if◌then◌else◌, refl, sym, ◌∙◌, ap, subst, arith}
 use Rattle.std.proofs.lemmas.List.{length-append, append-nil}
 use Rattle.std.specs.Option.{option_map_or}
@@ -106,7 +107,7 @@ placed_replaced n f above (tree r kids after) k h =
     by_number true e lower later = rw e (placed_beside above (f r kids) after (k above r kids h.0 h.1.0) h.1.1)
     by_number false e lower later = rw e (own, (lower, later))
 
--- ---- an attribute taken out
+-- ---- a row changed in its place
 
 any_swapped : (n : NodeId) (xs ys : List Row) (r new : Row) → new.id ≡ r.id → list_any (has_number n) (xs ++ new ∷ ys) ≡ list_any (has_number n) (xs ++ r ∷ ys)
 any_swapped n [] ys r new e = ap (λ id. has_number n (record { id = id; parent = r.parent; body = r.body; facts = r.facts }) || list_any (has_number n) ys) e
@@ -116,32 +117,41 @@ apart_swapped : (xs ys : List Row) (r new : Row) → new.id ≡ r.id → AreApar
 apart_swapped [] ys r new e a = (ap (λ id. list_any (has_number id) ys) e ∙ a.0, a.1)
 apart_swapped (x ∷ xs) ys r new e a = (any_swapped x.id xs ys r new e ∙ a.0, apart_swapped xs ys r new e a.1)
 
-root_changed : (n : NodeId) (f : List Attr → List Attr) (t : Trees) → HasRoot t → HasRoot (changed n (with_attrs f) t)
-root_changed n f empty h = absurd h
-root_changed n f (tree r kids empty) h = by_number (has_number n r) refl
-  where
-    by_number : (b : Bool) → has_number n r ≡ b → HasRoot (changed n (with_attrs f) (tree r kids empty))
-    by_number true e = rw e (text_kept f r ∙ h)
-    by_number false e = rw e h
-root_changed n f (tree r kids (tree y below after)) h = absurd h
+-- a row so changed keeps its number and its parent, stays a text or an element, and keeps its limits
+pub record KeepsRow (g : Row → Row) : Type 0 where
+  pub id : (r : Row) → (g r).id ≡ r.id
+  pub parent : (r : Row) → (g r).parent ≡ r.parent
+  pub text : (r : Row) → is_text (g r) ≡ is_text r
+  pub well : (r : Row) → IsWellRow r → IsWellRow (g r)
 
-shaped_dropped : (n : NodeId) (name : List ℕ) (t : Trees) (s : Spot) → IsShaped t → spot t n ≡ Some s → IsShaped (changed n (with_attrs (attrs_without name)) t)
-shaped_dropped n name t s h e =
-    let g = with_attrs (attrs_without name) in
+root_changed : (n : NodeId) (g : Row → Row) (t : Trees) → KeepsRow g → HasRoot t → HasRoot (changed n g t)
+root_changed n g empty k h = absurd h
+root_changed n g (tree r kids empty) k h = by_number (has_number n r) refl
+  where
+    by_number : (b : Bool) → has_number n r ≡ b → HasRoot (changed n g (tree r kids empty))
+    by_number true e = rw e (k.text r ∙ h)
+    by_number false e = rw e h
+root_changed n g (tree r kids (tree y below after)) k h = absurd h
+
+pub shaped_changed : (n : NodeId) (g : Row → Row) (t : Trees) (s : Spot) → KeepsRow g → IsShaped t → spot t n ≡ Some s → IsShaped (changed n g t)
+shaped_changed n g t s k h e =
     let p = parts n [] t s (finds n [] t s h.apart e) in
     let rest = rows_of s.below ++ p.later in
     let rows : rows_of (changed n g t) ≡ p.before ++ g s.row ∷ rest = p.new_rows (λ r kids. tree (g r) kids empty) ∙ ap (λ rs. p.before ++ g s.row ∷ (rs ++ p.later)) (append-nil (rows_of s.below)) in
     let wells = all_parts IsWellRow p.before (s.row ∷ rest) (subst (AllByRecursion IsWellRow) p.rows_are h.rows_well) in
     let keeps : KeepsPlace (λ r kids. tree (g r) kids empty) = λ above r kids placed lower.
-    (record { named = placed.named; shallow = placed.shallow; childless = λ text. placed.childless (sym (text_kept (attrs_without name) r) ∙ text) }, (placed_under (r ∷ above) (g r ∷ above) kids refl refl lower, tt))
+    (record { named = k.parent r ∙ placed.named; shallow = placed.shallow; childless = λ text. placed.childless (sym (k.text r) ∙ text) }, (placed_under (r ∷ above) (g r ∷ above) kids (ap Some (sym (k.id r))) refl lower, tt))
     in
     record {
-      rooted = root_changed n (attrs_without name) t h.rooted;
+      rooted = root_changed n g t k h.rooted;
       placed = placed_replaced n (λ r kids. tree (g r) kids empty) [] t keeps h.placed;
       few = omega (arith, h.few, length-rows_of t, length-rows_of (changed n g t), ap length p.rows_are, ap length rows, length-append p.before (s.row ∷ rest), length-append p.before (g s.row ∷ rest));
-      apart = subst AreApart (sym rows) (apart_swapped p.before rest s.row (g s.row) refl (subst AreApart p.rows_are h.apart));
-      rows_well = subst (AllByRecursion IsWellRow) (sym rows) (all_append IsWellRow p.before (g s.row ∷ rest) wells.0 (row_left name s.row wells.1.0, wells.1.1));
+      apart = subst AreApart (sym rows) (apart_swapped p.before rest s.row (g s.row) (k.id s.row) (subst AreApart p.rows_are h.apart));
+      rows_well = subst (AllByRecursion IsWellRow) (sym rows) (all_append IsWellRow p.before (g s.row ∷ rest) wells.0 (k.well s.row wells.1.0, wells.1.1));
     }
+
+attr_dropped : (name : List ℕ) → KeepsRow (with_attrs (attrs_without name))
+attr_dropped name = record { id = λ r. refl; parent = λ r. refl; text = text_kept (attrs_without name); well = row_left name }
 
 -- ---- a subtree taken out
 
@@ -191,7 +201,7 @@ dropped_by n name t f (Some x) e s h = by_text (is_text x.row) refl (rw e at h)
 
     by_text : (b : Bool) → is_text x.row ≡ b → then_settled (if is_text x.row then Err NotElement else Ok new) ≡ Err (Tree f) → f ≡ ReferenceWeight
     by_text true text h = let no : Err NotElement ≡ Err (Tree f) = rw text at h in cc
-    by_text false text h = too_heavy new f _ refl (shaped_dropped n name t x s e) (rw text at h)
+    by_text false text h = too_heavy new f _ refl (shaped_changed n (with_attrs (attrs_without name)) t x (attr_dropped name) s e) (rw text at h)
 
 removed_by : (n : NodeId) (t : Trees) (f : TreeFault) (o : Option Spot) → spot t n ≡ o → IsShaped t → edited t (Remove n) ≡ Err (Tree f) → f ≡ ReferenceWeight
 removed_by n t f None e s h = let no : Err NoNode ≡ Err (Tree f) = rw e at h in cc

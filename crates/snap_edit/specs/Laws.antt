@@ -2,6 +2,7 @@
 use Rattle.std.specs.Prelude.{◌≡◌, ◌+◌, ◌≤◌, ℕ, List, ◌++◌, length, None, Result, Ok, Err}
 use Rattle.std.specs.Option.{IfSome}
 use Rattle.snap_tree.specs.declared.row.NodeId.{NodeId}
+use Rattle.snap_tree.specs.declared.row.Facts.{Facts}
 use Rattle.snap_tree.specs.declared.row.Row.{Row}
 use Rattle.snap_tree.specs.declared.fault.TreeFault.{TreeFault}
 use Rattle.snap_tree.specs.declared.fault.TreeFault.TheVariants.{ReferenceWeight}
@@ -11,8 +12,9 @@ use Rattle.snap_tree.specs.Rows.{attribute}
 use Rattle.snap_tree.specs.Spots.{spot}
 use Rattle.snap_tree.specs.Faults.{tree_fault}
 use Rattle.snap_edit.specs.declared.edit.Edit.{Edit}
-use Rattle.snap_edit.specs.declared.edit.Edit.TheVariants.{SetAttr, DropAttr}
-use Rattle.snap_edit.specs.declared.fault.EditKind.TheVariants.{Tree}
+use Rattle.snap_edit.specs.declared.edit.Edit.TheVariants.{SetAttr, DropAttr, SetFacts}
+use Rattle.snap_edit.specs.declared.fault.EditKind.{EditKind}
+use Rattle.snap_edit.specs.declared.fault.EditKind.TheVariants.{NoNode, Tree}
 use Rattle.snap_edit.specs.declared.fault.EditFault.{EditFault}
 use Rattle.snap_edit.specs.declared.fault.EditFault.TheVariants.{At}
 use Rattle.snap_edit.specs.declared.fault.EditFault.TheVariants as fault
@@ -45,3 +47,9 @@ DropUndoesSet =
 -- a page so edited has one fault at the most: what references find is too heavy
 abbrev pub IsHeavyAtMost : Edit → Type 0
 IsHeavyAtMost e = (rows : List Row) (f : TreeFault) → tree_fault rows ≡ None → edited (grown rows) e ≡ Err (Tree f) → f ≡ ReferenceWeight
+
+-- other facts for a page's node are refused only where the page doesn't hold the number
+abbrev pub FactsBreakNothing : Type 0
+FactsBreakNothing =
+    (rows : List Row) (n : NodeId) (facts : Facts) (k : EditKind)
+    → tree_fault rows ≡ None → edited (grown rows) (SetFacts n facts) ≡ Err k → k ≡ NoNode
