@@ -1,15 +1,24 @@
 -- Known bytes over several reads and writes.
-use Rattle.std.proofs.Common.{◌≡◌, ℕ, ◌+◌, ◌≤◌, List, [], ◌++◌, length, take, drop, Option, Some, None, sym, ap, ◌∙◌, subst, IfSome, refl, append-nil}
+use Rattle.std.proofs.Common.{◌≡◌, ℕ, ◌+◌, ◌≤◌, List, [], ◌++◌, length, take, drop, Option, Some, None, sym, ap, ◌∙◌, subst, IfSome, refl, append-nil, length-append, arith}
 use Rattle.std.proofs.Math.Seq.{take-add, take-append_seam}
+use Rattle.std.proofs.lemmas.List.{length-take-le}
 use Rattle.std.specs.Io.KnownBytes.{Appends, Consumes, IsAtEnd}
 use Rattle.std.proofs.KnownBytes.{Appends-trans, Consumes-trans}
-use Rattle.act_desk.specs.Streams.{Gives, Takes, IsReadTo}
+use Rattle.act_desk.specs.Streams.{Gives, Takes, IsReadTo, ReadsAtMost}
 
 -- a write after a front of the bytes was written
 pub appends_more : (a b c : Option (List ℕ)) (bytes rest : List ℕ) (at n : ℕ) → Appends a b (take at bytes) → rest ≡ drop at bytes → Takes b c rest n → Appends a c (take (at + n) bytes)
 appends_more a b c bytes rest at n before same now =
     let P : List ℕ → Type 0 = λ written. Appends a c written in
     subst P (ap (λ r. take at bytes ++ take n r) same ∙ sym (take-add at n bytes)) (Appends-trans a b c (take at bytes) (take n rest) before now.grown)
+
+-- ---- no more is read than a limit
+
+pub read_within : (a b c : Option (List ℕ)) (bytes buf : List ℕ) (limit n : ℕ) → length bytes + n ≤ limit → Consumes a b bytes → Gives b c buf n → ReadsAtMost limit a c
+read_within a b c bytes buf limit n within before now =
+    (bytes ++ take n buf, omega (arith, within, length-append bytes (take n buf), length-take-le n buf now.fits), Consumes-trans a b c bytes (take n buf) before now.front)
+
+-- ---- reading to the end
 
 at_end : (a b c : Option (List ℕ)) (bytes buf : List ℕ) → Consumes a b bytes → Gives b c buf 0 → IfSome a (λ _. IsAtEnd c)
 at_end None b c bytes buf before now = tt

@@ -12,6 +12,7 @@ use Rattle.act_desk.specs.declared.status.Status.{Status}
 use Rattle.act_desk.specs.declared.status.Status.TheVariants.{NoneFailed, SomeFailed, UsageFault, ReadFault, WriteFault, SnapshotFault, StoreFault, NoMemory}
 use Rattle.act_desk.specs.Status.{status_number}
 use Rattle.act_desk.specs.Counts.{greatest, next, Rose, StoodStill}
+use Rattle.act_desk.specs.Streams.{ReadsAtMost}
 use Rattle.act_desk.specs.Audit.{Book, limit, Input, Gave, ReportsOn}
 use Rattle.act_desk.specs.Telling.{Output, Took, BrokeOff, command, Finds, report_in, line_on, status_of, IsReportCut, IsLineCut, Tells}
 use Rattle.act_desk.specs.Run.{Outside, Stays, GaveAll, HasPage, Says, Audits, BreaksReport, IsLine, BreaksLine, Means, OneOf, NoFaults, IsReported, Runs}
@@ -214,12 +215,13 @@ complete_refusal book words old new status m none (inl is) = let read : Means bo
 complete_refusal book words old new status m none (inr (inl is)) = absurd (no_write_fault book words old new none (subst (Means book words old new) is m))
 complete_refusal book words old new status m none (inr (inr others)) = others
 
-pub runs : (book : Book) (words : List (List ℕ)) (old new : Outside) (f : Found) (status : Status) (number : ℕ) → Finds book words old.input new.input f → Tells f old.out new.out old.err new.err status → number ≡ status_number status → Runs book words old new number
-runs book words old new f status number finds tells is =
+pub runs : (book : Book) (words : List (List ℕ)) (old new : Outside) (f : Found) (status : Status) (number : ℕ) → Finds book words old.input new.input f → ReadsAtMost limit old.input.left new.input.left → Tells f old.out new.out old.err new.err status → number ≡ status_number status → Runs book words old new number
+runs book words old new f status number finds stops tells is =
     let m = means book words old new f status finds tells in
     record {
       status = status;
       number_is = is;
+      stops = stops;
       means = m;
       bounded = record { other_words = other_words book words old new status m; no_snapshot = no_snapshot book words old new status m };
       complete = λ none. record {

@@ -9,7 +9,8 @@ use Rattle.act_desk.specs.declared.status.Status.TheVariants.{NoneFailed, SomeFa
 use Rattle.act_desk.specs.Status.{status_number, status_line}
 use Rattle.act_desk.specs.Counts.{Rose, StoodStill}
 use Rattle.act_desk.specs.FaultLine.{fault_line}
-use Rattle.act_desk.specs.Audit.{Book, report_of, fails, Input, Gave}
+use Rattle.act_desk.specs.Streams.{ReadsAtMost}
+use Rattle.act_desk.specs.Audit.{Book, report_of, fails, limit, Input, Gave}
 use Rattle.act_desk.specs.Telling.{Output, Took, BrokeOff, TookOrBroke, command}
 
 -- all that a run meets: a source, standard output and standard error
@@ -147,9 +148,11 @@ pub record IsComplete (book : Book) (words : List (List ℕ)) (old new : Outside
   pub no_snapshot : words ≡ command → (bytes : List ℕ) (fault : SnapFault) → old.input.left ≡ Some bytes → sent_tree bytes ≡ Err fault → OneOf (SnapshotFault ∷ NoMemory ∷ []) status
 
 -- What a run with a book and these words does to the outside, and what the number says that it gives.
+-- Whatever comes, it stops reading after 8,388,609 bytes.
 pub record Runs (book : Book) (words : List (List ℕ)) (old new : Outside) (number : ℕ) : Type 0 where
   pub status : Status
   pub number_is : number ≡ status_number status
+  pub stops : ReadsAtMost limit old.input.left new.input.left
   pub means : Means book words old new status
   pub bounded : IsBounded words old status
   pub complete : NoFaults old new → IsComplete book words old new status

@@ -28,6 +28,10 @@ pub record Writes (old new : Option (List ℕ)) (bytes : List ℕ) (result : Res
 abbrev pub AppendsFront : Option (List ℕ) → Option (List ℕ) → List ℕ → Type 0
 AppendsFront old new bytes = (n : ℕ) × (n < length bytes) × Appends old new (take n bytes)
 
+-- a source gave no more bytes than this
+abbrev pub ReadsAtMost : ℕ → Option (List ℕ) → Option (List ℕ) → Type 0
+ReadsAtMost limit old new = (bytes : List ℕ) × (length bytes ≤ limit) × Consumes old new bytes
+
 -- A source was read to its end, or to a limit: these are the bytes that it gave. At its end nothing is
 -- left of what it told.
 pub record IsReadTo (limit : ℕ) (old new : Option (List ℕ)) (bytes : List ℕ) : Type 0 where

@@ -1,5 +1,6 @@
 ghost use Rattle.std.specs.Prelude.{◌≡◌, IfOk};
-ghost use Rattle.act_desk.specs.Audit.{report_of, fails, IsFoundIn, IsFound};
+ghost use Rattle.act_desk.specs.Streams.{ReadsAtMost};
+ghost use Rattle.act_desk.specs.Audit.{report_of, fails, limit, IsFoundIn, IsFound};
 
 use crate::audit_page::audit_page;
 use crate::fault_line::fault_line;
@@ -17,9 +18,10 @@ const LIMIT: usize = 8_388_609;
 
 /// Reads one snapshot to the end of the source, or to the 8,388,609th byte, and judges it by a book.
 pub fn audit<I: Source, B: RuleBook>(alloc: Global, input: &mut I, book: &mut B) -> Found
-    ensures { IsFound (record { infos = B.infos; means = B.means })
+    ensures found { IsFound (record { infos = B.infos; means = B.means })
         (record { faults = I.faults input.old; left = I.left input.old })
         (record { faults = I.faults input.new; left = I.left input.new }) result }
+    ensures stops { ReadsAtMost limit (I.left input.old) (I.left input.new) }
 {
     match read_all(alloc, input, LIMIT) {
         Ok(bytes) => audit_bytes(alloc, bytes.as_slice(), book),

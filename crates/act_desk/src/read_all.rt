@@ -1,6 +1,6 @@
 ghost use Rattle.std.specs.Prelude.{◌≡◌, IfOk, vec_len};
 ghost use Rattle.act_desk.specs.ReadAll.{ReadCounts};
-ghost use Rattle.act_desk.specs.Streams.{IsReadTo};
+ghost use Rattle.act_desk.specs.Streams.{IsReadTo, ReadsAtMost};
 ghost use Rattle.act_desk.specs.declared.read_all.ReadFault.TheVariants.{OutOfMemory as NoMemory};
 
 use crate::source::Source;
@@ -24,11 +24,12 @@ impl From<AllocError> for ReadFault {
     }
 }
 
-/// All bytes that a source gives, but no more than the limit. `Failed` comes only where the source met
-/// a fault, and it isn't read again then.
+/// All bytes that a source gives, but no more than the limit; no more are read, whatever comes. `Failed`
+/// comes only where the source met a fault, and it isn't read again then.
 pub fn read_all<I: Source>(alloc: Global, input: &mut I, limit: usize) -> Result<Vec<u8>, ReadFault>
     ensures bytes { IfOk result (λ v. IsReadTo limit (I.left input.old) (I.left input.new) v.items) }
     ensures counts { ReadCounts (I.faults input.old) (I.faults input.new) result }
+    ensures stops { ReadsAtMost limit (I.left input.old) (I.left input.new) }
 {
     let mut bytes = Vec::new(alloc);
     let mut buf = zeros(alloc, PIECE)?;

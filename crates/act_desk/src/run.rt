@@ -1,5 +1,7 @@
 ghost use Rattle.std.specs.Prelude.{◌≡◌, ◌↔◌, codes, IsTrue};
 ghost use Rattle.act_desk.specs.Telling.{command, Finds};
+ghost use Rattle.act_desk.specs.Streams.{ReadsAtMost};
+ghost use Rattle.act_desk.specs.Audit.{limit};
 ghost use Rattle.act_desk.specs.Run.{Runs};
 
 use crate::audit::audit;
@@ -45,9 +47,10 @@ fn find<I: Source, B: RuleBook>(
     input: &mut I,
     book: &mut B,
 ) -> Found
-    ensures { Finds (record { infos = B.infos; means = B.means }) words.now
+    ensures found { Finds (record { infos = B.infos; means = B.means }) words.now
         (record { faults = I.faults input.old; left = I.left input.old })
         (record { faults = I.faults input.new; left = I.left input.new }) result }
+    ensures stops { ReadsAtMost limit (I.left input.old) (I.left input.new) }
 {
     if is_audit(words.as_slice()) {
         audit(alloc, input, book)

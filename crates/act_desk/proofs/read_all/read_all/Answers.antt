@@ -1,5 +1,5 @@
 use Rattle.std.proofs.Common.{arith, ap, ◌∙◌, take, drop, length, List, ℕ}
-use Rattle.act_desk.proofs.Known.{consumes_more, read_to_end, whole}
+use Rattle.act_desk.proofs.Known.{consumes_more, read_to_end, read_within, whole}
 use Rattle.act_desk.proofs.read_all.read_all.Goals as goal
 
 pub returns-then-n-eq0-clause-bytes : goal.returns-then-n-eq0-clause-bytes
@@ -19,3 +19,10 @@ loop-buf-preserved g c =
       consumes_more _ _ _ c.loop-buf.bytes.items _ _ c.read.new.buf c.in-Ok.n i.2 c.in_ok-extend_from_slice.ensures.items (c.split_at.ensures.front ∙ ap (λ l. take c.in-Ok.n l) (c.as_slice.ensures.value ∙ filled)) gave,
       c.in-Ok.ensures.counts.none ∙ i.3,
     )
+
+pub returns-in_err-extend_from_slice-clause-stops : goal.returns-in_err-extend_from_slice-clause-stops
+returns-in_err-extend_from_slice-clause-stops g c =
+    let i = c.loop-buf.invariant in
+    let gave = c.in-Ok.ensures.reads.gives in
+    read_within _ _ _ c.loop-buf.bytes.items c.read.new.buf c.args.limit c.in-Ok.n
+    (omega (arith, gave.fits, c.truncate.ensures.len, c.as_mut_slice.ensures.len)) i.2 gave
