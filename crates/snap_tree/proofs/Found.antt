@@ -1,6 +1,7 @@
 -- What the indexes of a tree find.
-use Rattle.std.proofs.Common.{◌≡◌, ℕ, suc, ◌+◌, ◌-◌, ◌<◌, ◌≤◌, ◌==◌, List, [], ◌∷◌, length, get_or, map, filter, Bool, true, false, Some, None, if◌then◌else◌, refl, sym, ◌∙◌, ap, arith, subst, Option, IfSome, nat_lt, Bor}
+use Rattle.std.proofs.Common.{◌≡◌, ℕ, suc, ◌+◌, ◌-◌, ◌<◌, ◌≤◌, ◌==◌, List, [], ◌∷◌, length, get_or, map, filter, Bool, true, false, Some, None, refl, sym, ◌∙◌, ap, arith, subst, Option, IfSome, nat_lt, Bor}
 use Rattle.std.proofs.lemmas.Bool.Decides.{nat_tests}
+use Rattle.std.proofs.lemmas.List.Elements.{filter_agree}
 use Rattle.std.specs.Option.{option_copied, is_some}
 use Rattle.std.specs.List.{find}
 use Rattle.snap_tree.specs.declared.row.Row.{Row}
@@ -70,9 +71,5 @@ tag_is tag (Element Svg t attrs) = refl
 tag_is tag (Element Other t attrs) = refl
 tag_is tag (Words text) = refl
 
-filter_alike : (p q : Row → Bool) → ((r : Row) → p r ≡ q r) → (rows : List Row) → filter p rows ≡ filter q rows
-filter_alike p q alike [] = refl
-filter_alike p q alike (r ∷ rows) = ap (λ b. if b then r ∷ filter p rows else filter p rows) (alike r) ∙ ap (λ rs. if q r then r ∷ rs else rs) (filter_alike p q alike rows)
-
 pub tagged_is : (tag : List ℕ) (rows : List Row) → keyed Tag (folded tag) rows ≡ map (λ r. r.id) (filter (is_html tag) rows)
-tagged_is tag rows = ap (map (λ r. r.id)) (filter_alike _ (is_html tag) (λ r. tag_is tag r.body) rows)
+tagged_is tag rows = ap (map (λ r. r.id)) (filter_agree _ (is_html tag) (λ r. tag_is tag r.body) rows)

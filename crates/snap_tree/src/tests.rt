@@ -126,12 +126,11 @@ fn has_tagged(alloc: Global, tree: &Tree, tag: &str, nodes: &[NodeId]) -> Result
 
 #[test]
 fn finds_html_elements_by_tag(rt: HostRuntime) -> Result<(), Fail> {
-    let tree = built(rt.alloc(), TITLES)?;
-    let cases: [(&str, &[NodeId]); 2] = [("Title", &[NodeId(3), NodeId(8)]), ("svg", &[])];
-    for (tag, nodes) in cases {
-        let is_found = has_tagged(rt.alloc(), &tree, tag, nodes)?;
-        assert!(rt; is_found, "{tag}");
-    }
+    let alloc = rt.alloc();
+    let tree = built(alloc, TITLES)?;
+    let titles = [NodeId(3), NodeId(8)];
+    assert!(rt; has_tagged(alloc, &tree, "Title", titles.as_slice())?);
+    assert!(rt; has_tagged(alloc, &tree, "svg", [].as_slice())?);
     Ok(())
 }
 

@@ -58,10 +58,14 @@ pub(super) fn has_labels(
 // A page, and a node of it with its labels.
 type Case<'a> = (&'a str, u32, &'a str);
 
+fn labels_are(alloc: Global, page: &str, number: u32, labels: &str) -> Result<bool, Fail> {
+    let tree = built(alloc, page)?;
+    has_labels(alloc, &tree, number, labels)
+}
+
 fn each_labelled(rt: &impl Abort, alloc: Global, cases: &[Case<'_>]) -> Result<(), Fail> {
     for (page, number, labels) in cases {
-        let tree = built(alloc, page)?;
-        let is_labelled = has_labels(alloc, &tree, *number, labels)?;
+        let is_labelled = labels_are(alloc, page, *number, labels)?;
         assert!(rt; is_labelled, "{page} {number}");
     }
     Ok(())
