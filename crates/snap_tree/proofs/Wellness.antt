@@ -277,19 +277,16 @@ light_by : (t : Trees) (b : Bool) → nat_lt MOST_WEIGHT (reference_weight t) �
 light_by t true e h = let no : Some ReferenceWeight ≡ None = rw e at h in cc
 light_by t false e h = grind (arith, nat_tests)
 
+-- a shaped tree whose references aren't too heavy is well
+pub light_well : (t : Trees) → IsShaped t → reference_weight t ≤ MOST_WEIGHT → IsWell t
+light_well t s light = record { rooted = s.rooted; placed = s.placed; few = s.few; apart = s.apart; rows_well = s.rows_well; light = light }
+
 -- rows without a fault make a well tree
 pub well_from_sound : (rows : List Row) → tree_fault rows ≡ None → IsWell (grown rows)
 well_from_sound rows h =
     let parts = sound_parts rows h in
-    let s = shaped rows parts.0 in
-    record {
-      rooted = s.rooted;
-      placed = s.placed;
-      few = s.few;
-      apart = s.apart;
-      rows_well = s.rows_well;
-      light = light_by (grown rows) (nat_lt MOST_WEIGHT (reference_weight (grown rows))) refl parts.1;
-    }
+    let t = grown rows in
+    light_well t (shaped rows parts.0) (light_by t (nat_lt MOST_WEIGHT (reference_weight t)) refl parts.1)
 
 -- ---- what a sound shape tells of the rows themselves
 
