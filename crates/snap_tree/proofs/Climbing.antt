@@ -1,8 +1,8 @@
 -- The ancestors of a node are the nodes that its parent leads to.
-use Rattle.std.proofs.Common.{◌≡◌, ◌==◌, List, [], ◌∷◌, ◌++◌, Bool, true, false, ◌||◌, Option, Some, None, IfSome, option_and_then, refl, sym, ◌∙◌, ap, subst, arith, inl, inr, ◌⊎◌}
+use Rattle.std.proofs.Common.{◌≡◌, ◌==◌, List, [], ◌∷◌, ◌++◌, Bool, true, false, ◌||◌, Option, Some, None, IfSome, option_and_then, refl, sym, ◌∙◌, ap, subst, arith, inl, inr, ◌⊎◌, Bor}
 use Rattle.std.proofs.lemmas.Bool.{or_parts}
 use Rattle.std.proofs.lemmas.Bool.Decides.{nat_tests}
-use Rattle.std.specs.Option.{option_map, option_map_or}
+use Rattle.std.specs.Option.{option_map, option_map_or, option_copied}
 use Rattle.std.specs.List.{list_any, find}
 use Rattle.snap_tree.specs.declared.row.NodeId.{NodeId}
 use Rattle.snap_tree.specs.declared.row.Row.{Row}
@@ -62,6 +62,10 @@ none_any n above t h = by_spot (spot_in n above t) refl
     by_spot : (o : Option Spot) → spot_in n above t ≡ o → spot_in n above t ≡ None
     by_spot None e = e
     by_spot (Some s) e = let no : true ≡ false = sym (spot_any n above t s e) ∙ h in cc
+
+pub copied_none : (o : Option (Bor Row)) → option_copied o ≡ None → o ≡ None
+copied_none None h = refl
+copied_none (Some r) h = cc
 
 pub absent_row : (t : Trees) (n : NodeId) → IsAbsent t n → node t n ≡ None
 absent_row t n h = sym (spot_row n [] t) ∙ ap (option_map (λ s. s.row)) (none_any n [] t h)
