@@ -1,5 +1,5 @@
 -- A web address is what stands for itself, and what a text stands for is a web address.
-use Rattle.std.proofs.Common.{◌≡◌, ℕ, Bool, true, cond, List, Some, None, Ok, refl, sym, ap, subst, ◌∙◌}
+use Rattle.std.proofs.Common.{◌≡◌, ℕ, true, cond, List, Some, None, Ok, refl, sym, ap, subst, ◌∙◌}
 use Rattle.std.specs.Prelude.{bytes_eq, IsTrue, ◌↔◌}
 use Rattle.std.proofs.lemmas.Slice.Eq.{bytes_eq-Decides}
 use Rattle.url.specs.Parts.{Parts, serialize, IsValid}
@@ -19,8 +19,7 @@ stands_for_itself text web =
 -- a text is a web address exactly where it equals the web address that it stands for
 pub decided : (text address : List ℕ) → IsWebAddress address → Some address ≡ address_of text → IsTrue (bytes_eq address text) ↔ IsWebAddress text
 decided text address web stands =
-    let same = bytes_eq-Decides address text in
-    (
+    let same = bytes_eq-Decides address text in (
       λ e. subst IsWebAddress (same.0 e) web,
       λ w. let e : Some address ≡ Some text = stands ∙ stands_for_itself text w in same.1 cc,
     )
