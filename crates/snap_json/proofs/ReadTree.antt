@@ -1,5 +1,5 @@
 -- A tree that was written is read back.
-use Rattle.std.proofs.Common.{◌≡◌, ℕ, ◌≤◌, List, length, true, Some, None, Ok, refl, sym, ap, subst, ◌∙◌, cond, le-leb}
+use Rattle.std.proofs.Common.{◌≡◌, ℕ, ◌≤◌, List, length, true, Some, None, Ok, refl, subst, le-leb}
 use Rattle.std.specs.List.{AllByRecursion}
 use Rattle.web_address.specs.Address.{IsWebAddress}
 use Rattle.web_address.proofs.Standing.{stands_for_itself}
