@@ -13,7 +13,10 @@ impl From<OutOfMemory> for Stopped {
 
 /// The processor time that the program has taken.
 pub(crate) fn time_of(rt: &impl CpuClock) -> Result<Duration, Stopped> {
-    rt.thread_cpu_time().map_err(|_| Stopped("clock"))
+    let Ok(time) = rt.thread_cpu_time() else {
+        return Err(Stopped("clock"));
+    };
+    Ok(time)
 }
 
 /// Says what processor time a step took.
@@ -23,5 +26,8 @@ pub(crate) fn tell<R: CpuClock + Eprint>(
     start: Duration,
 ) -> Result<(), Stopped> {
     let spent = time_of(rt)?.saturating_sub(start).as_micros();
-    eprintln!(rt; "{step} {spent} us").map_err(|_| Stopped("standard error"))
+    let Ok(()) = eprintln!(rt; "{step} {spent} us") else {
+        return Err(Stopped("standard error"));
+    };
+    Ok(())
 }

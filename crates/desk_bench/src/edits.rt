@@ -16,6 +16,17 @@ enum Kind {
     Move,
 }
 
+// The kinds, the name of one edit alone, and that of a list.
+static KINDS: [(Kind, &str, &str); 7] = [
+    (Kind::SetAttr, "set attr", "set attr x 200"),
+    (Kind::DropAttr, "drop attr", "drop attr x 200"),
+    (Kind::SetText, "set text", "set text x 200"),
+    (Kind::SetFacts, "set facts", "set facts x 200"),
+    (Kind::Insert, "insert", "insert x 200"),
+    (Kind::Remove, "remove", "remove x 200"),
+    (Kind::Move, "move", "move x 200"),
+];
+
 // A number above those of the page.
 const FRESH: u32 = 1_000_000;
 
@@ -26,50 +37,18 @@ const HIDDEN: Facts = Facts {
     tabbable: false,
 };
 
-fn words(alloc: Global, id: NodeId) -> Result<Row, OutOfMemory> {
-    Ok(Row {
-        id,
+// A text by itself.
+fn words(alloc: Global, fresh: u32) -> Result<List<Row>, OutOfMemory> {
+    let mut rows = Vec::new(alloc);
+    rows.push(Row {
+        id: NodeId(fresh),
         parent: None,
         body: Body::Words {
             text: Text::from_str(alloc, "More.")?,
         },
         facts: HIDDEN,
-    })
-}
-
-fn set_attr(alloc: Global, node: NodeId) -> Result<Edit, OutOfMemory> {
-    let name = Text::from_str(alloc, "class")?;
-    let value = Text::from_str(alloc, "lead")?;
-    Ok(Edit::SetAttr { node, name, value })
-}
-
-fn drop_attr(alloc: Global, node: NodeId) -> Result<Edit, OutOfMemory> {
-    let name = Text::from_str(alloc, "class")?;
-    Ok(Edit::DropAttr { node, name })
-}
-
-fn set_text(alloc: Global, node: NodeId) -> Result<Edit, OutOfMemory> {
-    let text = Text::from_str(alloc, "Closed today.")?;
-    Ok(Edit::SetText { node, text })
-}
-
-fn insert(alloc: Global, parent: NodeId, fresh: u32) -> Result<Edit, OutOfMemory> {
-    let mut rows = Vec::new(alloc);
-    rows.push(words(alloc, NodeId(fresh))?)?;
-    let rows = List::from_vec(rows);
-    Ok(Edit::Insert {
-        parent,
-        place: 0,
-        rows,
-    })
-}
-
-fn first_child(tree: &Tree, node: NodeId) -> NodeId {
-    tree.kids(node).next().unwrap_or(node)
-}
-
-fn parent_of(tree: &Tree, node: NodeId) -> NodeId {
-    tree.parent(node).unwrap_or(node)
+    })?;
+    Ok(List::from_vec(rows))
 }
 
 // An edit of a paragraph, of which the first child is a text.
@@ -80,22 +59,36 @@ fn edit_of(
     node: NodeId,
     fresh: u32,
 ) -> Result<Edit, OutOfMemory> {
-    match kind {
-        Kind::SetAttr => set_attr(alloc, node),
-        Kind::DropAttr => drop_attr(alloc, node),
-        Kind::SetText => set_text(alloc, first_child(tree, node)),
-        Kind::SetFacts => Ok(Edit::SetFacts {
+    Ok(match kind {
+        Kind::SetAttr => Edit::SetAttr {
+            node,
+            name: Text::from_str(alloc, "class")?,
+            value: Text::from_str(alloc, "lead")?,
+        },
+        Kind::DropAttr => Edit::DropAttr {
+            node,
+            name: Text::from_str(alloc, "class")?,
+        },
+        Kind::SetText => Edit::SetText {
+            node: tree.kids(node).next().unwrap_or(node),
+            text: Text::from_str(alloc, "Closed today.")?,
+        },
+        Kind::SetFacts => Edit::SetFacts {
             node,
             facts: HIDDEN,
-        }),
-        Kind::Insert => insert(alloc, node, fresh),
-        Kind::Remove => Ok(Edit::Remove { node }),
-        Kind::Move => Ok(Edit::Move {
-            node,
-            parent: parent_of(tree, node),
+        },
+        Kind::Insert => Edit::Insert {
+            parent: node,
             place: 0,
-        }),
-    }
+            rows: words(alloc, fresh)?,
+        },
+        Kind::Remove => Edit::Remove { node },
+        Kind::Move => Edit::Move {
+            node,
+            parent: tree.parent(node).unwrap_or(node),
+            place: 0,
+        },
+    })
 }
 
 fn edits_of(
@@ -118,26 +111,10 @@ fn time_list<R: CpuClock + Eprint + AllocGlobal>(
     edits: &[Edit],
 ) -> Result<(), Stopped> {
     let start = time_of(rt)?;
-    let _edited = apply(rt.alloc(), tree, edits).map_err(|_| Stopped(step))?;
+    let Ok(_edited) = apply(rt.alloc(), tree, edits) else {
+        return Err(Stopped(step));
+    };
     tell(rt, step, start)
-}
-
-fn time_kind<R: CpuClock + Eprint + AllocGlobal>(
-    rt: &R,
-    tree: &Tree,
-    nodes: &[NodeId],
-    kind: Kind,
-    one: &'static str,
-    all: &'static str,
-) -> Result<(), Stopped> {
-    let edits = edits_of(rt.alloc(), tree, kind, nodes)?;
-    let (first, _) = edits.as_slice().split_at_checked(1).unwrap_or((&[], &[]));
-    time_list(rt, tree, one, first)?;
-    time_list(rt, tree, all, edits.as_slice())
-}
-
-fn paragraphs_of(alloc: Global, tree: &Tree) -> Result<List<NodeId>, OutOfMemory> {
-    tree.tagged(alloc, &Text::from_str(alloc, "p")?)
 }
 
 /// Times each kind of edit, one alone and as many as one list has, on the page's paragraphs.
@@ -145,29 +122,15 @@ pub(crate) fn time_edits<R: CpuClock + Eprint + AllocGlobal>(
     rt: &R,
     tree: &Tree,
 ) -> Result<(), Stopped> {
-    let paragraphs = paragraphs_of(rt.alloc(), tree)?;
+    let paragraphs = tree.tagged(rt.alloc(), &Text::from_str(rt.alloc(), "p")?)?;
     let Some((nodes, _)) = paragraphs.as_slice().split_at_checked(MOST_EDITS) else {
         return Ok(());
     };
-    time_kind(rt, tree, nodes, Kind::SetAttr, "set attr", "set attr x 200")?;
-    time_kind(
-        rt,
-        tree,
-        nodes,
-        Kind::DropAttr,
-        "drop attr",
-        "drop attr x 200",
-    )?;
-    time_kind(rt, tree, nodes, Kind::SetText, "set text", "set text x 200")?;
-    time_kind(
-        rt,
-        tree,
-        nodes,
-        Kind::SetFacts,
-        "set facts",
-        "set facts x 200",
-    )?;
-    time_kind(rt, tree, nodes, Kind::Insert, "insert", "insert x 200")?;
-    time_kind(rt, tree, nodes, Kind::Remove, "remove", "remove x 200")?;
-    time_kind(rt, tree, nodes, Kind::Move, "move", "move x 200")
+    for (kind, one, all) in KINDS.as_slice() {
+        let edits = edits_of(rt.alloc(), tree, *kind, nodes)?;
+        let (first, _) = edits.as_slice().split_at_checked(1).unwrap_or((&[], &[]));
+        time_list(rt, tree, one, first)?;
+        time_list(rt, tree, all, edits.as_slice())?;
+    }
+    Ok(())
 }

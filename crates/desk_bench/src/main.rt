@@ -9,39 +9,22 @@ mod edits;
 use crate::clock::{Stopped, tell, time_of};
 use crate::edits::time_edits;
 use snap_json::{read_raw, read_snapshot, write_snapshot};
-use snap_tree::{OutOfMemory, Raw, Tree};
-use std::alloc::Global;
+use snap_tree::Tree;
 use std::io::Read;
 use std::process::ExitCode;
 use std::time::CpuClock;
 
-fn raw_of(alloc: Global, bytes: &[u8]) -> Result<Raw, Stopped> {
-    read_raw(alloc, bytes).map_err(|_| Stopped("snapshot"))
-}
-
-fn tree_of(alloc: Global, raw: Raw) -> Result<Tree, Stopped> {
-    Tree::build(alloc, raw).map_err(|_| Stopped("tree"))
-}
-
-fn copy_of(alloc: Global, tree: &Tree) -> Result<Tree, OutOfMemory> {
-    tree.copy(alloc)
-}
-
-fn bytes_of(alloc: Global, tree: &Tree) -> Result<Vec<u8>, OutOfMemory> {
-    write_snapshot(alloc, tree)
-}
-
-fn tree_in(alloc: Global, bytes: &[u8]) -> Result<Tree, Stopped> {
-    read_snapshot(alloc, bytes).map_err(|_| Stopped("written"))
-}
-
 // Reading a snapshot and building its tree.
 fn time_reading<R: CpuClock + Eprint + AllocGlobal>(rt: &R, bytes: &[u8]) -> Result<Tree, Stopped> {
     let start = time_of(rt)?;
-    let raw = raw_of(rt.alloc(), bytes)?;
+    let Ok(raw) = read_raw(rt.alloc(), bytes) else {
+        return Err(Stopped("snapshot"));
+    };
     tell(rt, "read", start)?;
     let start = time_of(rt)?;
-    let tree = tree_of(rt.alloc(), raw)?;
+    let Ok(tree) = Tree::build(rt.alloc(), raw) else {
+        return Err(Stopped("tree"));
+    };
     tell(rt, "build", start)?;
     Ok(tree)
 }
@@ -49,13 +32,15 @@ fn time_reading<R: CpuClock + Eprint + AllocGlobal>(rt: &R, bytes: &[u8]) -> Res
 // Copying a tree, writing it, and reading what was written.
 fn time_writing<R: CpuClock + Eprint + AllocGlobal>(rt: &R, tree: &Tree) -> Result<(), Stopped> {
     let start = time_of(rt)?;
-    let _copy = copy_of(rt.alloc(), tree)?;
+    let _copy = tree.copy(rt.alloc())?;
     tell(rt, "copy", start)?;
     let start = time_of(rt)?;
-    let written = bytes_of(rt.alloc(), tree)?;
+    let written = write_snapshot(rt.alloc(), tree)?;
     tell(rt, "write", start)?;
     let start = time_of(rt)?;
-    let _again = tree_in(rt.alloc(), written.as_slice())?;
+    let Ok(_again) = read_snapshot(rt.alloc(), written.as_slice()) else {
+        return Err(Stopped("written"));
+    };
     tell(rt, "read and build", start)
 }
 
@@ -69,12 +54,15 @@ fn time_steps<R: CpuClock + Eprint + AllocGlobal>(rt: &R, bytes: &[u8]) -> Resul
 fn measure<R: Input + Print + CpuClock + Eprint + AllocGlobal>(rt: &R) -> Result<(), Stopped> {
     let mut bytes = Vec::new(rt.alloc());
     let mut input = rt.reader();
-    input
-        .read_to_end(&mut bytes)
-        .map_err(|_| Stopped("standard input"))?;
+    let Ok(_count) = input.read_to_end(&mut bytes) else {
+        return Err(Stopped("standard input"));
+    };
     let nodes = time_steps(rt, bytes.as_slice())?;
     let count = bytes.len();
-    println!(rt; "nodes {nodes} bytes {count}").map_err(|_| Stopped("standard output"))
+    let Ok(()) = println!(rt; "nodes {nodes} bytes {count}") else {
+        return Err(Stopped("standard output"));
+    };
+    Ok(())
 }
 
 fn main(rt: HostRuntime) -> ExitCode {
