@@ -1,7 +1,8 @@
-use Rattle.snap_edit.specs.Attrs.{attrs_with}
+use Rattle.std.specs.Option.{option_copied}
+use Rattle.snap_edit.specs.Attrs.{attrs_after}
 use Rattle.snap_edit.proofs.Standing.{makes_attrs}
 use Rattle.snap_edit.proofs.Settling.{passed_on}
-use Rattle.snap_edit.proofs.changes.set_attr.Goals as goal
+use Rattle.snap_edit.proofs.changes.change_attr.Goals as goal
 
 pub returns-in_err-place-clause-refused : goal.returns-in_err-place-clause-refused
 returns-in_err-place-clause-refused c =
@@ -10,5 +11,5 @@ returns-in_err-place-clause-refused c =
 pub returns-clause-made : goal.returns-clause-made
 returns-clause-made c =
     let at = rw c.as_slice.ensures.value at c.in_ok-place.ensures.place in
-    let f = attrs_with c.args.name.now c.args.value.now in
+    let f = attrs_after c.args.name.now (option_copied c.args.value) in
     makes_attrs f c.requires at c.index.ensures c.attrs.ensures c.in_ok-attrs.ensures c.put_attrs.ensures
