@@ -7,7 +7,7 @@ use snap_tree::{NodeId, OutOfMemory, Tree};
 use std::alloc::Global;
 
 /// The book of the rules that are built so far, by their final numbers.
-#[derive(Debug, Drop)]
+#[derive(Drop)]
 pub struct Early {
     calls: u64,
 }

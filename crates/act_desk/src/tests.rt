@@ -1,6 +1,5 @@
 //! `run` over a source and sinks in memory, with the book of the rules that are built.
 use crate::early::Early;
-use crate::failed::Failed;
 use crate::mem_sink::MemSink;
 use crate::mem_source::MemSource;
 use crate::run::run;
@@ -391,12 +390,4 @@ fn an_audit_stops_reading_after_one_byte_too_many(rt: HostRuntime) -> Result<(),
 
 pub(crate) fn is_text(rt: &impl Abort, text: &str, wanted: &str) {
     assert_eq!(rt; text, wanted);
-}
-
-#[test]
-fn a_fault_says_so(rt: HostRuntime) -> Result<(), Fail> {
-    let fault = Failed;
-    let text = format!(in rt.alloc(); "{fault}")?;
-    is_text(&rt, text.as_str(), "fault");
-    Ok(())
 }
