@@ -56,6 +56,8 @@ def chromium_options(tools: Tools, viewport: tuple[int, int], arguments: Sequenc
     options.add_argument(f"--window-size={viewport[0]},{viewport[1]}")
     options.add_argument(f"--lang={LANGUAGE}")
     options.add_argument("--force-device-scale-factor=1")
+    # A scrollbar would take some of the width, and none of the picture's.
+    options.add_argument("--hide-scrollbars")
     options.add_argument("--no-first-run")
     # Containers often give /dev/shm too little room for a page's memory.
     options.add_argument("--disable-dev-shm-usage")

@@ -14,6 +14,7 @@ from .traffic import Traffic
 HTML_TYPES = ("text/html", "application/xhtml+xml")
 # What a browser shows before any page, and beside a download.
 BLANK = re.compile(r"(data:,|about:blank)$")
+ABORTED = "net::ERR_ABORTED"
 STEP_SECONDS = 0.05
 
 SHOWN = """
@@ -140,7 +141,7 @@ def moved(asked: str, address: str) -> Stop:
 def refuse_no_page(place: Place, page: Shown, traffic: Traffic) -> None:
     """Says why the browser shows no page: a download, an answer without one, or an error of its own."""
     traffic.listen()
-    if BLANK.match(page.address) and traffic.type and traffic.status != 204:
+    if BLANK.match(page.address) and traffic.fault == ABORTED and traffic.status != 204:
         how = "sent as a download" if traffic.type in HTML_TYPES else "a download"
         raise Stop(End.NOT_HTML, f"{place.address} isn't an HTML page: it is {how}, its type is {traffic.type}")
     why = traffic.fault or "the browser shows no page"

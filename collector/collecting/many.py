@@ -23,6 +23,11 @@ class Listed(NamedTuple):
     url: str | None
     name: str
 
+    @property
+    def shown(self) -> str:
+        """The page's address as lines name it."""
+        return self.url or self.page
+
 
 def read_list(path: str) -> list[Listed]:
     """The pages of a list: on each line an address, or a file's path and behind it the address to write."""
@@ -39,8 +44,8 @@ def read_list(path: str) -> list[Listed]:
     first: dict[str, str] = {}
     for page in pages:
         if page.name in first:
-            raise Stop(End.USAGE, f"{first[page.name]} and {page.url or page.page} would be written to one file, {page.name}.json")
-        first[page.name] = page.url or page.page
+            raise Stop(End.USAGE, f"{first[page.name]} and {page.shown} would be written to one file, {page.name}.json")
+        first[page.name] = page.shown
     return pages
 
 
@@ -97,11 +102,11 @@ def collect_listed(page: Listed, command: Command, browsers: Browsers) -> End:
         write_file(file, collected.text.encode("utf-8"))
     except Stop as stop:
         if not browsers.stopped:
-            say("collect", f"{page.page}: status {stop.end.value}: {stop.line}")
+            say("collect", f"{page.shown}: status {stop.end.value}: {stop.line}")
         return stop.end
     for note in collected.notes:
-        say("collect", f"{page.page}: {note}")
-    write_out(f"{one_line(page.page)} {file}\n".encode("utf-8", "backslashreplace"))
+        say("collect", f"{page.shown}: {note}")
+    write_out(f"{one_line(page.shown)} {file}\n".encode("utf-8", "backslashreplace"))
     return End.WRITTEN
 
 
