@@ -3,6 +3,7 @@ from __future__ import annotations
 
 import os
 import shutil
+import signal
 from typing import Any, NamedTuple, Sequence
 
 from .ends import End, Stop, first_line
@@ -91,3 +92,11 @@ def start_browser(viewport: tuple[int, int] = VIEWPORT, arguments: Sequence[str]
         browser.quit()
         raise Stop(End.BROWSER, f"the browser doesn't start: {first_line(error)}") from None
     return browser
+
+
+def kill_browser(browser: Any) -> None:
+    """Ends a browser at once: to be asked to end, it would first finish what it does."""
+    try:
+        os.kill(browser.capabilities["goog:processID"], signal.SIGKILL)
+    except (KeyError, OSError):
+        pass  # it has ended, or is of an age that doesn't tell; then it is asked

@@ -1,10 +1,9 @@
 """The command collector/collect."""
 from __future__ import annotations
 
-import logging
 from typing import Sequence
 
-from .ends import End, Stop, need_output, say, stop_on_signals, write_out
+from .ends import End, Stop, need_output, quiet_libraries, say, stop_on_signals, write_out
 from .many import collect_list
 from .options import Command, read_words
 from .pages import collect_page
@@ -23,8 +22,7 @@ def collect_one(command: Command) -> End:
 def main(words: Sequence[str]) -> int:
     """The status of a run."""
     try:
-        # Of a driver that dies the libraries below would write lines of their own.
-        logging.disable(logging.CRITICAL)
+        quiet_libraries()
         stop_on_signals()
         need_output()
         command = read_words(words)

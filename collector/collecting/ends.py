@@ -2,10 +2,12 @@
 from __future__ import annotations
 
 import enum
+import logging
 import os
 import signal
 import sys
 import threading
+import warnings
 
 
 class End(enum.IntEnum):
@@ -100,6 +102,12 @@ def remove(path: str | os.PathLike[str]) -> None:
         os.unlink(path)
     except OSError:
         pass
+
+
+def quiet_libraries() -> None:
+    """Keeps the libraries from writing lines of their own, such as of a driver that dies."""
+    logging.disable(logging.CRITICAL)
+    warnings.simplefilter("ignore")
 
 
 def stop_on_signals() -> None:

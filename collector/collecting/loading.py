@@ -6,6 +6,7 @@ import time
 from typing import Any, NamedTuple
 
 from .ends import End, Stop, first_line
+from .headers import OwnHeaders
 from .options import Options
 from .patience import Patience
 from .places import Place
@@ -51,12 +52,13 @@ def load(browser: Any, place: Place, options: Options) -> Traffic:
 
     end = time.monotonic() + options.timeout
     try:
-        send_with(browser, place, options)
+        set_cookies(browser, place, options)
         traffic = Traffic(browser)
         browser.set_page_load_timeout(options.timeout)
-        with Patience(f"{place.address} hasn't loaded yet"):
-            browser.get(place.address)
-        wait_more(browser, place, options, traffic, end)
+        with OwnHeaders(browser, place.address, options.headers):
+            with Patience(f"{place.address} hasn't loaded yet"):
+                browser.get(place.address)
+            wait_more(browser, place, options, traffic, end)
     except TimeoutException:
         raise Stop(End.TIME, f"{place.address} took more than {options.timeout:g} seconds to load") from None
     except WebDriverException as error:
@@ -64,10 +66,8 @@ def load(browser: Any, place: Place, options: Options) -> Traffic:
     return traffic
 
 
-def send_with(browser: Any, place: Place, options: Options) -> None:
-    """Gives the browser the cookies of the page's server, and the headers of every request."""
-    if options.headers:
-        browser.execute_cdp_cmd("Network.setExtraHTTPHeaders", {"headers": dict(options.headers)})
+def set_cookies(browser: Any, place: Place, options: Options) -> None:
+    """Gives the browser the cookies of the page's server."""
     for name, value in options.cookies:
         done = browser.execute_cdp_cmd("Network.setCookie", {"name": name, "value": value, "url": place.address})
         if not done.get("success"):
@@ -87,7 +87,8 @@ def wait_more(browser: Any, place: Place, options: Options, traffic: Traffic, en
             if time.monotonic() >= end:
                 raise Stop(End.TIME, f"{place.address}: {what} after {options.timeout:g} seconds")
             time.sleep(STEP_SECONDS)
-    time.sleep(options.settle / 1000)
+    with Patience(f"{place.address} settles"):
+        time.sleep(options.settle / 1000)
 
 
 def is_idle(traffic: Traffic) -> bool:

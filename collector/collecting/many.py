@@ -10,10 +10,15 @@ import sys
 import threading
 from typing import Any, Iterator, NamedTuple
 
+from .browser import kill_browser
 from .ends import End, Stop, one_line, remove, say, write_file, write_out
 from .options import Command, Options
 from .pages import collect_page
 from .places import check_written, name_of
+
+
+# Apart from the snapshots, so that *.json in the folder is snapshots alone.
+PICTURES = "pictures"
 
 
 class Listed(NamedTuple):
@@ -84,7 +89,7 @@ class Browsers:
         with self.lock:
             self.stopped = True
             for browser in self.open:
-                browser.quit()
+                kill_browser(browser)
 
 
 def collect_listed(page: Listed, command: Command, browsers: Browsers) -> End:
@@ -92,7 +97,7 @@ def collect_listed(page: Listed, command: Command, browsers: Browsers) -> End:
     if browsers.stopped:
         return End.INTERRUPTED
     file = os.path.join(command.out, f"{page.name}.json")
-    picture = os.path.join(command.out, f"{page.name}.png")
+    picture = os.path.join(command.out, PICTURES, f"{page.name}.png")
     for old in (file, picture, f"{picture}.json"):
         remove(old)
     options: Options = dataclasses.replace(command.options, url=page.url, shot=picture if command.shots else None)
@@ -114,7 +119,7 @@ def collect_list(command: Command) -> End:
     """Collects all pages, says how many were, and gives the worst status."""
     pages = read_list(command.list or "")
     try:
-        os.makedirs(command.out, exist_ok=True)
+        os.makedirs(os.path.join(command.out, PICTURES) if command.shots else command.out, exist_ok=True)
     except OSError as error:
         raise Stop(End.OUTPUT, f"{command.out} can't be made: {error.strerror}") from None
     browsers = Browsers()

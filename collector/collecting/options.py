@@ -121,12 +121,12 @@ def parser() -> Parser:
     made.add_argument("--cookie", metavar="NAME=VALUE", type=cookie, action="append", default=[],
                       help="a cookie for the page's server; as often as needed")
     made.add_argument("--header", metavar="'NAME: VALUE'", type=header, action="append", default=[],
-                      help="a header of every request, those to other servers too; as often as needed")
+                      help="a header of the requests to the page's server, and to no other; as often as needed")
     made.add_argument("--exact", action="store_true",
                       help="refuses a page that passes a limit, where else what no rule looks at is cut")
     made.add_argument("--follow", action="store_true", help="with --url, takes a page that moved on to another address")
     made.add_argument("--shot", metavar="FILE", help="writes a picture of the page, and FILE.json with each node's box")
-    made.add_argument("--shots", action="store_true", help="the same for each page of a list, beside its snapshot")
+    made.add_argument("--shots", action="store_true", help="the same for each page of a list, in the folder pictures of --out")
     return made
 
 

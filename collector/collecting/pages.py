@@ -6,7 +6,7 @@ from dataclasses import dataclass
 from typing import Any, Callable, ContextManager
 
 from . import loading
-from .browser import start_browser
+from .browser import kill_browser, start_browser
 from .ends import End, Stop, first_line, write_file
 from .options import Options
 from .places import Place, place_of
@@ -63,6 +63,8 @@ def collect_page(page: str, options: Options, holding: Holding = contextlib.null
     if place.is_file and options.url is None:
         raise Stop(End.USAGE, "a file has no address that the desk takes: give one with --url, "
                               "as in --url https://www.example.org/")
+    if place.is_file and (options.cookies or options.headers):
+        raise Stop(End.USAGE, "a file is opened without a server: --cookie and --header have nowhere to go")
     browser = start_browser(options.viewport)
     try:
         from selenium.common.exceptions import WebDriverException
@@ -72,5 +74,8 @@ def collect_page(page: str, options: Options, holding: Holding = contextlib.null
             return collect_in(browser, place, options)
     except (WebDriverException, HTTPError, OSError) as error:
         raise Stop(End.BROWSER, f"the browser ended: {first_line(error)}") from None
+    except KeyboardInterrupt:
+        kill_browser(browser)
+        raise
     finally:
         browser.quit()

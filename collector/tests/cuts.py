@@ -6,7 +6,7 @@ from typing import Any
 
 from collecting.ends import End
 
-from .support import collect_here, expect, page, refused_here, run, same, well_formed
+from .support import SOURCE, collect_here, expect, open_file, page, refused_here, run, same, well_formed
 
 WRITTEN = ("--url", "https://large.example/")
 LONG = 70_000
@@ -34,6 +34,12 @@ def test_cuts(browser: Any) -> None:
         collected = collect_here(browser, path, *WRITTEN)
         # Two bytes, and 84 characters of three: the next would be one byte too many.
         expect("no character is cut apart", '"//' + "€" * 84 + '"' in collected.text and "the first 254 " in collected.notes[0], collected.notes)
+    with page(f"<script>//{long}</script>") as path:
+        browser.get_log("browser")
+        open_file(browser, path)
+        text = browser.execute_script(f"return ({SOURCE})('https://large.example/')")
+        told = [entry["message"] for entry in browser.get_log("browser") if "cut: the text of node 5" in entry["message"]]
+        expect("without more words the console is told", len(told) == 1 and len(text) < LONG, told)
     with page("<template></template><script>document.querySelector('template').append('z'.repeat(70000))</script>") as path:
         collected = collect_here(browser, path, *WRITTEN)
         expect("a text that a script put into a template is cut", "in node 4 (template)" in "".join(collected.notes), collected.notes)

@@ -55,9 +55,12 @@ def test_list(base: str) -> None:
             file = pathlib.Path(out_folder, name_of(PAGES[name]) + ".json")
             expect(f"{name}: the same bytes as alone", file.read_bytes() == (SITE / f"{name}.json").read_bytes())
         expect("a page that fails leaves no file of an earlier run", not os.path.exists(stale))
-        expect("pictures stand beside", sorted(path.suffix for path in pathlib.Path(out_folder).iterdir())
-               == [".json"] * 6 + [".png"] * 3)
-        expect("nothing is left half written", not list(pathlib.Path(out_folder).glob("*.part")))
+        names = sorted(name_of(address) for address in (PAGES["home"], PAGES["old"], f"{base}/good.html"))
+        same("the folder holds snapshots", sorted(path.name for path in pathlib.Path(out_folder).iterdir()),
+             sorted([*(f"{name}.json" for name in names), "pictures"]))
+        same("and pictures", sorted(path.name for path in pathlib.Path(out_folder, "pictures").iterdir()),
+             sorted(f"{name}.png{ending}" for name in names for ending in ("", ".json")))
+        expect("nothing is left half written", not list(pathlib.Path(out_folder).rglob("*.part")))
 
 
 def test_list_words() -> None:

@@ -79,6 +79,17 @@ class Handler(http.server.SimpleHTTPRequestHandler):
         elif path == "/guarded":
             known = "user=ann" in self.headers.get("Cookie", "") and self.headers.get("X-Team") == "web: a"
             self.answer(Answer(HTML, html("<p>secret"), 200 if known else 401))
+        elif path == "/asks-around":
+            # The same server under another name is another origin.
+            other = f"http://localhost:{self.server.server_port}/heard"
+            self.answer(Answer(HTML, html(f"<p id=p><script>const ask = (place) => fetch(place).then((answer) => answer.text());"
+                                          f"Promise.all([ask('/heard'), ask('{other}')]).then((heard) => {{ p.textContent = heard.join(' and '); p.className = 'done'; }})</script>")))
+        elif path == "/heard":
+            self.answer(Answer("text/plain", self.headers.get("X-Team", "nothing").encode("ascii"), headers=(("Access-Control-Allow-Origin", "*"),)))
+        elif path == "/away":
+            self.answer(Answer(HTML, b"", 302, (("Location", f"http://localhost:{self.server.server_port}/heard.html"),)))
+        elif path == "/heard.html":
+            self.answer(Answer(HTML, html(f"<p>{self.headers.get('X-Team', 'nothing')}")))
         elif path == "/size":
             self.answer(Answer(HTML, html("<p id=size>x<script>size.textContent = innerWidth + ' by ' + innerHeight</script>")))
         elif path == "/slow-data":

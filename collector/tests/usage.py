@@ -3,8 +3,11 @@ from __future__ import annotations
 
 import json
 import os
+import pathlib
+import signal
 import subprocess
 import tempfile
+import time
 from typing import Any
 
 from collecting.ends import End
@@ -44,6 +47,7 @@ def test_words() -> None:
             ("a viewport of nothing", "1280x900", (*HOME, "--viewport", "0x900")),
             ("a cookie without a value", "NAME=VALUE", (*HOME, "--cookie", "user")),
             ("a header without a colon", "NAME: VALUE", (*HOME, "--header", "X-Team web")),
+            ("a cookie for a file", "have nowhere to go", (*HOME, "--cookie", "user=ann")),
             ("--jobs beside one page", "--list", (*HOME, "--jobs", "2")),
             ("--shots beside one page", "--list", (*HOME, "--shots")),
             ("a list beside a page", "usage", (*HOME, "--list", "pages.txt")),
@@ -83,6 +87,31 @@ def test_missing_tools() -> None:
         refused("no selenium", End.BROWSER, "selenium isn't there", *HOME, env=hidden)
         code, out, _ = run(env=hidden, program=COLLECTOR / "test")
         expect("without selenium this test is skipped", code == 0 and out.count(b"\n") == 1 and b"skipped" in out, out)
+
+
+def children(number: int) -> list[int]:
+    """The numbers of all processes below one."""
+    found = []
+    for task in pathlib.Path("/proc", str(number), "task").glob("*/children"):
+        for child in map(int, task.read_text().split()):
+            found += [child, *children(child)]
+    return found
+
+
+def test_interrupt(base: str) -> None:
+    """A command that is ended closes its browser, and says one line."""
+    for sent in (signal.SIGTERM, signal.SIGINT):
+        command = subprocess.Popen([str(COLLECT), f"{base}/never"], stdin=subprocess.DEVNULL,
+                                   stdout=subprocess.PIPE, stderr=subprocess.PIPE)
+        time.sleep(3)
+        started = children(command.pid)
+        command.send_signal(sent)
+        out, err = command.communicate()
+        same(f"{sent.name}: the status and the line", (command.returncode, out, err), (End.INTERRUPTED, b"", b"collect: interrupted\n"))
+        time.sleep(0.5)
+        alive = [child for child in started if os.path.exists(f"/proc/{child}/exe") and os.path.exists(f"/proc/{child}/cwd")
+                 and "Z" not in pathlib.Path(f"/proc/{child}/stat").read_text().rpartition(")")[2].split()[0]]
+        same(f"{sent.name}: processes that are left", alive, [])
 
 
 def test_streams(base: str) -> None:

@@ -192,7 +192,7 @@ def test_view_content(browser: Any) -> None:
             "2.4.4 Link Purpose (In Context) A 0 0 2", "3.1.1 Language of Page A 0 0 1", "4.1.2 Name, Role, Value A 2 0 2",
             "Under no criterion – 1 0 0"])
         folded = browser.execute_script("return [...document.querySelectorAll('details')].map((details) => details.open)")
-        same("what passed is folded", folded, [False, False])
+        same("what passed is folded", folded, [False, False, False])
         browser.execute_script("document.querySelectorAll('details').forEach((details) => { details.open = true; })")
         expect("who judged is named", "Judged by ann." in browser.execute_script("return document.getElementById('passed-b5c3f8').innerText"))
         for chosen, wanted in (

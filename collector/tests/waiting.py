@@ -30,11 +30,16 @@ def test_dialogs(browser: Any, base: str) -> None:
     expect("dialogs that open later", '"after all"' in collect_here(browser, f"{base}/boxes", "--settle", "400").text)
 
 
-def test_requests(base: str) -> None:
+def test_requests(browser: Any, base: str) -> None:
     """--cookie, --header and --viewport."""
     refused("without a cookie and a header a guarded page is refused", End.LOAD, "status 401", f"{base}/guarded")
     code, out, err = run(f"{base}/guarded", "--cookie", "user=ann", "--header", "X-Team: web: a")
     expect("--cookie and --header are sent", code == 0 and err == "" and b"secret" in out, err)
+    words = ("--header", "X-Team: web", "--header", "Accept-Language: cy")
+    text = collect_here(browser, f"{base}/asks-around", *words, "--wait", ".done").text
+    expect("a header goes to the page's server, and to no other", '"web and nothing"' in text, text[-300:])
+    expect("nor where the server sends the page", '"nothing"' in collect_here(browser, f"{base}/away", *words).text)
+    expect("nor with the next page", '"nothing and nothing"' in collect_here(browser, f"{base}/asks-around", "--wait", ".done").text)
     code, out, err = run(f"{base}/size", "--viewport", "390x844")
     expect("--viewport is the page's size", code == 0 and b'"390 by 844"' in out, err)
 

@@ -2,11 +2,10 @@
 from __future__ import annotations
 
 import argparse
-import logging
 import sys
 from typing import NoReturn, Sequence
 
-from collecting.ends import End, Stop, need_output, say, stop_on_signals, write_out
+from collecting.ends import End, Stop, need_output, quiet_libraries, say, stop_on_signals, write_out
 
 from .findings import bring_together
 from .page import read_page
@@ -54,7 +53,7 @@ def read(path: str) -> bytes:
 def main(words: Sequence[str]) -> int:
     """The status of a run."""
     try:
-        logging.disable(logging.CRITICAL)
+        quiet_libraries()
         stop_on_signals()
         need_output()
         given = read_words(words)
