@@ -14,6 +14,7 @@ function silvervoleBoxes() {
   const boxes = {};
   let count = 0;
 
+  // Read through prototypes: a page's images and fields may hide a property by their names.
   const getter = (type, name) => {
     const get = Object.getOwnPropertyDescriptor(type.prototype, name).get;
     return (object) => get.call(object);
@@ -38,11 +39,14 @@ function silvervoleBoxes() {
       Math.max(...all.map((box) => box[1] + box[3])) - top];
   };
 
+  const root = Object.getOwnPropertyDescriptor(Document.prototype, 'documentElement').get.call(document);
+  const images = [...Document.prototype.querySelectorAll.call(document, 'img[usemap]')];
+
   // The shape of an area lies on the image that uses its map.
   const areaBox = (area) => {
     const map = Element.prototype.closest.call(area, 'map');
     const name = map && (getAttribute(map, 'name') || getAttribute(map, 'id'));
-    const image = name && [...document.querySelectorAll('img[usemap]')].find((one) => getAttribute(one, 'usemap') === `#${name}`);
+    const image = name && images.find((one) => getAttribute(one, 'usemap') === `#${name}`);
     if (!image) return null;
     const [left, top, width, height] = placed(image.getBoundingClientRect());
     const at = (getAttribute(area, 'coords') || '').split(',').map(Number);
@@ -74,7 +78,6 @@ function silvervoleBoxes() {
     if (box !== null) boxes[n] = box;
     return box;
   };
-  visit(document.documentElement);
-  const root = document.documentElement;
+  visit(root);
   return { width: root.scrollWidth, height: Math.max(root.scrollHeight, root.clientHeight), boxes };
 }

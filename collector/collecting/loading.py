@@ -18,20 +18,23 @@ BLANK = re.compile(r"(data:,|about:blank)$")
 ABORTED = "net::ERR_ABORTED"
 STEP_SECONDS = 0.05
 
+# A page's images may hide a property of the document by their names, so they are
+# read through its prototype.
 SHOWN = """
+const type = Object.getOwnPropertyDescriptor(Document.prototype, 'contentType').get.call(document);
 const entry = performance.getEntriesByType('navigation')[0];
-const broken = document.contentType !== 'text/html' && document.querySelector('parsererror');
+const broken = type !== 'text/html' && Document.prototype.querySelector.call(document, 'parsererror');
 const plain = (address) => { const url = new URL(address); url.hash = ''; return url.href; };
 let asked = arguments[0];
 try { asked = plain(asked); } catch (error) { /* then it stands as it was given */ }
-return { address: plain(location.href), asked, type: document.contentType,
+return { address: plain(location.href), asked, type,
   status: entry ? entry.responseStatus || 0 : 0,
   broken: broken ? String(broken.textContent).slice(0, 300) : '' };
 """
 
 # A selector that doesn't parse is told from one that finds nothing.
 FOUND = """
-try { return document.querySelector(arguments[0]) !== null; }
+try { return Document.prototype.querySelector.call(document, arguments[0]) !== null; }
 catch (error) { return error.name === 'SyntaxError' ? 'wrong' : false; }
 """
 
@@ -48,7 +51,7 @@ class Shown(NamedTuple):
 
 def load(browser: Any, place: Place, options: Options) -> Traffic:
     """Opens the page and waits for its load event, what --wait names, and what --settle adds."""
-    from selenium.common.exceptions import TimeoutException, WebDriverException
+    from selenium.common.exceptions import InvalidSessionIdException, TimeoutException, WebDriverException
 
     end = time.monotonic() + options.timeout
     try:
@@ -61,6 +64,8 @@ def load(browser: Any, place: Place, options: Options) -> Traffic:
             wait_more(browser, place, options, traffic, end)
     except TimeoutException:
         raise Stop(End.TIME, f"{place.address} took more than {options.timeout:g} seconds to load") from None
+    except InvalidSessionIdException:
+        raise  # the browser ended
     except WebDriverException as error:
         raise Stop(End.LOAD, f"the page doesn't load: {place.address}: {first_line(error)}") from None
     return traffic

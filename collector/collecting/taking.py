@@ -34,13 +34,15 @@ class Taken:
 
 def take(browser: Any, address: str | None = None, exact: bool = False, boxes: bool = False) -> Taken:
     """The snapshot of the page that the browser shows, written under the address."""
-    from selenium.common.exceptions import TimeoutException, WebDriverException
+    from selenium.common.exceptions import InvalidSessionIdException, TimeoutException, WebDriverException
 
     source = CALL % (SNAPSHOT.read_text(encoding="utf-8"), BOXES.read_text(encoding="utf-8"))
     try:
         answer = browser.execute_script(source, address, exact, boxes)
     except TimeoutException:
         raise Stop(End.TIME, "the page leaves its browser no time in which it can be read") from None
+    except InvalidSessionIdException:
+        raise  # the browser ended
     except WebDriverException as error:
         raise Stop(End.DOCUMENT, f"the page can't be read: {first_line(error)}") from None
     if "text" in answer:

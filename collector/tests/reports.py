@@ -60,7 +60,10 @@ def test_refused_reports() -> None:
         refuses("a report that breaks off", "last line", REPORT[:-5])
         refuses("a report with a line missing", "doesn't count", REPORT.replace("b5c3f8 inapplicable\n", ""))
         refuses("a line of another form", "line 2", REPORT.replace("node 1", "node one"))
-        refuses("a report of another page", "node 999", REPORT.replace("node 1", "node 999"))
+        refuses("a report of no address", "no first line", REPORT.replace("https://library.example/old", "javascript:alert(1)"))
+        refuses("a report of another page", "is of https://library.example/, the snapshot of https://library.example/old",
+                REPORT.replace("/old", "/"))
+        refuses("a report with a strange node", "node 999", REPORT.replace("node 1", "node 999"))
         report = pathlib.Path(folder, "report.txt")
         report.write_text(REPORT, encoding="utf-8")
         refused("no snapshot", End.INPUT, "no snapshot", report, report, program=VIEW)

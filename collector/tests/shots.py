@@ -70,6 +70,10 @@ def test_boxes(browser: Any) -> None:
         boxes = json.loads(collected.shot.boxes)["boxes"]
         same("display: contents, areas, and what isn't drawn", [boxes.get(number[name]) for name in "crkn"],
              [[10, 20, 30, 40], [110, 205, 20, 20], [130, 210, 20, 20], None])
+    names = "contentType querySelector querySelectorAll documentElement body location performance createRange".split()
+    with page("<p id=p>x" + "".join(f"<img alt='' name={name} id={name}>" for name in names)) as path:
+        collected = collect_here(browser, path, *written, "--wait", "#p")
+        expect("names of images hide nothing", len(json.loads(collected.shot.boxes)["boxes"]) > 3)
     with page("<div style='height:20000px'>x") as path:
         collected = collect_here(browser, path, *written)
         expect("of a page that is too long the picture holds the front, and says so",

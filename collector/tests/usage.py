@@ -85,8 +85,13 @@ def test_missing_tools() -> None:
             pass
         hidden = {**os.environ, "PYTHONPATH": empty}
         refused("no selenium", End.BROWSER, "selenium isn't there", *HOME, env=hidden)
-        code, out, _ = run(env=hidden, program=COLLECTOR / "test")
-        expect("without selenium this test is skipped", code == 0 and out.count(b"\n") == 1 and b"skipped" in out, out)
+        os.unlink(os.path.join(empty, "selenium.py"))
+        for name in ("selenium", "jinja2"):
+            path = pathlib.Path(empty, f"{name}.py")
+            path.write_text("raise ImportError", encoding="utf-8")
+            code, out, _ = run(env=hidden, program=COLLECTOR / "test")
+            expect(f"without {name} this test is skipped", code == 0 and out.count(b"\n") == 1 and b"skipped" in out, out)
+            path.unlink()
 
 
 def children(number: int) -> list[int]:

@@ -2,6 +2,7 @@
 from __future__ import annotations
 
 import base64
+import hashlib
 import json
 import os
 import pathlib
@@ -215,17 +216,22 @@ HOSTILE = """<title>&lt;/title&gt;&lt;script&gt;hacked = 1&lt;/script&gt; {{ 7 *
 def test_hostile(browser: Any) -> None:
     """Texts of a page that try to break out of the view stay texts."""
     with page(f"<meta charset=utf-8>{HOSTILE}") as path, tempfile.TemporaryDirectory() as folder:
-        address = "https://hostile.example/?a=%22%3E%3Cscript%3E&b=<b>'\""
-        collected = collect_here(browser, path, "--url", address, "--shot", "x.png")
+        address = "https://hostile.example/?\"><script>hacked=0</script>"
+        collected = collect_here(browser, path, "--url", "https://hostile.example/", "--shot", "x.png")
+        # The collector would write the address as parsed; a snapshot from elsewhere may hold another.
+        text = collected.text.replace('"https://hostile.example/"', json.dumps(address), 1)
         snapshot = os.path.join(folder, "page.json")
-        pathlib.Path(snapshot).write_text(collected.text, encoding="utf-8")
+        pathlib.Path(snapshot).write_text(text, encoding="utf-8")
         picture = os.path.join(folder, "page.png")
-        collected.write_shot(picture)
-        rows = well_formed("the hostile page is well formed", collected.text.encode("utf-8"))
+        pathlib.Path(picture).write_bytes(collected.shot.picture)
+        told = json.loads(collected.shot.boxes)
+        told["snapshot"] = hashlib.sha256(text.encode("utf-8")).hexdigest()
+        pathlib.Path(f"{picture}.json").write_text(json.dumps(told), encoding="utf-8")
+        rows = well_formed("the hostile page is well formed", text.encode("utf-8"))
         elements = [row["n"] for row in rows if row["tag"] is not None]
         lines = [f"c487ae node {n} {outcome} no-name" for outcome in ("failed", "passed") for n in elements]
         lines.append("b5c3f8 node 1 failed judged by <script>hacked=9</script>\u2029\u202e")
-        report = "\n".join(["page https://hostile.example/?<script>", *lines,
+        report = "\n".join([f"page {address}", *lines,
                             f"passed {len(elements)} failed {len(elements) + 1} cantTell 0 inapplicable 0\n"])
         with opened(browser, snapshot, report, "--shot", picture):
             same("nothing of the page runs or becomes an element", browser.execute_script("""
@@ -233,7 +239,7 @@ def test_hostile(browser: Any) -> None:
                   document.querySelectorAll('html, head, body, main, title, style, header, footer').length]"""), ["undefined", 0, 8])
             text = browser.execute_script("return document.documentElement.textContent")
             for part in ("</title><script>hacked = 1</script> {{ 7 * 7 }} {% raw %}", "<img src=x onerror=hacked=2>", "</code></style><script>hacked=5</script>",
-                         "</style><svg onload=hacked=8>&lt;b&gt;", "\u27e8U+202E\u27e9txet \u27e8U+2066\u27e9", "<script>hacked=9</script>"):
+                         "</style><svg onload=hacked=8>&lt;b&gt;", "\u27e8U+202E\u27e9txet \u27e8U+2066\u27e9", "<script>hacked=9</script>", '?"><script>hacked=0</script>'):
                 expect(f"the view shows {part[:40]!r}", part in text)
             links = browser.execute_script("return [...document.links].map((link) => link.protocol).filter((kind) => !['https:', 'file:'].includes(kind))")
             same("links of other kinds", links, [])

@@ -23,6 +23,7 @@ def block(heading: str, language: str) -> str:
 
 
 def test_ways(browser: Any, base: str) -> None:
+    """The Selenium program, an expression, the console and the bookmarklet give the same snapshot."""
     address = f"{base}/home.html"
     wanted = {**json.loads((SITE / "home.json").read_bytes()), "url": address}
     with tempfile.TemporaryDirectory() as folder:

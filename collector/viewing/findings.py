@@ -1,6 +1,7 @@
 """Brings a report, its page and the rules together, in the order in which people read them."""
 from __future__ import annotations
 
+import re
 from collections import Counter
 from dataclasses import dataclass
 
@@ -11,6 +12,10 @@ from .paths import css_path
 from .pictures import Crop, Picture
 from .report import OUTCOMES, Finding, Report
 from .rules import Advice, Criterion, Rule, RuleTable
+
+
+# An address that the desk prints as it stands in the snapshot; what a parser would write otherwise isn't plain.
+PLAIN = re.compile(r"https?://[a-z][a-z0-9.-]*/[A-Za-z0-9/?&=%_~+,;:@#!$*()-]*")
 
 
 @dataclass(frozen=True)
@@ -78,6 +83,8 @@ class Findings:
 
 def bring_together(report: Report, page: Page, table: RuleTable, picture: Picture | None) -> Findings:
     """The findings of a report on this page."""
+    if PLAIN.fullmatch(page.address) and page.address != report.address:
+        raise Stop(End.INPUT, f"the report is of {report.address}, the snapshot of {page.address}")
     strange = next((finding for finding in report.findings if finding.node not in page.nodes), None)
     if strange is not None:
         raise Stop(End.INPUT, f"the report speaks of node {strange.node}, which the snapshot doesn't hold: it is of another page")

@@ -5,6 +5,7 @@ import re
 from collections import Counter
 from dataclasses import dataclass, field
 from functools import cached_property
+from typing import Iterator
 
 import check_form
 from collecting.ends import End, Stop
@@ -12,6 +13,7 @@ from collecting.ends import End, Stop
 HEADING = re.compile(r"h[1-6]")
 VOID = {"area", "base", "br", "col", "embed", "hr", "img", "input", "link", "meta", "source", "track", "wbr"}
 LONGEST_TEXT, LONGEST_VALUE, MOST_ATTRIBUTES = 240, 100, 20
+ENOUGH_TEXT = 4 * LONGEST_TEXT
 
 
 @dataclass(eq=False)
@@ -56,6 +58,14 @@ class Node:
         found: dict[str, list[int]] = {}
         for kid in self.elements:
             found.setdefault(kid.folded, []).append(kid.number)
+        return found
+
+    @cached_property
+    def kinds_of_tag(self) -> dict[str, set[tuple[str, str]]]:
+        """The name spaces and the spellings of each tag among the child elements."""
+        found: dict[str, set[tuple[str, str]]] = {}
+        for kid in self.elements:
+            found.setdefault(kid.folded, set()).add((kid.space, kid.tag))
         return found
 
     @cached_property
@@ -136,21 +146,28 @@ def is_heading(node: Node) -> bool:
 
 
 def text_of(node: Node) -> str:
-    """The texts in a node that are drawn, and the alternative texts of its pictures; all its texts where it isn't drawn."""
-    whole = "v" not in node.letters
-    parts: list[str] = []
+    """The texts in a node that are drawn, and the alternative texts of its pictures; all its texts where it isn't drawn.
 
-    def gather(inner: Node) -> None:
-        if not inner.is_element:
-            if whole or "v" in inner.letters:
-                parts.append(inner.words)
-        elif inner.folded == "img":
-            parts.append(f" {inner.attribute('alt')} ")
-        for kid in inner.kids:
-            gather(kid)
-
-    gather(node)
+    Of a long text it is the front.
+    """
+    parts, size = [], 0
+    for piece in pieces(node, "v" not in node.letters):
+        parts.append(piece)
+        size += len(piece.strip())
+        if size > ENOUGH_TEXT:
+            break
     return tidy("".join(parts))
+
+
+def pieces(node: Node, whole: bool) -> Iterator[str]:
+    """The texts of a node one after another, those that aren't drawn only where the whole is wanted."""
+    if not node.is_element:
+        if whole or "v" in node.letters:
+            yield node.words
+    elif node.folded == "img":
+        yield f" {node.attribute('alt')} "
+    for kid in node.kids:
+        yield from pieces(kid, whole)
 
 
 def start_tag(node: Node) -> str:

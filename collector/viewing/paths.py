@@ -34,8 +34,7 @@ def step(node: Node) -> str:
     alike = node.parent.of_tag[node.folded]
     if findable and len(alike) == 1:
         return escaped(node.tag)
-    kinds = {(kid.space, kid.tag) for kid in node.parent.elements if kid.folded == node.folded}
-    if findable and len(kinds) == 1:
+    if findable and len(node.parent.kinds_of_tag[node.folded]) == 1:
         return f"{escaped(node.tag)}:nth-of-type({node.parent.of_tag_places[node.number]})"
     return f"*:nth-child({node.parent.places[node.number]})"
 

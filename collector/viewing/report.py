@@ -44,8 +44,8 @@ def read_report(data: bytes, path: str) -> Report:
         raise refuse("it isn't in UTF-8") from None
     if lines == [""]:
         raise refuse("it is empty; the desk's own line on standard error says why it wrote none")
-    if not lines[0].startswith("page ") or lines[-1] != "" or len(lines) < 3:
-        raise refuse("it has no first line with a page, or no last line")
+    if not re.fullmatch(r"page https?://\S+", lines[0]) or lines[-1] != "" or len(lines) < 3:
+        raise refuse("it has no first line with a page's address, or no last line")
     findings, inapplicable = [], []
     for place, line in enumerate(lines[1:-2], 2):
         if found := FINDING.fullmatch(line):
