@@ -17,6 +17,7 @@ from .site import meant_defects
 from .support import COLLECTOR, PAGES, ROOT, SITE, VIEW, expect, open_file, page, refused, run, same, take_rows
 
 FINDINGS = ROOT / "docs" / "findings.md"
+REASONS = ROOT / "crates" / "rule_core" / "src" / "reason.rt"
 REPORT = """page https://library.example/old
 2779a5 node 1 failed no-title
 b5c3f8 inapplicable
@@ -38,11 +39,11 @@ def test_rules() -> None:
     for line in sorted({line for page_lines in lines.values() for line in page_lines}):
         rule, _, _, outcome, reason = line.split()
         expect(f"a word on {rule} {outcome} {reason}", table.rule(rule).advice_for(reason, outcome) is not None)
-    for row in (ROOT / "docs" / "rules.md").read_text(encoding="utf-8").splitlines():
-        found = re.match(r"\| [0-9]+ \| ([0-9a-z]{6}) \|(.*)", row)
-        for reason in re.findall(r"\(([a-z]+(?:-[a-z]+)+)\)", found.group(2)) if found else ():
-            reasons = {known for known, _ in table.rule(found.group(1)).advice}
-            expect(f"a word on {found.group(1)} {reason} of docs/rules.md", reason in reasons)
+    known = {reason for rule in table.rules.values() for reason, _ in rule.advice}
+    same("the reasons are those of the desk", sorted(known | {"ok"}),
+         sorted(re.findall(r'Reason::\w+ => "([a-z-]+)"', REASONS.read_text(encoding="utf-8"))))
+    described = re.findall(r"^\| [0-9]+ \| ([0-9a-z]{6}) \|", (ROOT / "docs" / "rules.md").read_text(encoding="utf-8"), re.MULTILINE)
+    same("rules of docs/rules.md without a word on them", [identity for identity in described if identity not in table.rules], [])
     texts = [text for rule in table.rules.values() for advice in rule.advice.values() for text in (advice.means, advice.mends)]
     expect("each word on a reason is a sentence", all(text and text[-1] in ".?" for text in texts))
 
