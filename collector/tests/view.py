@@ -115,6 +115,8 @@ def test_view(browser: Any) -> None:
              ["4 failed, 2 to judge: findings on Search the catalogue - Wenbrook Public Library", "en"])
         same("no script, and nothing from outside", browser.execute_script(
             "return [document.querySelectorAll('script, link, img, iframe, object').length, performance.getEntriesByType('resource').length]"), [0, 0])
+        same("what is quoted has the page's language", browser.execute_script(
+            "return [...new Set([...document.querySelectorAll('bdi')].map((quote) => quote.lang))]"), ["en-GB", ""])
         expect("a picture of it isn't blank", len(picture_of(browser)) > 4 * blank)
         keyboard(browser)
         contrast(browser)

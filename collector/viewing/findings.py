@@ -7,7 +7,7 @@ from dataclasses import dataclass
 
 from collecting.ends import End, Stop
 
-from .page import LONGEST_TEXT, Page, shortened, start_tag, text_of
+from .page import Page, Quote, start_tag
 from .paths import css_path
 from .pictures import Crop, Picture
 from .report import OUTCOMES, Finding, Report
@@ -16,6 +16,8 @@ from .rules import Advice, Criterion, Rule, RuleTable
 
 # An address that the desk prints as it stands in the snapshot; what a parser would write otherwise isn't plain.
 PLAIN = re.compile(r"https?://[a-z][a-z0-9.-]*/[A-Za-z0-9/?&=%_~+,;:@#!$*()-]*")
+
+NOTHING = Quote("", "")
 
 
 @dataclass(frozen=True)
@@ -27,8 +29,8 @@ class Target:
     is_root: bool
     path: str
     tag: str
-    text: str
-    heading: str
+    text: Quote
+    heading: Quote
     heading_tag: str
     crop: Crop | None
 
@@ -70,7 +72,7 @@ class Findings:
     """All that the view shows."""
 
     address: str
-    title: str
+    title: Quote
     nodes: int
     counts: dict[str, int]
     sections: dict[str, tuple[RulePart, ...]]
@@ -123,8 +125,8 @@ class TargetMaker:
         heading = self.page.headings_above.get(number)
         return Target(
             number, element.tag if node.is_element else f"text in {element.tag}", is_root, css_path(self.page, node),
-            start_tag(element), "" if is_root else shortened(text_of(node), LONGEST_TEXT),
-            shortened(text_of(heading), LONGEST_TEXT) if heading else "", heading.tag if heading else "",
+            start_tag(element), NOTHING if is_root else self.page.quote(node),
+            self.page.quote(heading) if heading else NOTHING, heading.tag if heading else "",
             self.picture.crop(element) if self.picture else None)
 
 

@@ -5,10 +5,12 @@ import re
 from collections import Counter
 from dataclasses import dataclass, field
 from functools import cached_property
-from typing import Iterator
+from typing import Iterator, NamedTuple
 
 import check_form
 from collecting.ends import End, Stop
+
+from .languages import known_language
 
 HEADING = re.compile(r"h[1-6]")
 VOID = {"area", "base", "br", "col", "embed", "hr", "img", "input", "link", "meta", "source", "track", "wbr"}
@@ -74,6 +76,13 @@ class Node:
         return {number: place for numbers in self.of_tag.values() for place, number in enumerate(numbers, 1)}
 
 
+class Quote(NamedTuple):
+    """A text of the page, and the tag of its language where that is known."""
+
+    text: str
+    language: str
+
+
 @dataclass(frozen=True)
 class Page:
     """An address and nodes by their numbers, in document order."""
@@ -103,11 +112,25 @@ class Page:
         return found
 
     @cached_property
-    def title(self) -> str:
+    def title(self) -> Quote:
         """The text of the first title element."""
         titles = (node for node in self.nodes.values() if node.folded == "title" and node.space == "html")
         first = next(titles, None)
-        return tidy("".join(kid.words for kid in first.kids)) if first else ""
+        return Quote(tidy("".join(kid.words for kid in first.kids)), self.languages[first.number]) if first else Quote("", "")
+
+    @cached_property
+    def languages(self) -> dict[int, str]:
+        """The language of each node: its own, or that of the nearest element above it that has one."""
+        found: dict[int, str] = {}
+        for node in self.nodes.values():
+            own = node.attribute("lang").strip()
+            above = found[node.parent.number] if node.parent else ""
+            found[node.number] = known_language(own) if own else above
+        return found
+
+    def quote(self, node: Node) -> Quote:
+        """What a node holds for its readers, its front where it is long."""
+        return Quote(shortened(text_of(node), LONGEST_TEXT), self.languages[node.number])
 
 
 def read_page(data: bytes, path: str) -> Page:
