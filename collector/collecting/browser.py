@@ -16,7 +16,6 @@ INSTALL = "on Debian: apt-get install chromium chromium-driver python3-selenium"
 # the same snapshot on every machine.
 VIEWPORT = (1280, 900)
 LANGUAGE = "en-GB"
-SCRIPT_SECONDS = 120
 
 # A dialog holds up the page until it is closed. Here each is closed before it is
 # shown, as by a user who dismisses it, however many there are.
@@ -87,7 +86,6 @@ def start_browser(viewport: tuple[int, int] = VIEWPORT, arguments: Sequence[str]
             "width": viewport[0], "height": viewport[1], "deviceScaleFactor": 1, "mobile": False})
         browser.execute_cdp_cmd("Page.addScriptToEvaluateOnNewDocument", {"source": CLOSED_DIALOGS})
         browser.execute_cdp_cmd("Page.setLifecycleEventsEnabled", {"enabled": True})
-        browser.set_script_timeout(SCRIPT_SECONDS)
     except WebDriverException as error:
         browser.quit()
         raise Stop(End.BROWSER, f"the browser doesn't start: {first_line(error)}") from None

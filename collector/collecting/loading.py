@@ -17,6 +17,10 @@ HTML_TYPES = ("text/html", "application/xhtml+xml")
 BLANK = re.compile(r"(data:,|about:blank)$")
 ABORTED = "net::ERR_ABORTED"
 STEP_SECONDS = 0.05
+# To read a page takes its time, however little its loading was given.
+LEAST_SCRIPT_SECONDS = 30.0
+# What a driver says while one document makes room for the next.
+MOVING = re.compile(r"navigation|execution context|document unloaded|javascript error", re.IGNORECASE)
 
 # A page's images may hide a property of the document by their names, so they are
 # read through its prototype.
@@ -58,6 +62,7 @@ def load(browser: Any, place: Place, options: Options) -> Traffic:
         set_cookies(browser, place, options)
         traffic = Traffic(browser)
         browser.set_page_load_timeout(options.timeout)
+        browser.set_script_timeout(max(LEAST_SCRIPT_SECONDS, options.timeout))
         with OwnHeaders(browser, place.address, options.headers):
             with Patience(f"{place.address} hasn't loaded yet"):
                 browser.get(place.address)
@@ -104,11 +109,13 @@ def is_idle(traffic: Traffic) -> bool:
 
 def is_found(browser: Any, selector: str) -> bool:
     """Whether some element of the page matches the selector."""
-    from selenium.common.exceptions import JavascriptException
+    from selenium.common.exceptions import WebDriverException
     try:
         found = browser.execute_script(FOUND, selector)
-    except JavascriptException:
-        return False  # the page moves on just now
+    except WebDriverException as error:
+        if MOVING.search(first_line(error)):
+            return False
+        raise
     if found == "wrong":
         raise Stop(End.USAGE, f"--wait {selector} is neither load, network-idle nor a CSS selector")
     return bool(found)
@@ -116,9 +123,13 @@ def is_found(browser: Any, selector: str) -> bool:
 
 def shown(browser: Any, place: Place) -> Shown:
     """What the browser shows now."""
-    from selenium.common.exceptions import WebDriverException
+    from selenium.common.exceptions import InvalidSessionIdException, TimeoutException, WebDriverException
     try:
         return Shown(**browser.execute_script(SHOWN, place.address))
+    except TimeoutException:
+        raise Stop(End.TIME, f"{place.address} leaves its browser no time in which it can be read") from None
+    except InvalidSessionIdException:
+        raise  # the browser ended
     except WebDriverException as error:
         raise Stop(End.LOAD, f"the page doesn't load: {place.address}: {first_line(error)}") from None
 

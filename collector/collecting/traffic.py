@@ -25,14 +25,18 @@ class Traffic:
             message = json.loads(entry["message"])["message"]
             yield message["method"], message["params"]
 
+    def is_page(self, given: dict[str, Any]) -> bool:
+        """Whether a request or a response is that of the page itself."""
+        return given.get("type") == "Document" and given.get("frameId") == self.frame
+
     def listen(self) -> None:
         """Takes in what came since the last call."""
         documents = set()
         for name, given in self.events():
-            if name == "Network.responseReceived" and given["type"] == "Document" and given["frameId"] == self.frame:
+            if name == "Network.responseReceived" and self.is_page(given):
                 self.type = given["response"]["mimeType"]
                 self.status = int(given["response"]["status"])
-            elif name == "Network.requestWillBeSent" and given.get("type") == "Document" and given.get("frameId") == self.frame:
+            elif name == "Network.requestWillBeSent" and self.is_page(given):
                 documents.add(given["requestId"])
             elif name == "Network.loadingFailed" and given["requestId"] in documents:
                 self.fault = given["errorText"]
