@@ -6,11 +6,12 @@ import hashlib
 import json
 import os
 import pathlib
+import re
 import subprocess
 import tempfile
 from typing import Any
 
-from .support import DESK, PAGES, SITE, VIEW, collect_here, expect, open_file, page, run, same, well_formed
+from .support import DESK, PAGES, ROOT, SITE, VIEW, collect_here, expect, open_file, page, run, same, well_formed
 
 # Each kind of line that a report may have, on the search page.
 REPORT = """page https://library.example/search
@@ -245,6 +246,20 @@ def test_hostile(browser: Any) -> None:
                 expect(f"the view shows {part[:40]!r}", part in text)
             links = browser.execute_script("return [...document.links].map((link) => link.protocol).filter((kind) => !['https:', 'file:'].includes(kind))")
             same("links of other kinds", links, [])
+
+
+def test_commands() -> None:
+    """The commands that the site's page shows lead from a page to its findings, where the desk is built."""
+    if not DESK.is_file():
+        return
+    commands = re.search(r"```sh\n(.*?)```", (SITE / "README.md").read_text(encoding="utf-8"), re.DOTALL).group(1)
+    with tempfile.TemporaryDirectory() as folder:
+        for name in ("collector", "crates", "examples"):
+            os.symlink(ROOT / name, os.path.join(folder, name))
+        done = subprocess.run(["bash", "-c", commands], cwd=folder, stdin=subprocess.DEVNULL, capture_output=True, check=False)
+        expect("the commands of examples/library/README.md", done.returncode == 0 and done.stderr == b"", done.stderr)
+        view = pathlib.Path(folder, "findings.html").read_text(encoding="utf-8")
+        expect("they lead to the findings, with a picture", "Wenbrook Public Library" in view and "data:image/png" in view)
 
 
 def test_view_picture(browser: Any) -> None:
