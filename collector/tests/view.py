@@ -258,7 +258,7 @@ def test_commands() -> None:
             os.symlink(ROOT / name, os.path.join(folder, name))
         done = subprocess.run(["bash", "-c", commands], cwd=folder, stdin=subprocess.DEVNULL, capture_output=True, check=False)
         expect("the commands of examples/library/README.md", done.returncode == 0 and done.stderr == b"", done.stderr)
-        view = pathlib.Path(folder, "findings.html").read_text(encoding="utf-8")
+        view = pathlib.Path(folder, "out", "findings.html").read_text(encoding="utf-8")
         expect("they lead to the findings, with a picture", "Wenbrook Public Library" in view and "data:image/png" in view)
 
 
