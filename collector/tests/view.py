@@ -7,11 +7,12 @@ import json
 import os
 import pathlib
 import re
+import shutil
 import subprocess
 import tempfile
 from typing import Any
 
-from .support import DESK, PAGES, ROOT, SITE, VIEW, collect_here, expect, open_file, page, run, same, well_formed
+from .support import DESK, DOCS, PAGES, ROOT, SITE, VIEW, collect_here, expect, open_file, page, run, same, well_formed
 
 # Each kind of line that a report may have, on the search page.
 REPORT = """page https://library.example/search
@@ -249,7 +250,7 @@ def test_hostile(browser: Any) -> None:
 
 
 def test_commands() -> None:
-    """The commands that the site's page shows lead from a page to its findings, where the desk is built."""
+    """The commands that the docs show lead from a page, and from many, to findings, where the desk is built."""
     if not DESK.is_file():
         return
     commands = re.search(r"```sh\n(.*?)```", (SITE / "README.md").read_text(encoding="utf-8"), re.DOTALL).group(1)
@@ -260,6 +261,16 @@ def test_commands() -> None:
         expect("the commands of examples/library/README.md", done.returncode == 0 and done.stderr == b"", done.stderr)
         view = pathlib.Path(folder, "out", "findings.html").read_text(encoding="utf-8")
         expect("they lead to the findings, with a picture", "Wenbrook Public Library" in view and "data:image/png" in view)
+        snapshots = pathlib.Path(folder, "snapshots")
+        snapshots.mkdir()
+        for name in ("home", "old"):
+            shutil.copy(SITE / f"{name}.json", snapshots)
+        loop = re.findall(r"```sh\n(.*?)```", DOCS.read_text(encoding="utf-8"), re.DOTALL)
+        loop = next(block for block in loop if block.startswith("for page in snapshots"))
+        done = subprocess.run(["bash", "-c", loop], cwd=folder, stdin=subprocess.DEVNULL, capture_output=True, check=False)
+        same("the loop over many pages", (done.returncode, done.stderr), (1, b""))
+        same("what it writes", sorted(path.name for path in snapshots.iterdir()),
+             [f"{name}.{kind}" for name in ("home", "old") for kind in ("html", "json", "txt")])
 
 
 def test_view_picture(browser: Any) -> None:
