@@ -1,4 +1,5 @@
 ghost use Rattle.std.specs.Prelude.{◌≡◌, ◌==◌, length, nat_lt};
+ghost use Rattle.std.specs.Char.{is_ascii_digit};
 ghost use Rattle.std.specs.List.{list_all, list_any};
 ghost use Rattle.snap_tree.specs.Rows.{same_folded};
 ghost use Rattle.snap_tree.specs.Words.{words};
@@ -117,7 +118,7 @@ fn is_own_word(attr: AriaAttr, value: &[u8]) -> bool
 }
 
 // A value as text; bytes that are no UTF-8 have no token, like the empty text.
-#[tactic(auto, using(std::proofs::lemmas::Str::is_utf8_from_IsUtf8))]
+#[tactic(auto, using(crate::proofs::Tokens::tokens_of_text, crate::proofs::Tokens::no_tokens))]
 fn text_of(value: &[u8]) -> &str
     ensures { words result.now ≡ tokens value.now }
 {
@@ -155,10 +156,16 @@ fn all_own_words(attr: AriaAttr, value: &[u8]) -> bool
     true
 }
 
+fn all_digits(text: &[u8]) -> bool
+    ensures { result ≡ list_all is_ascii_digit text.now }
+{
+    text.iter().all(|c| c.is_ascii_digit())
+}
+
 fn is_digits(text: &[u8]) -> bool
     ensures { result ≡ is_digits text.now }
 {
-    !text.is_empty() & text.iter().all(|c| c.is_ascii_digit())
+    !text.is_empty() & all_digits(text)
 }
 
 fn after_minus(text: &[u8]) -> &[u8]

@@ -1,0 +1,13 @@
+-- The tokens of bytes.
+use Rattle.std.proofs.Common.{◌≡◌, ℕ, List, [], Bool, true, false, cond, ap}
+use Rattle.std.proofs.lemmas.Bool.{false_from_ne_true}
+use Rattle.std.proofs.lemmas.Str.{is_utf8-from_IsUtf8, IsUtf8-from_is_utf8}
+use Rattle.std.specs.Str.{is_utf8, IsUtf8}
+use Rattle.snap_tree.specs.Words.{words}
+use Rattle.aria_tables.specs.Values.{tokens}
+
+pub tokens_of_text : (value : List ℕ) → IsUtf8 value → tokens value ≡ words value
+tokens_of_text value u = ap (λ b. words (cond b value [])) (is_utf8-from_IsUtf8 value u)
+
+pub no_tokens : (value : List ℕ) → ¬ (IsUtf8 value) → tokens value ≡ []
+no_tokens value no = ap (λ b. words (cond b value [])) (false_from_ne_true _ (λ e. no (IsUtf8-from_is_utf8 value e)))
