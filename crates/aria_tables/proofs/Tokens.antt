@@ -10,4 +10,4 @@ pub tokens_of_text : (value : List ℕ) → IsUtf8 value → tokens value ≡ wo
 tokens_of_text value u = ap (λ b. words (cond b value [])) (is_utf8-from_IsUtf8 value u)
 
 pub no_tokens : (value : List ℕ) → ¬ (IsUtf8 value) → tokens value ≡ []
-no_tokens value no = ap (λ b. words (cond b value [])) (false_from_ne_true _ (λ e. no (IsUtf8-from_is_utf8 value e)))
+no_tokens value untext = ap (λ b. words (cond b value [])) (false_from_ne_true _ (λ e. untext (IsUtf8-from_is_utf8 value e)))
