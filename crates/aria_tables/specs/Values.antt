@@ -79,7 +79,7 @@ is_among those value = list_any (same_folded value) those
 
 -- the tokens of a value: its parts between runs of white space; bytes that are no UTF-8 have none
 abbrev pub tokens : List ℕ → List (List ℕ)
-tokens value = words (if is_utf8 value then value else [])
+tokens value = if is_utf8 value then words value else []
 
 -- one digit or more, and nothing else
 abbrev pub is_digits : List ℕ → Bool
