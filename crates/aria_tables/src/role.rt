@@ -192,14 +192,95 @@ fn roles_of_length(len: usize) -> &'static [Role]
 {
     match len {
         3 => &[Role::Img, Role::Log, Role::RowRole, Role::Tab],
-        4 => &[Role::Cell, Role::Code, Role::Feed, Role::Form, Role::Grid, Role::Link, Role::ListRole, Role::Main, Role::Math, Role::Menu, Role::NoneRole, Role::Note, Role::Term, Role::Time, Role::TreeRole],
-        5 => &[Role::Alert, Role::Group, Role::Meter, Role::Radio, Role::TableRole, Role::Timer],
-        6 => &[Role::Banner, Role::Button, Role::Dialog, Role::Figure, Role::OptionRole, Role::Region, Role::Search, Role::Slider, Role::Status, Role::Strong, Role::Switch],
-        7 => &[Role::Article, Role::Caption, Role::Generic, Role::Heading, Role::Listbox, Role::Marquee, Role::Menubar, Role::Tablist, Role::Textbox, Role::Toolbar, Role::Tooltip],
-        8 => &[Role::Checkbox, Role::Combobox, Role::Deletion, Role::DocumentRole, Role::Emphasis, Role::Gridcell, Role::Listitem, Role::Menuitem, Role::Rowgroup, Role::Tabpanel, Role::Treegrid, Role::Treeitem],
-        9 => &[Role::Directory, Role::Insertion, Role::Paragraph, Role::Rowheader, Role::Scrollbar, Role::Searchbox, Role::Separator, Role::Subscript],
-        10 => &[Role::Blockquote, Role::Definition, Role::Navigation, Role::Radiogroup, Role::Spinbutton],
-        11 => &[Role::Alertdialog, Role::Application, Role::Contentinfo, Role::Progressbar, Role::Superscript],
+        4 => &[
+            Role::Cell,
+            Role::Code,
+            Role::Feed,
+            Role::Form,
+            Role::Grid,
+            Role::Link,
+            Role::ListRole,
+            Role::Main,
+            Role::Math,
+            Role::Menu,
+            Role::NoneRole,
+            Role::Note,
+            Role::Term,
+            Role::Time,
+            Role::TreeRole,
+        ],
+        5 => &[
+            Role::Alert,
+            Role::Group,
+            Role::Meter,
+            Role::Radio,
+            Role::TableRole,
+            Role::Timer,
+        ],
+        6 => &[
+            Role::Banner,
+            Role::Button,
+            Role::Dialog,
+            Role::Figure,
+            Role::OptionRole,
+            Role::Region,
+            Role::Search,
+            Role::Slider,
+            Role::Status,
+            Role::Strong,
+            Role::Switch,
+        ],
+        7 => &[
+            Role::Article,
+            Role::Caption,
+            Role::Generic,
+            Role::Heading,
+            Role::Listbox,
+            Role::Marquee,
+            Role::Menubar,
+            Role::Tablist,
+            Role::Textbox,
+            Role::Toolbar,
+            Role::Tooltip,
+        ],
+        8 => &[
+            Role::Checkbox,
+            Role::Combobox,
+            Role::Deletion,
+            Role::DocumentRole,
+            Role::Emphasis,
+            Role::Gridcell,
+            Role::Listitem,
+            Role::Menuitem,
+            Role::Rowgroup,
+            Role::Tabpanel,
+            Role::Treegrid,
+            Role::Treeitem,
+        ],
+        9 => &[
+            Role::Directory,
+            Role::Insertion,
+            Role::Paragraph,
+            Role::Rowheader,
+            Role::Scrollbar,
+            Role::Searchbox,
+            Role::Separator,
+            Role::Subscript,
+        ],
+        10 => &[
+            Role::Blockquote,
+            Role::Definition,
+            Role::Navigation,
+            Role::Radiogroup,
+            Role::Spinbutton,
+        ],
+        11 => &[
+            Role::Alertdialog,
+            Role::Application,
+            Role::Contentinfo,
+            Role::Progressbar,
+            Role::Superscript,
+        ],
         12 => &[Role::Columnheader, Role::Presentation],
         13 => &[Role::Complementary, Role::Menuitemradio],
         16 => &[Role::Menuitemcheckbox],
@@ -210,7 +291,10 @@ fn roles_of_length(len: usize) -> &'static [Role]
 fn role_among(token: &[u8], roles: &[Role]) -> Option<Role>
     ensures { result ≡ find (λ role. same_folded token.now (word_of role)) roles.now }
 {
-    roles.iter().copied().find(|role| is_word(token, role.word()))
+    roles
+        .iter()
+        .copied()
+        .find(|role| is_word(token, role.word()))
 }
 
 /// The known role whose word this is, which compares ASCII case-insensitively; `None` where there is

@@ -49,12 +49,9 @@ pub fn value_kind(attr: AriaAttr) -> ValueKind
         | AriaAttr::Multiselectable
         | AriaAttr::Readonly
         | AriaAttr::Required => ValueKind::Truth,
-        AriaAttr::Expanded
-        | AriaAttr::Grabbed
-        | AriaAttr::Hidden
-        | AriaAttr::Selected => ValueKind::TruthOrUndefined,
-        AriaAttr::Checked
-        | AriaAttr::Pressed => ValueKind::Tristate,
+        AriaAttr::Expanded | AriaAttr::Grabbed | AriaAttr::Hidden | AriaAttr::Selected =>
+            ValueKind::TruthOrUndefined,
+        AriaAttr::Checked | AriaAttr::Pressed => ValueKind::Tristate,
         AriaAttr::Autocomplete
         | AriaAttr::Current
         | AriaAttr::Haspopup
@@ -62,8 +59,7 @@ pub fn value_kind(attr: AriaAttr) -> ValueKind
         | AriaAttr::Live
         | AriaAttr::Orientation
         | AriaAttr::Sort => ValueKind::Token,
-        AriaAttr::Dropeffect
-        | AriaAttr::Relevant => ValueKind::TokenList,
+        AriaAttr::Dropeffect | AriaAttr::Relevant => ValueKind::TokenList,
         AriaAttr::Colcount
         | AriaAttr::Colindex
         | AriaAttr::Colspan
@@ -73,12 +69,8 @@ pub fn value_kind(attr: AriaAttr) -> ValueKind
         | AriaAttr::Rowindex
         | AriaAttr::Rowspan
         | AriaAttr::Setsize => ValueKind::WholeNumber,
-        AriaAttr::Valuemax
-        | AriaAttr::Valuemin
-        | AriaAttr::Valuenow => ValueKind::Number,
-        AriaAttr::Activedescendant
-        | AriaAttr::Details
-        | AriaAttr::Errormessage => ValueKind::Id,
+        AriaAttr::Valuemax | AriaAttr::Valuemin | AriaAttr::Valuenow => ValueKind::Number,
+        AriaAttr::Activedescendant | AriaAttr::Details | AriaAttr::Errormessage => ValueKind::Id,
         AriaAttr::Controls
         | AriaAttr::Describedby
         | AriaAttr::Flowto
@@ -105,13 +97,22 @@ fn is_own_word(attr: AriaAttr, value: &[u8]) -> bool
 {
     match attr {
         AriaAttr::Autocomplete => is_among(value, &["inline", "list", "both", "none"]),
-        AriaAttr::Current => is_among(value, &["page", "step", "location", "date", "time", "true", "false"]),
-        AriaAttr::Haspopup => is_among(value, &["false", "true", "menu", "listbox", "tree", "grid", "dialog"]),
+        AriaAttr::Current => is_among(
+            value,
+            &["page", "step", "location", "date", "time", "true", "false"],
+        ),
+        AriaAttr::Haspopup => is_among(
+            value,
+            &["false", "true", "menu", "listbox", "tree", "grid", "dialog"],
+        ),
         AriaAttr::Invalid => is_among(value, &["grammar", "false", "spelling", "true"]),
         AriaAttr::Live => is_among(value, &["assertive", "off", "polite"]),
         AriaAttr::Orientation => is_among(value, &["horizontal", "undefined", "vertical"]),
         AriaAttr::Sort => is_among(value, &["ascending", "descending", "none", "other"]),
-        AriaAttr::Dropeffect => is_among(value, &["copy", "execute", "link", "move", "none", "popup"]),
+        AriaAttr::Dropeffect => is_among(
+            value,
+            &["copy", "execute", "link", "move", "none", "popup"],
+        ),
         AriaAttr::Relevant => is_among(value, &["additions", "all", "removals", "text"]),
         _ => false,
     }
