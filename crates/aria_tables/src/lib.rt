@@ -7,9 +7,11 @@
 
 mod attr;
 mod laws;
+mod number;
 mod owning;
 mod role;
 mod states;
+mod tokens;
 mod value;
 mod word;
 

@@ -1,14 +1,14 @@
-ghost use Rattle.std.specs.Prelude.{◌≡◌, ◌==◌, length, nat_lt};
-ghost use Rattle.std.specs.Char.{is_ascii_digit};
+ghost use Rattle.std.specs.Prelude.{◌≡◌};
 ghost use Rattle.std.specs.List.{list_all, list_any};
 ghost use Rattle.snap_tree.specs.Rows.{same_folded};
-ghost use Rattle.snap_tree.specs.Words.{words};
-ghost use Rattle.aria_tables.specs.Values.{value_kind, value_words, is_among, tokens, is_digits, after_minus, after_sign, after_digits, begins_with_digit, is_fraction, is_number, value_ok};
+ghost use Rattle.aria_tables.specs.Tokens.{tokens};
+ghost use Rattle.aria_tables.specs.Values.{value_kind, value_words, is_among, value_ok};
 
 use crate::attr::AriaAttr;
+use crate::number::{is_number, is_whole_number};
+use crate::tokens::{has_token, is_one_token, text_of};
 use crate::word::is_word;
 use snap_tree::next_word;
-use std::str;
 
 /// The kinds of values (WAI-ARIA 1.2, "Value"). Words and tokens compare ASCII case-insensitively, and a
 /// value compares whole. Tokens are the parts between runs of Unicode's White_Space.
@@ -118,32 +118,6 @@ fn is_own_word(attr: AriaAttr, value: &[u8]) -> bool
     }
 }
 
-// A value as text; bytes that are no UTF-8 have no token, like the empty text.
-#[tactic(auto, using(crate::proofs::Tokens::tokens_of_text, crate::proofs::Tokens::no_tokens))]
-fn text_of(value: &[u8]) -> &str
-    ensures { words result.now ≡ tokens value.now }
-{
-    match str::from_utf8(value) {
-        Ok(text) => text,
-        Err(_) => "",
-    }
-}
-
-fn has_token(value: &[u8]) -> bool
-    ensures { result ≡ nat_lt 0 (length (tokens value.now)) }
-{
-    next_word(text_of(value)).is_some()
-}
-
-fn is_one_token(value: &[u8]) -> bool
-    ensures { result ≡ (length (tokens value.now) == 1) }
-{
-    match next_word(text_of(value)) {
-        Some((_, rest)) => next_word(rest).is_none(),
-        None => false,
-    }
-}
-
 fn all_own_words(attr: AriaAttr, value: &[u8]) -> bool
     ensures { result ≡ list_all (is_among (value_words attr)) (tokens value.now) }
 {
@@ -155,77 +129,6 @@ fn all_own_words(attr: AriaAttr, value: &[u8]) -> bool
         rest = later;
     }
     true
-}
-
-fn all_digits(text: &[u8]) -> bool
-    ensures { result ≡ list_all is_ascii_digit text.now }
-{
-    text.iter().all(|c| c.is_ascii_digit())
-}
-
-fn is_digits(text: &[u8]) -> bool
-    ensures { result ≡ is_digits text.now }
-{
-    !text.is_empty() & all_digits(text)
-}
-
-fn after_minus(text: &[u8]) -> &[u8]
-    ensures { result.now ≡ after_minus text.now }
-{
-    match text {
-        [b'-', rest @ ..] => rest,
-        _ => text,
-    }
-}
-
-fn after_sign(text: &[u8]) -> &[u8]
-    ensures { result.now ≡ after_sign text.now }
-{
-    match text {
-        [b'+' | b'-', rest @ ..] => rest,
-        _ => text,
-    }
-}
-
-// What stands after the digits at the start.
-fn after_digits(text: &[u8]) -> &[u8]
-    ensures { result.now ≡ after_digits text.now }
-{
-    let mut rest = text;
-    while let [c, later @ ..] = rest {
-        if !c.is_ascii_digit() {
-            return rest;
-        }
-        rest = later;
-    }
-    rest
-}
-
-fn begins_with_digit(text: &[u8]) -> bool
-    ensures { result ≡ begins_with_digit text.now }
-{
-    match text {
-        [c, ..] => c.is_ascii_digit(),
-        [] => false,
-    }
-}
-
-// Whether it is nothing, or a point and digits.
-fn is_fraction(text: &[u8]) -> bool
-    ensures { result ≡ is_fraction text.now }
-{
-    match text {
-        [] => true,
-        [b'.', digits @ ..] => is_digits(digits),
-        _ => false,
-    }
-}
-
-fn is_number(value: &[u8]) -> bool
-    ensures { result ≡ is_number value.now }
-{
-    let unsigned = after_sign(value);
-    begins_with_digit(unsigned) & is_fraction(after_digits(unsigned))
 }
 
 /// Whether this is a value that the attribute may have: one of its kind. Bytes that are no UTF-8 have no
@@ -240,7 +143,7 @@ pub fn value_ok(attr: AriaAttr, value: &[u8]) -> bool
         ValueKind::Tristate => is_among(value, &["true", "false", "mixed", "undefined"]),
         ValueKind::Token => is_own_word(attr, value),
         ValueKind::TokenList => has_token(value) & all_own_words(attr, value),
-        ValueKind::WholeNumber => is_digits(after_minus(value)),
+        ValueKind::WholeNumber => is_whole_number(value),
         ValueKind::Number => is_number(value),
         ValueKind::Id => is_one_token(value),
         ValueKind::IdList => has_token(value),
