@@ -1,3 +1,4 @@
+pub mod Words
 pub mod Roles
 pub mod Attributes
 pub mod Tokens

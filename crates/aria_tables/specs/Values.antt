@@ -1,11 +1,11 @@
 -- The kind of value of each attribute, and which values are of a kind.
 use Rattle.std.specs.Prelude.{◌&&◌, ◌==◌, ℕ, List, [], ◌∷◌, codes, length, nat_lt, Bool, true}
-use Rattle.std.specs.List.{list_all, list_any}
-use Rattle.snap_tree.specs.Rows.{same_folded}
+use Rattle.std.specs.List.{list_all}
 use Rattle.aria_tables.specs.declared.attr.AriaAttr.{AriaAttr}
 use Rattle.aria_tables.specs.declared.attr.AriaAttr.TheVariants.{Activedescendant, Atomic, Autocomplete, Busy, Checked, Colcount, Colindex, Colspan, Controls, Current, Describedby, Details, Disabled, Dropeffect, Errormessage, Expanded, Flowto, Grabbed, Haspopup, Hidden, Invalid, Keyshortcuts, Label, Labelledby, Level, Live, Modal, Multiline, Multiselectable, Orientation, Owns, Placeholder, Posinset, Pressed, Readonly, Relevant, Required, Roledescription, Rowcount, Rowindex, Rowspan, Selected, Setsize, Sort, Valuemax, Valuemin, Valuenow, Valuetext}
 use Rattle.aria_tables.specs.Numbers.{is_number, is_whole_number}
 use Rattle.aria_tables.specs.Tokens.{tokens}
+use Rattle.aria_tables.specs.Words.{is_among}
 use Rattle.aria_tables.specs.declared.value.ValueKind.{ValueKind}
 use Rattle.aria_tables.specs.declared.value.ValueKind.TheVariants.{Truth, TruthOrUndefined, Tristate, Token, TokenList, WholeNumber, Number, Id, IdList, Anything}
 
@@ -71,10 +71,6 @@ value_words Sort = codes "ascending" ∷ codes "descending" ∷ codes "none" ∷
 value_words Dropeffect = codes "copy" ∷ codes "execute" ∷ codes "link" ∷ codes "move" ∷ codes "none" ∷ codes "popup" ∷ []
 value_words Relevant = codes "additions" ∷ codes "all" ∷ codes "removals" ∷ codes "text" ∷ []
 value_words _ = []
-
--- the value is one of these words, which compares ASCII case-insensitively
-abbrev pub is_among : List (List ℕ) → List ℕ → Bool
-is_among those value = list_any (same_folded value) those
 
 -- the value is of this kind, with these words
 abbrev pub is_of_kind : ValueKind → List (List ℕ) → List ℕ → Bool

@@ -18,9 +18,10 @@ mod word;
 pub use attr::{AriaAttr, attr_of, is_global, is_later, is_reference};
 pub use laws::laws_of_words;
 pub use owning::{allowed_owned, looks_through};
-pub use role::{Role, is_landmark, named_from_content, role_of};
+pub use role::{Role, is_landmark, named_from_content, role_of, same_role};
 pub use states::required_states;
 pub use value::{ValueKind, value_kind, value_ok};
+pub use word::is_among;
 
 #[cfg(test)]
 mod tests;

@@ -1,7 +1,7 @@
 ghost use Rattle.std.specs.Prelude.{◌≡◌, ◌==◌, filter, length};
 ghost use Rattle.std.specs.List.{find};
 ghost use Rattle.snap_tree.specs.Rows.{same_folded};
-ghost use Rattle.aria_tables.specs.Roles.{word_of, roles, role_of, named_from_content, is_landmark};
+ghost use Rattle.aria_tables.specs.Roles.{word_of, roles, role_of, same_role, is_one_of, named_from_content, is_landmark};
 
 use crate::word::is_word;
 
@@ -184,6 +184,13 @@ impl Role {
             Role::Treeitem => "treeitem",
         }
     }
+
+    /// Whether the role is one of these.
+    pub fn is_one_of(self, those: &[Role]) -> bool
+        ensures { result ≡ is_one_of those.now self }
+    {
+        those.iter().any(|role| same_role(self, *role))
+    }
 }
 
 // The roles whose words have this length.
@@ -303,6 +310,13 @@ pub fn role_of(token: &[u8]) -> Option<Role>
     ensures { result ≡ role_of token.now }
 {
     role_among(token, roles_of_length(token.len()))
+}
+
+/// Whether the two are one role.
+pub fn same_role(a: Role, b: Role) -> bool
+    ensures { result ≡ same_role a b }
+{
+    a == b
 }
 
 /// Whether the name of an element of this role may come from what it holds (WAI-ARIA 1.2, "Roles

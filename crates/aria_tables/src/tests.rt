@@ -1,9 +1,10 @@
 use crate::attr::AriaAttr::*;
 use crate::attr::{AriaAttr, attr_of, is_global, is_later, is_reference};
 use crate::owning::{allowed_owned, looks_through};
-use crate::role::{Role, is_landmark, named_from_content, role_of};
+use crate::role::{Role, is_landmark, named_from_content, role_of, same_role};
 use crate::states::required_states;
 use crate::value::{ValueKind, value_kind, value_ok};
+use crate::word::is_among;
 
 static ROLES: [(&str, Option<Role>); 14] = [
     ("img", Some(Role::Img)),
@@ -175,4 +176,7 @@ fn roles_and_attributes_are_of_their_kinds(rt: HostRuntime) {
     assert!(rt; is_landmark(Role::Search) & !is_landmark(Role::Article));
     assert!(rt; is_global(Hidden) & !is_global(Disabled));
     assert!(rt; is_reference(Flowto) & !is_reference(Controls));
+    assert!(rt; same_role(Role::Tab, Role::Tab) & !same_role(Role::Tab, Role::Tablist));
+    assert!(rt; Role::Tab.is_one_of(&[Role::Tablist, Role::Tab]) & !Role::Tab.is_one_of(&[]));
+    assert!(rt; is_among(b"Off", &["on", "off"]) & !is_among(b"of", &["on", "off"]));
 }

@@ -1,13 +1,13 @@
 ghost use Rattle.std.specs.Prelude.{◌≡◌};
-ghost use Rattle.std.specs.List.{list_all, list_any};
-ghost use Rattle.snap_tree.specs.Rows.{same_folded};
+ghost use Rattle.std.specs.List.{list_all};
 ghost use Rattle.aria_tables.specs.Tokens.{tokens};
-ghost use Rattle.aria_tables.specs.Values.{value_kind, value_words, is_among, value_ok};
+ghost use Rattle.aria_tables.specs.Words.{is_among};
+ghost use Rattle.aria_tables.specs.Values.{value_kind, value_words, value_ok};
 
 use crate::attr::AriaAttr;
 use crate::number::{is_number, is_whole_number};
 use crate::tokens::{has_token, is_one_token, text_of};
-use crate::word::is_word;
+use crate::word::is_among;
 use snap_tree::next_word;
 
 /// The kinds of values (WAI-ARIA 1.2, "Value"). Words and tokens compare ASCII case-insensitively, and a
@@ -82,13 +82,6 @@ pub fn value_kind(attr: AriaAttr) -> ValueKind
         | AriaAttr::Roledescription
         | AriaAttr::Valuetext => ValueKind::Anything,
     }
-}
-
-// Whether a value is one of these words.
-fn is_among(value: &[u8], those: &[&str]) -> bool
-    ensures { result ≡ list_any (λ word. same_folded value.now word.now) those.now }
-{
-    those.iter().any(|word| is_word(value, word))
 }
 
 // Whether a value, or a token of it, is one of the attribute's own words.
