@@ -1,0 +1,5 @@
+pub mod Roles
+pub mod Attributes
+pub mod Values
+pub mod States
+pub mod Owning

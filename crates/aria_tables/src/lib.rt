@@ -2,7 +2,14 @@
 #![tactic(auto)]
 
 mod attr;
+mod owning;
 mod role;
+mod states;
+mod value;
+mod word;
 
-pub use attr::AriaAttr;
-pub use role::Role;
+pub use attr::{AriaAttr, attr_of, is_global, is_later, is_reference};
+pub use owning::{allowed_owned, looks_through};
+pub use role::{Role, is_landmark, named_from_content, role_of};
+pub use states::required_states;
+pub use value::{ValueKind, value_kind, value_ok};
