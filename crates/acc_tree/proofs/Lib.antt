@@ -1,2 +1,3 @@
 pub mod Seeing
 pub mod Digits
+pub mod Sighting

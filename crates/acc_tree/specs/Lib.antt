@@ -7,3 +7,4 @@ pub mod Roles
 pub mod Inclusion
 pub mod Frames
 pub mod Sights
+pub mod Pages

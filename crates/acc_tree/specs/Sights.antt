@@ -7,6 +7,7 @@ use Rattle.snap_tree.specs.Rows.{has_number}
 use Rattle.snap_tree.specs.Spots.{Spot, spot}
 use Rattle.snap_tree.specs.Trees.{Trees, empty, tree}
 use Rattle.acc_tree.specs.declared.above.Above.{Above}
+use Rattle.acc_tree.specs.declared.sights.Sight.{Sight as LentSight}
 use Rattle.acc_tree.specs.Seen.{seen_row, seen}
 use Rattle.acc_tree.specs.Frames.{nothing_above, under, above_of}
 
@@ -24,13 +25,13 @@ sight_in n above (tree row kids after) =
     else option_or (sight_in n (under above row) kids) (sight_in n above after)
 
 -- the sight of a number; none where no row has it
-abbrev pub sight : Trees → NodeId → Option Sight
-sight trees n = sight_in n nothing_above trees
+abbrev pub sight_of : Trees → NodeId → Option Sight
+sight_of trees n = sight_in n nothing_above trees
 
 -- what is above the children of a number; nothing is above the roots, and above those of a stranger
 abbrev pub above_children : Trees → Option NodeId → Above
 above_children trees None = nothing_above
-above_children trees (Some n) = option_map_or (λ s. under s.above s.row) (sight trees n) nothing_above
+above_children trees (Some n) = option_map_or (λ s. under s.above s.row) (sight_of trees n) nothing_above
 
 -- what is above each node, in document order, where this is above the trees
 abbrev pub aboves_in : Above → Trees → List Above
@@ -46,13 +47,17 @@ aboves trees = aboves_in nothing_above trees
 abbrev pub summed : Spot → Sight
 summed s = record { row = s.row; below = s.below; above = above_of s.above }
 
+-- what is seen of a sight that is lent from a page
+abbrev pub seen_sight : LentSight → Sight
+seen_sight s = record { row = seen_row s.row.now; below = seen s.below; above = s.above }
+
 -- what is seen of a spot
 abbrev pub seen_spot : Spot → Spot
 seen_spot s = record { row = seen_row s.row; below = seen s.below; above = map seen_row s.above }
 
 -- a sight is the spot of the number, with the list above summed up
 abbrev pub SightIsSpot : Trees → NodeId → Type 0
-SightIsSpot trees n = sight trees n ≡ option_map summed (spot trees n)
+SightIsSpot trees n = sight_of trees n ≡ option_map summed (spot trees n)
 
 -- what is seen of a number's spot is its spot among what is seen of the trees
 abbrev pub SeenSpot : Trees → NodeId → Type 0

@@ -9,6 +9,7 @@ mod inclusion;
 mod inputs;
 mod numbers;
 mod roles;
+mod sights;
 mod tags;
 
 pub use above::{Above, TableAbove};
@@ -19,4 +20,5 @@ pub use inclusion::{exposed_at, included_at, is_hidden};
 pub use inputs::{InputType, input_type};
 pub use numbers::whole_number;
 pub use roles::{decorative_at, explicit_at, implicit_at, role_at};
+pub use sights::{Sight, above_children, sight_of};
 pub use tags::{Tag, any_tag, html_tag, known_tag};
