@@ -1,3 +1,4 @@
 pub mod Seeing
 pub mod Digits
 pub mod Sighting
+pub mod Asking

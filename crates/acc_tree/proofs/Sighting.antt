@@ -10,6 +10,7 @@ use Rattle.snap_tree.specs.Trees.{Trees, empty, tree}
 use Rattle.acc_tree.specs.declared.above.Above.{Above}
 use Rattle.acc_tree.specs.Frames.{nothing_above, under, above_of}
 use Rattle.acc_tree.specs.Seen.{seen_row, seen}
+use Rattle.acc_tree.specs.Pages.{said_of}
 use Rattle.acc_tree.specs.Sights.{Sight, sight_in, sight_of, above_children, summed, seen_spot, SightIsSpot, SeenSpot}
 
 map_or : {A B : Type 0} (f : A → B) (a b : Option A) → option_map f (option_or a b) ≡ option_or (option_map f a) (option_map f b)
@@ -138,3 +139,15 @@ sight_none f t n is = by_spot (spot t n) refl is
     by_spot : (o : Option Spot) → spot t n ≡ o → None ≡ option_map f o → None ≡ sight_of (seen t) n
     by_spot None e h = sym (seen_sight_is t n None e)
     by_spot (Some s) e h = cc
+
+-- ---- what is said by number
+
+pub said_found : {A : Type 0} (says : Above → Row → A) (stranger : A) (t : Trees) → IsClimbed t → (n : NodeId) (row : Row) → Some row ≡ option_map (λ s. s.row) (spot t n)
+    → says (above_children (seen t) row.parent) (seen_row row) ≡ said_of says stranger (seen t) n
+said_found says stranger t climbed n row is =
+    let at = spotted t climbed n row is in
+    ap (λ a. says a (seen_row row)) at.sums.above_is ∙ ap (λ r. says (above_of (map seen_row at.at.above)) (seen_row r)) (sym at.row_is)
+    ∙ sym (ap (λ o. option_map_or (λ s. says s.above s.row) o stranger) (seen_sight_is t n (Some at.at) at.found))
+
+pub said_none : {A : Type 0} (says : Above → Row → A) (stranger : A) (t : Trees) (n : NodeId) → None ≡ option_map (λ s. s.row) (spot t n) → stranger ≡ said_of says stranger (seen t) n
+said_none says stranger t n is = ap (λ o. option_map_or (λ s. says s.above s.row) o stranger) (sight_none (λ s. s.row) t n is)

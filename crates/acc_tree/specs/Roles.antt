@@ -225,6 +225,14 @@ tag_role above row tag.Textarea = Some role.Textbox
 tag_role above row tag.Th = Some (header_role row)
 tag_role above row _ = None
 
+-- the implicit role of such an element depends on what is above it
+abbrev pub asks_above : Tag → Bool
+asks_above tag.Footer = true
+asks_above tag.Header = true
+asks_above tag.Li = true
+asks_above tag.Td = true
+asks_above _ = false
+
 -- an element of another space, and one of another tag, has no implicit role
 abbrev pub implicit : Above → Row → Option Role
 implicit above row = option_and_then (tag_role above row) (html_tag row)

@@ -38,7 +38,7 @@ fn named_role(row: &Row) -> Option<Role>
     }
 }
 
-fn is_presentational(role: Role) -> bool
+pub(crate) fn is_presentational(role: Role) -> bool
     ensures { result ≡ is_presentational role }
 {
     matches!(role, Role::NoneRole | Role::Presentation)
@@ -244,7 +244,7 @@ fn header_role(row: &Row) -> Role
 }
 
 #[tactic(auto, unfolding(crate::specs::Roles::tag_role))]
-fn tag_role(above: &Above, row: &Row, tag: Tag) -> Option<Role>
+pub(crate) fn tag_role(above: &Above, row: &Row, tag: Tag) -> Option<Role>
     ensures { result ≡ tag_role above.now (seen_row row.now) tag }
 {
     match tag {
