@@ -2,3 +2,4 @@ pub mod Seeing
 pub mod Digits
 pub mod Sighting
 pub mod Asking
+pub mod Finding

@@ -11,7 +11,7 @@ use Rattle.acc_tree.specs.declared.above.Above.{Above}
 use Rattle.acc_tree.specs.Frames.{nothing_above, under, above_of}
 use Rattle.acc_tree.specs.Seen.{seen_row, seen}
 use Rattle.acc_tree.specs.Pages.{said_of}
-use Rattle.acc_tree.specs.Sights.{Sight, sight_in, sight_of, above_children, summed, seen_spot, SightIsSpot, SeenSpot}
+use Rattle.acc_tree.specs.Sights.{IsClimbed, Sight, sight_in, sight_of, above_children, summed, seen_spot, SightIsSpot, SeenSpot}
 
 map_or : {A B : Type 0} (f : A → B) (a b : Option A) → option_map f (option_or a b) ≡ option_or (option_map f a) (option_map f b)
 map_or f None b = refl
@@ -51,11 +51,6 @@ seen_sight_is : (t : Trees) (n : NodeId) (o : Option Spot) → spot t n ≡ o �
 seen_sight_is t n o e = sight_is_spot (seen t) n ∙ ap (option_map summed) (seen_spot_is t n ∙ ap (option_map seen_spot) e)
 
 -- ---- the way up
-
--- in these trees each node names the first of those above it, and that one stands below the others
-pub record IsClimbed (t : Trees) : Type 0 where
-  pub named : (n : NodeId) → NamesFirstAbove t n
-  pub climbs : (n : NodeId) → ClimbsAbove t n
 
 -- how many nodes are above the children of this one
 abbrev pub height : Trees → Option NodeId → ℕ

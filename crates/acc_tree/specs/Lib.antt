@@ -8,3 +8,4 @@ pub mod Inclusion
 pub mod Frames
 pub mod Sights
 pub mod Pages
+pub mod References

@@ -4,6 +4,7 @@ use Rattle.std.specs.Option.{option_or, option_map_or}
 use Rattle.snap_tree.specs.declared.row.NodeId.{NodeId}
 use Rattle.snap_tree.specs.declared.row.Row.{Row}
 use Rattle.snap_tree.specs.Rows.{has_number}
+use Rattle.snap_tree.specs.SpotLaws.{NamesFirstAbove, ClimbsAbove}
 use Rattle.snap_tree.specs.Spots.{Spot, spot}
 use Rattle.snap_tree.specs.Trees.{Trees, empty, tree}
 use Rattle.acc_tree.specs.declared.above.Above.{Above}
@@ -62,3 +63,8 @@ SightIsSpot trees n = sight_of trees n ≡ option_map summed (spot trees n)
 -- what is seen of a number's spot is its spot among what is seen of the trees
 abbrev pub SeenSpot : Trees → NodeId → Type 0
 SeenSpot trees n = spot (seen trees) n ≡ option_map seen_spot (spot trees n)
+
+-- in these trees each node names the first of those above it, and that one stands below the others
+pub record IsClimbed (t : Trees) : Type 0 where
+  pub named : (n : NodeId) → NamesFirstAbove t n
+  pub climbs : (n : NodeId) → ClimbsAbove t n

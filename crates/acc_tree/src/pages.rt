@@ -7,10 +7,10 @@ ghost use Rattle.acc_tree.specs.Pages.{explicit_role, implicit_role, role, is_ex
 
 use crate::inclusion::is_hidden;
 use crate::roles::{explicit_at, is_presentational, tag_role};
-use crate::sights::above_children;
+use crate::sights::{above_children, law_of_climbing};
 use crate::above::Above;
 use crate::tags::{Tag, html_tag};
-use snap_tree::{NodeId, Row, Tree, laws_of_spots};
+use snap_tree::{NodeId, Row, Tree};
 
 // Whether one of the ancestors has aria-hidden with the value `true`, given the parent's number. It
 // walks up, and asks nothing else of them.
@@ -20,8 +20,7 @@ fn is_hidden_above(tree: &Tree, parent: Option<NodeId>) -> bool
     let Some(n) = parent else {
         return false;
     };
-    laws_of_spots();
-    let _rows = tree.rows();
+    law_of_climbing(tree);
     match tree.node(n) {
         Some(row) => is_hidden_above(tree, row.parent) | is_hidden(row),
         None => false,
@@ -90,8 +89,7 @@ fn included_in(tree: &Tree, row: &Row) -> bool
 pub fn explicit_role(tree: &Tree, n: NodeId) -> Option<aria_tables::Role>
     ensures { result ≡ explicit_role (seen tree.now.trees) n }
 {
-    laws_of_spots();
-    let _rows = tree.rows();
+    law_of_climbing(tree);
     match tree.node(n) {
         Some(row) => explicit_at(row),
         None => None,
@@ -103,8 +101,7 @@ pub fn explicit_role(tree: &Tree, n: NodeId) -> Option<aria_tables::Role>
 pub fn implicit_role(tree: &Tree, n: NodeId) -> Option<aria_tables::Role>
     ensures { result ≡ implicit_role (seen tree.now.trees) n }
 {
-    laws_of_spots();
-    let _rows = tree.rows();
+    law_of_climbing(tree);
     match tree.node(n) {
         Some(row) => implicit_in(tree, row),
         None => None,
@@ -116,8 +113,7 @@ pub fn implicit_role(tree: &Tree, n: NodeId) -> Option<aria_tables::Role>
 pub fn role(tree: &Tree, n: NodeId) -> Option<aria_tables::Role>
     ensures { result ≡ role (seen tree.now.trees) n }
 {
-    laws_of_spots();
-    let _rows = tree.rows();
+    law_of_climbing(tree);
     match tree.node(n) {
         Some(row) => role_in(tree, row),
         None => None,
@@ -129,8 +125,7 @@ pub fn role(tree: &Tree, n: NodeId) -> Option<aria_tables::Role>
 pub fn exposed(tree: &Tree, n: NodeId) -> bool
     ensures { result ≡ is_exposed (seen tree.now.trees) n }
 {
-    laws_of_spots();
-    let _rows = tree.rows();
+    law_of_climbing(tree);
     match tree.node(n) {
         Some(row) => exposed_in(tree, row),
         None => false,
@@ -143,8 +138,7 @@ pub fn exposed(tree: &Tree, n: NodeId) -> bool
 pub fn included(tree: &Tree, n: NodeId) -> bool
     ensures { result ≡ is_included (seen tree.now.trees) n }
 {
-    laws_of_spots();
-    let _rows = tree.rows();
+    law_of_climbing(tree);
     match tree.node(n) {
         Some(row) => included_in(tree, row),
         None => false,
@@ -155,8 +149,7 @@ pub fn included(tree: &Tree, n: NodeId) -> bool
 pub fn decorative(tree: &Tree, n: NodeId) -> bool
     ensures { result ≡ is_decorative (seen tree.now.trees) n }
 {
-    laws_of_spots();
-    let _rows = tree.rows();
+    law_of_climbing(tree);
     match tree.node(n) {
         Some(row) => decorative_in(tree, row),
         None => false,
