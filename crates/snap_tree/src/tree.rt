@@ -233,7 +233,14 @@ impl Tree {
     pub fn first_with_id(&self, id: &Text) -> Option<NodeId>
         ensures { result ≡ first_with_id self.now.trees id.now }
     {
-        group(&self.index.ids, id.as_str()).first().copied()
+        self.by_id(id.as_str())
+    }
+
+    /// The same of an id that no `Text` holds, such as a word of a longer text.
+    pub fn by_id(&self, id: &str) -> Option<NodeId>
+        ensures { result ≡ first_with_id self.now.trees id.now }
+    {
+        group(&self.index.ids, id).first().copied()
     }
 
     /// The labels of a node: first, where it is the first element with its id, the HTML labels whose
