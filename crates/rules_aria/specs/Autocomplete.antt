@@ -1,11 +1,10 @@
 -- What autocomplete may say, and of which fields it is asked.
-use Rattle.std.specs.Prelude.{◌&&◌, ◌||◌, not, ℕ, List, [], ◌∷◌, take, codes, Bool, true, false, if◌then◌else◌, Option, Some, None, option_and_then}
-use Rattle.std.specs.Str.{bytes_eq}
+use Rattle.std.specs.Prelude.{◌&&◌, ◌||◌, not, ℕ, List, [], ◌∷◌, codes, Bool, true, false, if◌then◌else◌, Option, Some, None, option_and_then}
 use Rattle.snap_tree.specs.declared.row.NodeId.{NodeId}
 use Rattle.snap_tree.specs.declared.row.Row.{Row}
 use Rattle.snap_tree.specs.Rows.{same_folded}
 use Rattle.snap_tree.specs.Trees.{Document}
-use Rattle.snap_tree.specs.Words.{blank, folded, words}
+use Rattle.snap_tree.specs.Words.{blank, words}
 use Rattle.aria_tables.specs.declared.attr.AriaAttr.TheVariants as aria
 use Rattle.aria_tables.specs.Words.{is_among}
 use Rattle.acc_tree.specs.declared.above.Above.{Above}
@@ -26,6 +25,7 @@ use Rattle.rule_core.specs.declared.verdict.Verdict.{Verdict}
 use Rattle.rule_core.specs.Infos.{atomic}
 use Rattle.rule_core.specs.Findings.{met, failed, verdict_of}
 use Rattle.rules_aria.specs.Nodes.{said_with}
+use Rattle.rules_aria.specs.Token.{begins}
 
 -- ---- the tokens, in their order
 
@@ -46,7 +46,7 @@ nothing_more (token ∷ tokens) = false
 -- ---- what a token may be; tokens compare with ASCII letters in lower case
 
 abbrev pub begins_section : List ℕ → Bool
-begins_section token = bytes_eq (take 8 (folded token)) (codes "section-")
+begins_section = begins (codes "section-")
 
 abbrev pub is_address_kind : List ℕ → Bool
 is_address_kind = is_among (codes "shipping" ∷ codes "billing" ∷ [])

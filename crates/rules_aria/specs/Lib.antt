@@ -1,2 +1,6 @@
 pub mod Nodes
+pub mod Token
+pub mod Joined
+pub mod AriaLines
 pub mod Autocomplete
+pub mod Role

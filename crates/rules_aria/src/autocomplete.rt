@@ -6,6 +6,7 @@ ghost use Rattle.acc_tree.specs.Tags.{html_tag};
 ghost use Rattle.rules_aria.specs.Autocomplete.{begins_section, is_address_kind, is_contact_kind, is_webauthn, is_on_or_off, fields, contact_fields, one, optionally, nothing_more, ending, a_field, a_contact_field, either_field, a_detail, is_accepted, takes_data, is_form_field, is_disabled, asks_for_data, is_autocomplete_target, autocomplete_finding, autocomplete_verdict, autocomplete_is_valid, autocomplete_is_valid_info};
 
 use crate::nodes::sight_with;
+use crate::token::begins;
 use acc_tree::{
     Above, Attribute, InputType, Tag, attr, has, html_tag, included_at, input_type, is_word_at,
 };
@@ -88,10 +89,7 @@ pub struct AutocompleteIsValid;
 fn begins_section(token: &str) -> bool
     ensures { result ≡ begins_section token.now }
 {
-    match token.as_bytes().split_at_checked(8) {
-        Some((prefix, _)) => prefix.eq_ignore_ascii_case(b"section-"),
-        None => false,
-    }
+    begins(token, "section-")
 }
 
 fn is_address_kind(token: &str) -> bool

@@ -6,9 +6,9 @@ ghost use Rattle.rules_aria.specs.Nodes.{sight_with};
 use acc_tree::{Attribute, Sight, has, sight_of};
 use snap_tree::{NodeId, Tree};
 
-#[tactic(auto, using(crate::proofs::RowFirst::no_node, crate::proofs::RowFirst::has_not, crate::proofs::RowFirst::has_it))]
 /// The sight of a node that has an attribute, be it blank. Where the node hasn't got it, nothing else of
 /// the page is looked at.
+#[tactic(auto, using(crate::proofs::RowFirst::no_node, crate::proofs::RowFirst::has_not, crate::proofs::RowFirst::has_it))]
 pub(crate) fn sight_with(tree: &Tree, n: NodeId, name: Attribute) -> Option<Sight<'_>>
     ensures { option_map seen_sight result ≡ sight_with name (seen tree.now.trees) n }
 {
