@@ -104,16 +104,26 @@ pub fn owned_by(alloc: Global, sight: Sight<'_>, through: &[Role]) -> Result<Lis
     Ok(List::from_vec(list))
 }
 
+fn numbers_of(alloc: Global, elements: &[OwnedElement]) -> Result<List<NodeId>, OutOfMemory>
+    ensures { IfOk result (λ list. list ≡ map (λ o. o.node) elements.now) }
+{
+    let mut numbers = Vec::new(alloc);
+    for element in elements {
+        numbers.push(element.node)?;
+    }
+    Ok(List::from_vec(numbers))
+}
+
 /// The numbers of the elements that a node owns, with no role looked through (see `owned_by`). None for a
 /// number that the tree doesn't hold.
 pub fn owned(alloc: Global, tree: &Tree, n: NodeId) -> Result<List<NodeId>, OutOfMemory>
     ensures { IfOk result (λ list. list ≡ owned (seen tree.now.trees) n) }
 {
-    let mut list = Vec::new(alloc);
-    if let Some(sight) = sight_of(tree, n) {
-        for element in owned_by(alloc, sight, &[])?.as_slice() {
-            list.push(element.node)?;
+    match sight_of(tree, n) {
+        Some(sight) => {
+            let elements = owned_by(alloc, sight, &[])?;
+            numbers_of(alloc, elements.as_slice())
         }
+        None => Ok(List::from_vec(Vec::new(alloc))),
     }
-    Ok(List::from_vec(list))
 }
