@@ -24,7 +24,7 @@ use Rattle.rule_core.specs.declared.finding.Finding.{Finding}
 use Rattle.rule_core.specs.declared.verdict.Verdict.{Verdict}
 use Rattle.rule_core.specs.Infos.{atomic}
 use Rattle.rule_core.specs.Findings.{met, failed, verdict_of}
-use Rattle.rules_aria.specs.Nodes.{said_with}
+use Rattle.rules_aria.specs.Nodes.{said_where}
 use Rattle.rules_aria.specs.Token.{begins}
 
 -- ---- the tokens, in their order
@@ -145,7 +145,7 @@ autocomplete_verdict above row =
 
 -- autocomplete attribute has valid value
 abbrev pub autocomplete_is_valid : Document → NodeId → Option Verdict
-autocomplete_is_valid = said_with attribute.Autocomplete autocomplete_verdict
+autocomplete_is_valid = said_where (has attribute.Autocomplete) autocomplete_verdict
 
 abbrev pub autocomplete_is_valid_info : RuleInfo
 autocomplete_is_valid_info = atomic 17 (codes "73f2c2") SelfOnly SelfOnly

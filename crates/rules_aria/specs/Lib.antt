@@ -4,3 +4,8 @@ pub mod Joined
 pub mod AriaLines
 pub mod Autocomplete
 pub mod Role
+pub mod AriaAttribute
+pub mod AriaValue
+pub mod RequiredStates
+pub mod OwnedElements
+pub mod AriaHidden

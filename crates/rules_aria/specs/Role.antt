@@ -10,7 +10,7 @@ use Rattle.aria_tables.specs.Roles.{role_of}
 use Rattle.acc_tree.specs.declared.above.Above.{Above}
 use Rattle.acc_tree.specs.declared.attributes.Attribute.TheVariants as attribute
 use Rattle.acc_tree.specs.Inclusion.{exposed}
-use Rattle.acc_tree.specs.Seen.{attr}
+use Rattle.acc_tree.specs.Seen.{attr, has}
 use Rattle.rule_core.specs.declared.info.RuleInfo.{RuleInfo}
 use Rattle.rule_core.specs.declared.info.Class.TheVariants.{SelfOnly}
 use Rattle.rule_core.specs.declared.reason.Reason.TheVariants.{NoKnownRole, OutsideRole}
@@ -18,7 +18,7 @@ use Rattle.rule_core.specs.declared.finding.Finding.{Finding}
 use Rattle.rule_core.specs.declared.verdict.Verdict.{Verdict}
 use Rattle.rule_core.specs.Infos.{atomic}
 use Rattle.rule_core.specs.Findings.{met, failed, cant_tell, verdict_of}
-use Rattle.rules_aria.specs.Nodes.{said_with}
+use Rattle.rules_aria.specs.Nodes.{said_where}
 use Rattle.rules_aria.specs.Token.{begins}
 
 -- some token is a known role
@@ -47,7 +47,7 @@ role_verdict above row =
 
 -- role attribute has valid value
 abbrev pub role_is_valid : Document → NodeId → Option Verdict
-role_is_valid = said_with attribute.RoleAttr role_verdict
+role_is_valid = said_where (has attribute.RoleAttr) role_verdict
 
 abbrev pub role_is_valid_info : RuleInfo
 role_is_valid_info = atomic 18 (codes "674b10") SelfOnly SelfOnly
