@@ -1,4 +1,4 @@
-ghost use Rattle.std.specs.Prelude.{◌≡◌, IfOk};
+ghost use Rattle.std.specs.Prelude.{◌≡◌, ◌<◌, ◌^◌, decimal, IfOk};
 ghost use Rattle.acc_tree.specs.Sights.{seen_sight};
 ghost use Rattle.rules_aria.specs.AriaHidden.{stops_among, stops, hidden_finding, number_words, hidden_verdict, hidden_holds_no_focus, hidden_holds_no_focus_info};
 
@@ -50,13 +50,19 @@ fn finding(nodes: &[NodeId]) -> Finding
     }
 }
 
+fn number_word(alloc: Global, number: u32) -> Result<Text, OutOfMemory>
+    ensures word { IfOk result (λ word. word ≡ decimal number) }
+    ensures small { number < 2 ^ 32 }
+{
+    Ok(Text::from_string(format!(in alloc; "{number}")?))
+}
+
 fn number_words(alloc: Global, nodes: &[NodeId]) -> Result<Text, OutOfMemory>
     ensures { IfOk result (λ text. text ≡ number_words nodes.now) }
 {
     let mut words = String::new(alloc);
     for n in nodes {
-        let number = n.0;
-        let word = format!(in alloc; "{number}")?;
+        let word = number_word(alloc, n.0)?;
         add_word(&mut words, word.as_str())?;
     }
     Ok(Text::from_string(words))
