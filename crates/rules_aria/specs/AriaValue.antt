@@ -1,5 +1,5 @@
 -- Which values ARIA attributes may have, and what their references find.
-use Rattle.std.specs.Prelude.{◌&&◌, not, ℕ, List, [], ◌∷◌, codes, Bool, true, false, if◌then◌else◌, Option, Some, None}
+use Rattle.std.specs.Prelude.{◌&&◌, ◌==◌, not, ℕ, List, codes, length, Bool, false, if◌then◌else◌, Option, Some, None}
 use Rattle.std.specs.Option.{is_some, option_map_or}
 use Rattle.std.specs.List.{list_any}
 use Rattle.snap_tree.specs.declared.row.NodeId.{NodeId}
@@ -32,13 +32,9 @@ filled_attr a = if blank a.value then None else attr_of a.name
 abbrev pub is_bad : Attr → Bool
 is_bad a = option_map_or (λ known. not (value_ok known a.value)) (filled_attr a) false
 
-abbrev pub is_nothing : List NodeId → Bool
-is_nothing [] = true
-is_nothing (n ∷ nodes) = false
-
 -- the attribute refers to elements, and no token of its value is the id of one; what words find is given
 abbrev pub is_dead : (List (List ℕ) → List NodeId) → Attr → Bool
-is_dead finds a = option_map_or (λ known. is_reference known && is_nothing (finds (words a.value))) (filled_attr a) false
+is_dead finds a = option_map_or (λ known. is_reference known && length (finds (words a.value)) == 0) (filled_attr a) false
 
 abbrev pub value_finding : (List (List ℕ) → List NodeId) → List Attr → Finding
 value_finding finds attrs =

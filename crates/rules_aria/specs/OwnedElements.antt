@@ -1,5 +1,5 @@
 -- What an element of an explicit role owns.
-use Rattle.std.specs.Prelude.{◌&&◌, not, ℕ, List, [], ◌∷◌, map, codes, Bool, true, false, if◌then◌else◌, Option, Some, None, option_and_then}
+use Rattle.std.specs.Prelude.{◌&&◌, ◌==◌, not, ℕ, List, [], ◌∷◌, map, codes, length, Bool, if◌then◌else◌, Option, Some, None, option_and_then}
 use Rattle.std.specs.List.{list_all, join_with_byte}
 use Rattle.snap_tree.specs.declared.row.NodeId.{NodeId}
 use Rattle.snap_tree.specs.declared.row.Row.{Row}
@@ -37,22 +37,18 @@ owned_finding allowed (o ∷ elements) = if are_allowed allowed (o ∷ elements)
 abbrev pub role_words : List OwnedElement → List ℕ
 role_words elements = join_with_byte 32 (map (λ o. word_of o.role) elements)
 
-abbrev pub owned_evidence : List Role → List OwnedElement → Verdict
-owned_evidence allowed elements = verdict_of (owned_finding allowed elements) (role_words elements)
-
-abbrev pub asks_none : List Role → Bool
-asks_none [] = true
-asks_none (r ∷ roles) = false
+abbrev pub verdict_on : List Role → List OwnedElement → Verdict
+verdict_on allowed elements = verdict_of (owned_finding allowed elements) (role_words elements)
 
 abbrev pub is_owner_target : Above → Row → Role → Bool
 is_owner_target above row role =
-    not (asks_none (allowed_owned role)) && (not (is_word_at (attribute.Aria aria.Busy) (codes "true") row) && included above row)
+    not (length (allowed_owned role) == 0) && (not (is_word_at (attribute.Aria aria.Busy) (codes "true") row) && included above row)
 
 -- the target is an included element of an explicit role that is asked what it owns, and that isn't busy; the
 -- evidence is the roles of what it owns
 abbrev pub owned_verdict : Sight → Option Verdict
 owned_verdict s =
-    option_and_then (λ role. if is_owner_target s.above s.row role then Some (owned_evidence (allowed_owned role) (owned_by (looks_through role) s)) else None) (explicit s.row)
+    option_and_then (λ role. if is_owner_target s.above s.row role then Some (verdict_on (allowed_owned role) (owned_by (looks_through role) s)) else None) (explicit s.row)
 
 -- ARIA required owned elements
 abbrev pub owns_required_elements : Document → NodeId → Option Verdict

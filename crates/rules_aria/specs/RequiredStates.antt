@@ -1,5 +1,5 @@
 -- The states and properties that an explicit role requires.
-use Rattle.std.specs.Prelude.{◌&&◌, ◌||◌, not, List, [], ◌∷◌, codes, Bool, true, false, if◌then◌else◌, Option, Some, None, option_and_then}
+use Rattle.std.specs.Prelude.{◌&&◌, ◌||◌, ◌==◌, not, List, codes, length, Bool, true, false, if◌then◌else◌, Option, Some, None, option_and_then}
 use Rattle.std.specs.Option.{option_map_or}
 use Rattle.std.specs.List.{list_any}
 use Rattle.snap_tree.specs.declared.row.NodeId.{NodeId}
@@ -44,10 +44,6 @@ is_check_input row _ = false
 abbrev pub is_exempt : Above → Row → Role → Bool
 is_exempt above row role = option_map_or (same_role role) (implicit above row) false || is_check_input row (html_tag row)
 
-abbrev pub requires_none : List AriaAttr → Bool
-requires_none [] = true
-requires_none (a ∷ attrs) = false
-
 abbrev pub lacks_one : Row → List AriaAttr → Bool
 lacks_one row states = list_any (λ state. is_blank_at (attribute.Aria state) row) states
 
@@ -56,7 +52,7 @@ states_finding row role = if lacks_one row (required_states role) then failed Mi
 
 abbrev pub is_states_target : Above → Row → Role → Bool
 is_states_target above row role =
-    not (requires_none (required_states role)) && (not (is_exempt above row role) && included above row)
+    not (length (required_states role) == 0) && (not (is_exempt above row role) && included above row)
 
 -- the target is an included element of an explicit role that requires states which the browser doesn't
 -- tell; the evidence is the lines of its ARIA attributes

@@ -77,3 +77,6 @@ impl Rule for AriaAttributeIsDefined {
         }
     }
 }
+
+#[cfg(test)]
+mod tests;

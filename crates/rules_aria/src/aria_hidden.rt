@@ -95,3 +95,6 @@ impl Rule for HiddenHoldsNoFocus {
         }
     }
 }
+
+#[cfg(test)]
+mod tests;

@@ -122,3 +122,6 @@ impl Rule for AriaValueIsValid {
         }
     }
 }
+
+#[cfg(test)]
+mod tests;

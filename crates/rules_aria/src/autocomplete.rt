@@ -299,3 +299,6 @@ impl Rule for AutocompleteIsValid {
         }
     }
 }
+
+#[cfg(test)]
+mod tests;

@@ -13,6 +13,8 @@ mod nodes;
 mod owned_elements;
 mod required_states;
 mod role;
+#[cfg(test)]
+mod samples;
 mod token;
 
 pub use aria_attribute::AriaAttributeIsDefined;

@@ -1,7 +1,7 @@
 ghost use Rattle.std.specs.Prelude.{◌≡◌, IfOk};
 ghost use Rattle.acc_tree.specs.Seen.{seen_row};
 ghost use Rattle.acc_tree.specs.Sights.{seen_sight};
-ghost use Rattle.rules_aria.specs.OwnedElements.{are_allowed, owned_finding, role_words, owned_evidence, is_owner_target, owned_verdict, owns_required_elements, owns_required_elements_info};
+ghost use Rattle.rules_aria.specs.OwnedElements.{are_allowed, owned_finding, role_words, verdict_on, is_owner_target, owned_verdict, owns_required_elements, owns_required_elements_info};
 
 use crate::joined::add_word;
 use crate::nodes::sight_with;
@@ -52,12 +52,12 @@ fn role_words(alloc: Global, elements: &[OwnedElement]) -> Result<Text, OutOfMem
     Ok(Text::from_string(words))
 }
 
-fn evidence(
+fn verdict_on(
     alloc: Global,
     allowed: &[Role],
     elements: &[OwnedElement],
 ) -> Result<Verdict, OutOfMemory>
-    ensures { IfOk result (λ verdict. verdict ≡ owned_evidence allowed.now elements.now) }
+    ensures { IfOk result (λ verdict. verdict ≡ verdict_on allowed.now elements.now) }
 {
     let words = role_words(alloc, elements)?;
     finding(allowed, elements).verdict(alloc, &words)
@@ -81,7 +81,7 @@ fn verdict(alloc: Global, sight: Sight<'_>) -> Result<Option<Verdict>, OutOfMemo
         return Ok(None);
     }
     let elements = owned_by(alloc, sight, looks_through(role))?;
-    Ok(Some(evidence(alloc, allowed_owned(role), elements.as_slice())?))
+    Ok(Some(verdict_on(alloc, allowed_owned(role), elements.as_slice())?))
 }
 
 impl Rule for OwnsRequiredElements {
@@ -100,3 +100,6 @@ impl Rule for OwnsRequiredElements {
         }
     }
 }
+
+#[cfg(test)]
+mod tests;

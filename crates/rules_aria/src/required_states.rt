@@ -99,3 +99,6 @@ impl Rule for HasRequiredStates {
         }
     }
 }
+
+#[cfg(test)]
+mod tests;

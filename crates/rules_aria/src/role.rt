@@ -95,3 +95,6 @@ impl Rule for RoleIsValid {
         }
     }
 }
+
+#[cfg(test)]
+mod tests;
