@@ -1,0 +1,5 @@
+pub mod Seeing
+pub mod Digits
+pub mod Sighting
+pub mod Asking
+pub mod Finding
