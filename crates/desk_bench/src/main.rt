@@ -1,6 +1,7 @@
 //! Times the steps below an audit on one snapshot: reading it, building its tree, copying and writing
-//! the tree, and editing it. It reads the snapshot from standard input, says on standard output how
-//! much there was, and on standard error what processor time each step took. `bench/parts` runs it.
+//! the tree, telling the roles of its nodes, and editing it. It reads the snapshot from standard input,
+//! says on standard output how much there was, and on standard error what processor time each step
+//! took. `bench/parts` runs it.
 #![tactic(auto)]
 
 mod clock;

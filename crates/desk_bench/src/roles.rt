@@ -1,72 +1,59 @@
 use crate::clock::{Stopped, tell, time_of};
-use acc_tree::{aboves, included_at, owned_by, role, role_at, sight_of};
-use aria_tables::Role;
-use snap_tree::{NodeId, OutOfMemory, Tree};
+use acc_tree::{aboves, included, included_at, role, role_at};
+use snap_tree::{OutOfMemory, Tree};
 use std::alloc::Global;
 use std::time::CpuClock;
 
-/// Counts of one pass over the page.
-#[derive(Clone, Copy)]
+/// How many nodes have a role, and how many are in the accessibility tree.
+#[derive(Clone, Copy, PartialEq, Eq)]
 struct Counts {
     with_role: usize,
     included: usize,
 }
 
-fn counted(n: usize, one: bool) -> usize {
-    if one { n.saturating_add(1) } else { n }
+impl Counts {
+    fn add(&mut self, has_role: bool, is_included: bool) {
+        self.with_role = self.with_role.saturating_add(usize::from(has_role));
+        self.included = self.included.saturating_add(usize::from(is_included));
+    }
 }
 
-// The roles and the inclusion of all nodes, by one pass.
-fn counts_of(alloc: Global, tree: &Tree) -> Result<Counts, OutOfMemory> {
+const NONE: Counts = Counts {
+    with_role: 0,
+    included: 0,
+};
+
+fn counts_in_one_pass(alloc: Global, tree: &Tree) -> Result<Counts, OutOfMemory> {
     let list = aboves(alloc, tree)?;
-    let mut with_role = 0;
-    let mut included = 0;
+    let mut counts = NONE;
     for (row, above) in tree.rows().iter().zip(list.as_slice()) {
-        with_role = counted(with_role, role_at(above, row).is_some());
-        included = counted(included, included_at(above, row));
+        counts.add(role_at(above, row).is_some(), included_at(above, row));
     }
-    Ok(Counts {
-        with_role,
-        included,
-    })
+    Ok(counts)
 }
 
-// The same by each node's number.
 fn counts_by_number(tree: &Tree) -> Counts {
-    let mut with_role = 0;
-    let mut included = 0;
+    let mut counts = NONE;
     for row in tree.rows() {
-        with_role = counted(with_role, role(tree, row.id).is_some());
-        included = counted(included, acc_tree::included(tree, row.id));
+        counts.add(role(tree, row.id).is_some(), included(tree, row.id));
     }
-    Counts {
-        with_role,
-        included,
-    }
+    counts
 }
 
-fn owned_count(alloc: Global, tree: &Tree, n: NodeId) -> Result<usize, OutOfMemory> {
-    match sight_of(tree, n) {
-        Some(sight) => Ok(owned_by(alloc, sight, &[Role::Paragraph])?.len()),
-        None => Ok(0),
-    }
-}
-
-/// Times the roles and the inclusion of all nodes of the page, by one pass and by number.
+/// Times the roles and the inclusion of all nodes of the page, in one pass and by number.
 pub(crate) fn time_roles<R: CpuClock + Eprint + AllocGlobal>(
     rt: &R,
     tree: &Tree,
 ) -> Result<(), Stopped> {
     let start = time_of(rt)?;
-    let passed = counts_of(rt.alloc(), tree)?;
+    let passed = counts_in_one_pass(rt.alloc(), tree)?;
     tell(rt, "roles", start)?;
     let start = time_of(rt)?;
     let numbered = counts_by_number(tree);
     tell(rt, "roles by number", start)?;
-    if passed.with_role != numbered.with_role || passed.included != numbered.included {
-        return Err(Stopped("roles"));
+    if passed == numbered {
+        Ok(())
+    } else {
+        Err(Stopped("roles"))
     }
-    let start = time_of(rt)?;
-    let _owned = owned_count(rt.alloc(), tree, NodeId(1))?;
-    tell(rt, "owned", start)
 }
