@@ -133,9 +133,9 @@ aria_seen a begins = rw begins refl
 
 -- ---- rows
 
-value_seen : (name : Attribute) (body : Body) → value_of (attribute_name name) (attrs_in (seen_body body)) ≡ value_of (attribute_name name) (attrs_in body)
-value_seen name (Element space tag attrs) = ap (option_map (λ a. a.value)) (find-kept (λ a. same_folded a.name (attribute_name name)) (λ a. is_looked_at a.name) (named_seen name) attrs)
-value_seen name (Words text) = refl
+value_seen : (asked : Attribute) (body : Body) → value_of (attribute_name asked) (attrs_in (seen_body body)) ≡ value_of (attribute_name asked) (attrs_in body)
+value_seen asked (Element space tag attrs) = ap (option_map (λ a. a.value)) (find-kept (λ a. same_folded a.name (attribute_name asked)) (λ a. is_looked_at a.name) (named_seen asked) attrs)
+value_seen asked (Words text) = refl
 
 pub attr_seen : (name : Attribute) (row : Row) → attr name (seen_row row) ≡ attribute (attribute_name name) row
 attr_seen name row = value_seen name row.body
