@@ -2,6 +2,10 @@ ghost use Rattle.std.specs.Prelude.{◌≡◌};
 
 use counts::next;
 use rule_core::{Rule, RuleBook, RuleInfo, RuleNo, Verdict};
+use rules_aria::{
+    AriaAttributeIsDefined, AriaValueIsValid, AutocompleteIsValid, HasRequiredStates,
+    HiddenHoldsNoFocus, OwnsRequiredElements, RoleIsValid,
+};
 use rules_page::{PageHasLang, PageHasTitle};
 use snap_tree::{NodeId, OutOfMemory, Tree};
 use std::alloc::Global;
@@ -38,6 +42,13 @@ impl RuleBook for Early {
         match place {
             0 => Some(PageHasTitle.info()),
             1 => Some(PageHasLang.info()),
+            2 => Some(AutocompleteIsValid.info()),
+            3 => Some(RoleIsValid.info()),
+            4 => Some(AriaAttributeIsDefined.info()),
+            5 => Some(AriaValueIsValid.info()),
+            6 => Some(HasRequiredStates.info()),
+            7 => Some(OwnsRequiredElements.info()),
+            8 => Some(HiddenHoldsNoFocus.info()),
             _ => None,
         }
     }
@@ -53,6 +64,13 @@ impl RuleBook for Early {
         match rule.0 {
             1 => PageHasTitle.judge(alloc, tree, n),
             3 => PageHasLang.judge(alloc, tree, n),
+            17 => AutocompleteIsValid.judge(alloc, tree, n),
+            18 => RoleIsValid.judge(alloc, tree, n),
+            19 => AriaAttributeIsDefined.judge(alloc, tree, n),
+            20 => AriaValueIsValid.judge(alloc, tree, n),
+            21 => HasRequiredStates.judge(alloc, tree, n),
+            22 => OwnsRequiredElements.judge(alloc, tree, n),
+            23 => HiddenHoldsNoFocus.judge(alloc, tree, n),
             _ => Ok(None),
         }
     }

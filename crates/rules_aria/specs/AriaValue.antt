@@ -20,7 +20,7 @@ use Rattle.rule_core.specs.declared.reason.Reason.TheVariants.{BadValue, DeadRef
 use Rattle.rule_core.specs.declared.finding.Finding.{Finding}
 use Rattle.rule_core.specs.declared.verdict.Verdict.{Verdict}
 use Rattle.rule_core.specs.Infos.{atomic}
-use Rattle.rule_core.specs.Findings.{met, failed, cant_tell, verdict_of}
+use Rattle.rule_core.specs.Findings.{met, failed, verdict_of}
 use Rattle.rules_aria.specs.AriaLines.{aria_lines}
 use Rattle.rules_aria.specs.Nodes.{said_where}
 
@@ -36,10 +36,11 @@ is_bad a = option_map_or (λ known. not (value_ok known a.value)) (filled_attr a
 abbrev pub is_dead : (List (List ℕ) → List NodeId) → Attr → Bool
 is_dead finds a = option_map_or (λ known. is_reference known && length (finds (words a.value)) == 0) (filled_attr a) false
 
+-- it fails where a value isn't of its kind, or a reference is dead
 abbrev pub value_finding : (List (List ℕ) → List NodeId) → List Attr → Finding
 value_finding finds attrs =
     if list_any is_bad attrs then failed BadValue
-    else (if list_any (is_dead finds) attrs then cant_tell DeadReference else met)
+    else (if list_any (is_dead finds) attrs then failed DeadReference else met)
 
 abbrev pub has_filled : Row → Bool
 has_filled row = list_any (λ a. is_some (filled_attr a)) (aria_attrs row)

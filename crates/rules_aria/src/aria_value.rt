@@ -16,8 +16,8 @@ use std::alloc::Global;
 /// ACT rule 6a7281, ARIA state or property has valid value
 /// (<https://www.w3.org/WAI/standards-guidelines/act/rules/6a7281/>). Its target is an exposed element
 /// with a known ARIA attribute that isn't blank. It fails where the value of such an attribute isn't of
-/// its kind; where one refers to elements and none of its tokens is the id of an element, a person has to
-/// judge. The evidence is the lines of all its ARIA attributes.
+/// its kind, and where one refers to elements and none of its tokens is the id of an element. The evidence
+/// is the lines of all its ARIA attributes.
 #[derive(Clone, Copy, Debug, PartialEq, Eq)]
 pub struct AriaValueIsValid;
 
@@ -73,7 +73,7 @@ fn finding(tree: &Tree, row: &Row) -> Finding
     if has_bad(row) {
         Finding::failed(Reason::BadValue)
     } else if has_dead(tree, row) {
-        Finding::cant_tell(Reason::DeadReference)
+        Finding::failed(Reason::DeadReference)
     } else {
         Finding::met()
     }

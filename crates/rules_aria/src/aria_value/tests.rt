@@ -1,7 +1,7 @@
 use super::*;
 use crate::samples::Node::{Facts, Html};
 use crate::samples::{Attrs, Told, tells};
-use rule_core::Auto::{CantTell, Failed, Passed};
+use rule_core::Auto::{Failed, Passed};
 use rule_core::Reason::{BadValue, DeadReference, Met};
 use std::test::Fail;
 
@@ -70,7 +70,7 @@ fn a_reference_finds_an_element(rt: HostRuntime) -> Result<(), Fail> {
         let wanted = if *alive {
             (Passed, Met)
         } else {
-            (CantTell, DeadReference)
+            (Failed, DeadReference)
         };
         assert!(rt; auto == Some(wanted), "row {row}");
     }
