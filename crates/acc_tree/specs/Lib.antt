@@ -9,3 +9,4 @@ pub mod Frames
 pub mod Sights
 pub mod Pages
 pub mod References
+pub mod Owning

@@ -1,4 +1,4 @@
 pub mod Lengths
 pub mod Roles
 pub mod Attributes
-pub mod Tokens
+pub mod Utf8Tokens

@@ -1,6 +1,7 @@
 -- The known roles: their words, and what this profile says of each.
 use Rattle.std.specs.Prelude.{ℕ, List, [], ◌∷◌, codes, Bool, true, false, Option}
-use Rattle.std.specs.List.{find}
+use Rattle.std.specs.List.{find, list_any}
+use Rattle.std.specs.Str.{bytes_eq}
 use Rattle.snap_tree.specs.Rows.{same_folded}
 use Rattle.aria_tables.specs.declared.role.Role.{Role}
 use Rattle.aria_tables.specs.declared.role.Role.TheVariants.{Alert, Alertdialog, Application, Article, Banner, Blockquote, Button, Caption, Cell, Checkbox, Code, Columnheader, Combobox, Complementary, Contentinfo, Definition, Deletion, Dialog, Directory, DocumentRole, Emphasis, Feed, Figure, Form, Generic, Grid, Gridcell, Group, Heading, Img, Insertion, Link, ListRole, Listbox, Listitem, Log, Main, Marquee, Math, Menu, Menubar, Menuitem, Menuitemcheckbox, Menuitemradio, Meter, Navigation, NoneRole, Note, OptionRole, Paragraph, Presentation, Progressbar, Radio, Radiogroup, Region, RowRole, Rowgroup, Rowheader, Scrollbar, Search, Searchbox, Separator, Slider, Spinbutton, Status, Strong, Subscript, Superscript, Switch, Tab, TableRole, Tablist, Tabpanel, Term, Textbox, Time, Timer, Toolbar, Tooltip, TreeRole, Treegrid, Treeitem}
@@ -106,6 +107,14 @@ roles =
 -- the role whose word a token is, which compares ASCII case-insensitively
 unfoldable pub role_of : List ℕ → Option Role
 role_of token = find (λ role. same_folded token (word_of role)) roles
+
+-- the two are one role, which their words tell
+unfoldable pub same_role : Role → Role → Bool
+same_role a b = bytes_eq (word_of a) (word_of b)
+
+-- the role is one of these
+abbrev pub is_one_of : List Role → Role → Bool
+is_one_of those role = list_any (same_role role) those
 
 -- the name of an element of this role may come from what it holds
 abbrev pub named_from_content : Role → Bool

@@ -1,12 +1,11 @@
 -- The kind of value of each attribute, and which values are of a kind.
-use Rattle.std.specs.Prelude.{◌&&◌, ◌||◌, ◌==◌, ℕ, List, [], ◌∷◌, codes, length, nat_lt, Bool, true, false, if◌then◌else◌}
-use Rattle.std.specs.List.{list_all, list_any}
-use Rattle.std.specs.Char.{is_ascii_digit}
-use Rattle.std.specs.Str.{is_utf8}
-use Rattle.snap_tree.specs.Rows.{same_folded}
-use Rattle.snap_tree.specs.Words.{words}
+use Rattle.std.specs.Prelude.{◌&&◌, ◌==◌, ℕ, List, [], ◌∷◌, codes, length, nat_lt, Bool, true}
+use Rattle.std.specs.List.{list_all}
 use Rattle.aria_tables.specs.declared.attr.AriaAttr.{AriaAttr}
 use Rattle.aria_tables.specs.declared.attr.AriaAttr.TheVariants.{Activedescendant, Atomic, Autocomplete, Busy, Checked, Colcount, Colindex, Colspan, Controls, Current, Describedby, Details, Disabled, Dropeffect, Errormessage, Expanded, Flowto, Grabbed, Haspopup, Hidden, Invalid, Keyshortcuts, Label, Labelledby, Level, Live, Modal, Multiline, Multiselectable, Orientation, Owns, Placeholder, Posinset, Pressed, Readonly, Relevant, Required, Roledescription, Rowcount, Rowindex, Rowspan, Selected, Setsize, Sort, Valuemax, Valuemin, Valuenow, Valuetext}
+use Rattle.aria_tables.specs.Numbers.{is_number, is_whole_number}
+use Rattle.aria_tables.specs.Tokens.{tokens}
+use Rattle.aria_tables.specs.Words.{is_among}
 use Rattle.aria_tables.specs.declared.value.ValueKind.{ValueKind}
 use Rattle.aria_tables.specs.declared.value.ValueKind.TheVariants.{Truth, TruthOrUndefined, Tristate, Token, TokenList, WholeNumber, Number, Id, IdList, Anything}
 
@@ -72,48 +71,6 @@ value_words Sort = codes "ascending" ∷ codes "descending" ∷ codes "none" ∷
 value_words Dropeffect = codes "copy" ∷ codes "execute" ∷ codes "link" ∷ codes "move" ∷ codes "none" ∷ codes "popup" ∷ []
 value_words Relevant = codes "additions" ∷ codes "all" ∷ codes "removals" ∷ codes "text" ∷ []
 value_words _ = []
-
--- the value is one of these words, which compares ASCII case-insensitively
-abbrev pub is_among : List (List ℕ) → List ℕ → Bool
-is_among those value = list_any (same_folded value) those
-
--- the tokens of a value: its parts between runs of white space; bytes that are no UTF-8 have none
-abbrev pub tokens : List ℕ → List (List ℕ)
-tokens value = if is_utf8 value then words value else []
-
--- one digit or more, and nothing else
-abbrev pub is_digits : List ℕ → Bool
-is_digits text = nat_lt 0 (length text) && list_all is_ascii_digit text
-
-abbrev pub after_minus : List ℕ → List ℕ
-after_minus [] = []
-after_minus (c ∷ text) = if c == 45 then text else c ∷ text
-
-abbrev pub after_sign : List ℕ → List ℕ
-after_sign [] = []
-after_sign (c ∷ text) = if c == 43 || c == 45 then text else c ∷ text
-
--- what stands after the digits at the start
-abbrev pub after_digits : List ℕ → List ℕ
-after_digits [] = []
-after_digits (c ∷ text) = if is_ascii_digit c then after_digits text else c ∷ text
-
-abbrev pub begins_with_digit : List ℕ → Bool
-begins_with_digit [] = false
-begins_with_digit (c ∷ text) = is_ascii_digit c
-
--- nothing, or a point and digits
-abbrev pub is_fraction : List ℕ → Bool
-is_fraction [] = true
-is_fraction (c ∷ text) = c == 46 && is_digits text
-
--- an optional `-`, then digits
-abbrev pub is_whole_number : List ℕ → Bool
-is_whole_number value = is_digits (after_minus value)
-
--- an optional `+` or `-`, then digits, and optionally a point and digits
-abbrev pub is_number : List ℕ → Bool
-is_number value = begins_with_digit (after_sign value) && is_fraction (after_digits (after_sign value))
 
 -- the value is of this kind, with these words
 abbrev pub is_of_kind : ValueKind → List (List ℕ) → List ℕ → Bool

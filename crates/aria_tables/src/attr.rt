@@ -122,15 +122,55 @@ fn attributes_of_length(len: usize) -> &'static [AriaAttr]
     ensures { result.now ≡ filter (λ attr. length (name_of attr) == len) attributes }
 {
     match len {
-        9 => &[AriaAttr::Busy, AriaAttr::Live, AriaAttr::Owns, AriaAttr::Sort],
+        9 => &[
+            AriaAttr::Busy,
+            AriaAttr::Live,
+            AriaAttr::Owns,
+            AriaAttr::Sort,
+        ],
         10 => &[AriaAttr::Label, AriaAttr::Level, AriaAttr::Modal],
         11 => &[AriaAttr::Atomic, AriaAttr::Flowto, AriaAttr::Hidden],
-        12 => &[AriaAttr::Checked, AriaAttr::Colspan, AriaAttr::Current, AriaAttr::Details, AriaAttr::Grabbed, AriaAttr::Invalid, AriaAttr::Pressed, AriaAttr::Rowspan, AriaAttr::Setsize],
-        13 => &[AriaAttr::Colcount, AriaAttr::Colindex, AriaAttr::Controls, AriaAttr::Disabled, AriaAttr::Expanded, AriaAttr::Haspopup, AriaAttr::Posinset, AriaAttr::Readonly, AriaAttr::Relevant, AriaAttr::Required, AriaAttr::Rowcount, AriaAttr::Rowindex, AriaAttr::Selected, AriaAttr::Valuemax, AriaAttr::Valuemin, AriaAttr::Valuenow],
+        12 => &[
+            AriaAttr::Checked,
+            AriaAttr::Colspan,
+            AriaAttr::Current,
+            AriaAttr::Details,
+            AriaAttr::Grabbed,
+            AriaAttr::Invalid,
+            AriaAttr::Pressed,
+            AriaAttr::Rowspan,
+            AriaAttr::Setsize,
+        ],
+        13 => &[
+            AriaAttr::Colcount,
+            AriaAttr::Colindex,
+            AriaAttr::Controls,
+            AriaAttr::Disabled,
+            AriaAttr::Expanded,
+            AriaAttr::Haspopup,
+            AriaAttr::Posinset,
+            AriaAttr::Readonly,
+            AriaAttr::Relevant,
+            AriaAttr::Required,
+            AriaAttr::Rowcount,
+            AriaAttr::Rowindex,
+            AriaAttr::Selected,
+            AriaAttr::Valuemax,
+            AriaAttr::Valuemin,
+            AriaAttr::Valuenow,
+        ],
         14 => &[AriaAttr::Multiline, AriaAttr::Valuetext],
         15 => &[AriaAttr::Dropeffect, AriaAttr::Labelledby],
-        16 => &[AriaAttr::Describedby, AriaAttr::Orientation, AriaAttr::Placeholder],
-        17 => &[AriaAttr::Autocomplete, AriaAttr::Errormessage, AriaAttr::Keyshortcuts],
+        16 => &[
+            AriaAttr::Describedby,
+            AriaAttr::Orientation,
+            AriaAttr::Placeholder,
+        ],
+        17 => &[
+            AriaAttr::Autocomplete,
+            AriaAttr::Errormessage,
+            AriaAttr::Keyshortcuts,
+        ],
         20 => &[AriaAttr::Multiselectable, AriaAttr::Roledescription],
         21 => &[AriaAttr::Activedescendant],
         _ => &[],
@@ -140,7 +180,10 @@ fn attributes_of_length(len: usize) -> &'static [AriaAttr]
 fn attr_among(name: &[u8], attrs: &[AriaAttr]) -> Option<AriaAttr>
     ensures { result ≡ find (λ attr. same_folded name.now (name_of attr)) attrs.now }
 {
-    attrs.iter().copied().find(|attr| is_word(name, attr.name()))
+    attrs
+        .iter()
+        .copied()
+        .find(|attr| is_word(name, attr.name()))
 }
 
 /// The known attribute of this whole name, as `aria-checked`, which compares ASCII

@@ -1,7 +1,7 @@
 ghost use Rattle.std.specs.Prelude.{◌≡◌, ◌==◌, filter, length};
 ghost use Rattle.std.specs.List.{find};
 ghost use Rattle.snap_tree.specs.Rows.{same_folded};
-ghost use Rattle.aria_tables.specs.Roles.{word_of, roles, role_of, named_from_content, is_landmark};
+ghost use Rattle.aria_tables.specs.Roles.{word_of, roles, role_of, same_role, is_one_of, named_from_content, is_landmark};
 
 use crate::word::is_word;
 
@@ -184,6 +184,13 @@ impl Role {
             Role::Treeitem => "treeitem",
         }
     }
+
+    /// Whether the role is one of these.
+    pub fn is_one_of(self, those: &[Role]) -> bool
+        ensures { result ≡ is_one_of those.now self }
+    {
+        those.iter().any(|role| same_role(self, *role))
+    }
 }
 
 // The roles whose words have this length.
@@ -192,14 +199,95 @@ fn roles_of_length(len: usize) -> &'static [Role]
 {
     match len {
         3 => &[Role::Img, Role::Log, Role::RowRole, Role::Tab],
-        4 => &[Role::Cell, Role::Code, Role::Feed, Role::Form, Role::Grid, Role::Link, Role::ListRole, Role::Main, Role::Math, Role::Menu, Role::NoneRole, Role::Note, Role::Term, Role::Time, Role::TreeRole],
-        5 => &[Role::Alert, Role::Group, Role::Meter, Role::Radio, Role::TableRole, Role::Timer],
-        6 => &[Role::Banner, Role::Button, Role::Dialog, Role::Figure, Role::OptionRole, Role::Region, Role::Search, Role::Slider, Role::Status, Role::Strong, Role::Switch],
-        7 => &[Role::Article, Role::Caption, Role::Generic, Role::Heading, Role::Listbox, Role::Marquee, Role::Menubar, Role::Tablist, Role::Textbox, Role::Toolbar, Role::Tooltip],
-        8 => &[Role::Checkbox, Role::Combobox, Role::Deletion, Role::DocumentRole, Role::Emphasis, Role::Gridcell, Role::Listitem, Role::Menuitem, Role::Rowgroup, Role::Tabpanel, Role::Treegrid, Role::Treeitem],
-        9 => &[Role::Directory, Role::Insertion, Role::Paragraph, Role::Rowheader, Role::Scrollbar, Role::Searchbox, Role::Separator, Role::Subscript],
-        10 => &[Role::Blockquote, Role::Definition, Role::Navigation, Role::Radiogroup, Role::Spinbutton],
-        11 => &[Role::Alertdialog, Role::Application, Role::Contentinfo, Role::Progressbar, Role::Superscript],
+        4 => &[
+            Role::Cell,
+            Role::Code,
+            Role::Feed,
+            Role::Form,
+            Role::Grid,
+            Role::Link,
+            Role::ListRole,
+            Role::Main,
+            Role::Math,
+            Role::Menu,
+            Role::NoneRole,
+            Role::Note,
+            Role::Term,
+            Role::Time,
+            Role::TreeRole,
+        ],
+        5 => &[
+            Role::Alert,
+            Role::Group,
+            Role::Meter,
+            Role::Radio,
+            Role::TableRole,
+            Role::Timer,
+        ],
+        6 => &[
+            Role::Banner,
+            Role::Button,
+            Role::Dialog,
+            Role::Figure,
+            Role::OptionRole,
+            Role::Region,
+            Role::Search,
+            Role::Slider,
+            Role::Status,
+            Role::Strong,
+            Role::Switch,
+        ],
+        7 => &[
+            Role::Article,
+            Role::Caption,
+            Role::Generic,
+            Role::Heading,
+            Role::Listbox,
+            Role::Marquee,
+            Role::Menubar,
+            Role::Tablist,
+            Role::Textbox,
+            Role::Toolbar,
+            Role::Tooltip,
+        ],
+        8 => &[
+            Role::Checkbox,
+            Role::Combobox,
+            Role::Deletion,
+            Role::DocumentRole,
+            Role::Emphasis,
+            Role::Gridcell,
+            Role::Listitem,
+            Role::Menuitem,
+            Role::Rowgroup,
+            Role::Tabpanel,
+            Role::Treegrid,
+            Role::Treeitem,
+        ],
+        9 => &[
+            Role::Directory,
+            Role::Insertion,
+            Role::Paragraph,
+            Role::Rowheader,
+            Role::Scrollbar,
+            Role::Searchbox,
+            Role::Separator,
+            Role::Subscript,
+        ],
+        10 => &[
+            Role::Blockquote,
+            Role::Definition,
+            Role::Navigation,
+            Role::Radiogroup,
+            Role::Spinbutton,
+        ],
+        11 => &[
+            Role::Alertdialog,
+            Role::Application,
+            Role::Contentinfo,
+            Role::Progressbar,
+            Role::Superscript,
+        ],
         12 => &[Role::Columnheader, Role::Presentation],
         13 => &[Role::Complementary, Role::Menuitemradio],
         16 => &[Role::Menuitemcheckbox],
@@ -210,7 +298,10 @@ fn roles_of_length(len: usize) -> &'static [Role]
 fn role_among(token: &[u8], roles: &[Role]) -> Option<Role>
     ensures { result ≡ find (λ role. same_folded token.now (word_of role)) roles.now }
 {
-    roles.iter().copied().find(|role| is_word(token, role.word()))
+    roles
+        .iter()
+        .copied()
+        .find(|role| is_word(token, role.word()))
 }
 
 /// The known role whose word this is, which compares ASCII case-insensitively; `None` where there is
@@ -219,6 +310,13 @@ pub fn role_of(token: &[u8]) -> Option<Role>
     ensures { result ≡ role_of token.now }
 {
     role_among(token, roles_of_length(token.len()))
+}
+
+/// Whether the two are one role.
+pub fn same_role(a: Role, b: Role) -> bool
+    ensures { result ≡ same_role a b }
+{
+    a == b
 }
 
 /// Whether the name of an element of this role may come from what it holds (WAI-ARIA 1.2, "Roles

@@ -3,7 +3,9 @@ use Rattle.std.specs.List.{list_all}
 use denote.Text.{Utf8}
 use denote.Shadow.{shadow}
 use Rattle.snap_tree.specs.Words.{words}
-use Rattle.aria_tables.specs.Values.{value_words, is_among, tokens}
+use Rattle.aria_tables.specs.Tokens.{tokens}
+use Rattle.aria_tables.specs.Values.{value_words}
+use Rattle.aria_tables.specs.Words.{is_among}
 use Rattle.aria_tables.proofs.value.all_own_words.Given as goal
 
 abbrev pub invariant-loop-token : goal.invariant-loop-token

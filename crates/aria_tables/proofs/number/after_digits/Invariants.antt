@@ -1,6 +1,6 @@
 use Rattle.std.proofs.Common.{◌≡◌, length}
-use Rattle.aria_tables.specs.Values.{after_digits}
-use Rattle.aria_tables.proofs.value.after_digits.Given as goal
+use Rattle.aria_tables.specs.Numbers.{after_digits}
+use Rattle.aria_tables.proofs.number.after_digits.Given as goal
 
 abbrev pub invariant-loop-rest : goal.invariant-loop-rest
 invariant-loop-rest l = after_digits l.rest ≡ after_digits l.text
