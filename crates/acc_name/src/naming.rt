@@ -88,6 +88,7 @@ fn labels(
 }
 
 /// All references of a page, for the name of one node.
+#[derive(Drop)]
 pub(crate) struct OnPage<'a> {
     tree: &'a Tree,
     node: NodeId,

@@ -29,6 +29,7 @@ pub(crate) trait References {
 }
 
 /// Within a reference no other is followed.
+#[derive(Drop)]
 pub(crate) struct Untold;
 
 impl References for Untold {
