@@ -1,6 +1,6 @@
 -- What elements say by their own kind: HTML's and SVG's native texts.
 use Rattle.std.specs.Prelude.{◌&&◌, ℕ, List, [], codes, Bool, true, false, if◌then◌else◌, Option, Some, None, unwrap_or}
-use Rattle.std.specs.Option.{option_map_or, is_some}
+use Rattle.std.specs.Option.{option_map_or}
 use Rattle.snap_tree.specs.declared.row.Body.{Body}
 use Rattle.snap_tree.specs.declared.row.Body.TheVariants.{Element, Words}
 use Rattle.snap_tree.specs.declared.row.Row.{Row}

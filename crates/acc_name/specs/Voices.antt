@@ -1,15 +1,15 @@
 -- What is held of names in the making.
-use Rattle.std.specs.Prelude.{ℕ, List, Bool, Option, option_map, String}
+use Rattle.std.specs.Prelude.{ℕ, List, Option, option_map, String}
 use Rattle.std.specs.String.{string_bytes}
 use Rattle.std.specs.declared.alloc.Global.{Global}
 use Rattle.snap_tree.specs.Trees.{Trees}
-use Rattle.snap_tree.specs.declared.row.NodeId.{NodeId}
 use Rattle.snap_tree.specs.declared.row.Row.{Row}
 use Rattle.acc_tree.specs.declared.above.Above.{Above}
 use Rattle.acc_tree.specs.Seen.{seen_row, seen}
 use Rattle.acc_tree.specs.Sights.{Sight}
 use Rattle.acc_name.specs.declared.heard.Voice.{Voice}
 use Rattle.acc_name.specs.declared.told.Scope.{Scope}
+use Rattle.acc_name.specs.declared.told.Told.{Told}
 use Rattle.acc_name.specs.Names.{Asked, Heard}
 
 -- the bytes of a string that may be there

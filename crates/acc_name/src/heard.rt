@@ -7,6 +7,7 @@ ghost use Rattle.acc_name.specs.Names.{stands_apart, placed, is_chosen, nothing_
 ghost use Rattle.acc_name.specs.Voices.{shown, text_in};
 
 use crate::hosts::{CaptionKind, is_captioning};
+use crate::named::Name;
 use crate::tags::{is_inline, is_option};
 use acc_tree::{Attribute, has, html_tag, known_tag};
 use snap_tree::{Body, OutOfMemory, Row, Text};
@@ -126,22 +127,24 @@ impl Voice {
             .saturating_add(caption)
     }
 
-    /// What is said with a further tree, given what its root says and what the options below that say.
+    /// What is said with a further tree, given what its root says and what the trees below that say.
     pub(crate) fn and_then(
         self,
         alloc: Global,
         kind: Option<CaptionKind>,
         row: &Row,
-        text: Text,
-        chosen: Option<String>,
+        said: Name,
+        inner: Voice,
     ) -> Result<Self, OutOfMemory>
-        ensures { IfOk result (λ voice. shown voice ≡ and_then (shown self) (alone kind (seen_row row.now) text (text_in chosen))) }
+        ensures { IfOk result (λ voice. shown voice ≡ and_then (shown self) (alone kind (seen_row row.now) said.text (shown inner).chosen)) }
     {
         let Voice {
             mut content,
             chosen: earlier,
             caption: first,
         } = self;
+        let Name { text, .. } = said;
+        let Voice { chosen, .. } = inner;
         add_placed(&mut content, row, &text)?;
         let choice = joined(choice(alloc, row, &text)?, chosen)?;
         Ok(Voice {

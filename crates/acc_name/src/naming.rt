@@ -1,10 +1,12 @@
-ghost use Rattle.std.specs.Prelude.{◌≡◌, IfOk};
+ghost use Rattle.std.specs.Prelude.{◌≡◌, [], Some, IfOk, unwrap_or};
 ghost use Rattle.snap_tree.specs.Trees.{Trees};
 ghost use Rattle.aria_tables.specs.declared.attr.AriaAttr.TheVariants as aria;
 ghost use Rattle.snap_tree.specs.Labels.{labels_for};
+ghost use Rattle.snap_tree.specs.Words.{words};
 ghost use Rattle.acc_tree.specs.References.{found, named_by};
 ghost use Rattle.acc_tree.specs.Seen.{seen_row, seen};
-ghost use Rattle.acc_name.specs.Names.{referred, all_referred, told_by, named, name_of};
+ghost use Rattle.acc_name.specs.Names.{joined, referred, all_referred, told_by, named, name_of};
+ghost use Rattle.acc_name.specs.Voices.{text_in};
 
 use crate::clauses::no_name;
 use crate::heard::joined;
@@ -13,7 +15,8 @@ use crate::references::{References, Untold};
 use crate::room::Room;
 use crate::telling::spoken;
 use crate::told::{Scope, Told};
-use acc_tree::{Above, Attribute, attr, exposed_at, first_found, sight_of};
+use crate::values::value_at;
+use acc_tree::{Above, Attribute, exposed_at, first_found, laws_of_sights, sight_of};
 use aria_tables::AriaAttr;
 use snap_tree::{Branches, NodeId, OutOfMemory, Row, Text, Tree, tidy};
 use std::alloc::Global;
@@ -38,11 +41,47 @@ fn referred(
     tidy(alloc, &name.text)
 }
 
-fn text_of(alloc: Global, joined: Option<String>) -> Text {
+fn text_of(alloc: Global, joined: Option<String>) -> Text
+    ensures { result ≡ unwrap_or (text_in joined) [] }
+{
     match joined {
         Some(text) => Text::from_string(text),
         None => Text::new(alloc),
     }
+}
+
+// What some elements say where they are referred to, and then a further one, with a space between.
+fn with_referred(
+    alloc: Global,
+    room: Room,
+    tree: &Tree,
+    node: NodeId,
+    so_far: Option<String>,
+    m: NodeId,
+) -> Result<Option<String>, OutOfMemory>
+    ensures { IfOk result (λ t. text_in t ≡ joined (text_in so_far) (Some (referred (seen tree.now.trees) node m))) }
+{
+    let text = referred(alloc, room, tree, node, m)?;
+    joined(so_far, Some(String::from_str(alloc, text.as_str())?))
+}
+
+// What the elements say that the words of a text find.
+fn all_named(
+    alloc: Global,
+    room: Room,
+    tree: &Tree,
+    node: NodeId,
+    text: &str,
+) -> Result<Text, OutOfMemory>
+    ensures { IfOk result (λ t. t ≡ all_referred (seen tree.now.trees) node (found (seen tree.now.trees) (words text.now))) }
+{
+    let mut so_far = None;
+    let mut rest = text;
+    while let Some((m, later)) = first_found(tree, rest) {
+        so_far = with_referred(alloc, room, tree, node, so_far, m)?;
+        rest = later;
+    }
+    Ok(text_of(alloc, so_far))
 }
 
 // What the elements say that aria-labelledby finds.
@@ -55,17 +94,8 @@ fn labelled_by(
 ) -> Result<Text, OutOfMemory>
     ensures { IfOk result (λ t. t ≡ all_referred (seen tree.now.trees) node (found (seen tree.now.trees) (named_by aria.Labelledby (seen_row row.now)))) }
 {
-    let Some(value) = attr(row, Attribute::Aria(AriaAttr::Labelledby)) else {
-        return Ok(Text::new(alloc));
-    };
-    let mut so_far = None;
-    let mut rest = value.as_str();
-    while let Some((m, later)) = first_found(tree, rest) {
-        let text = referred(alloc, room, tree, node, m)?;
-        so_far = joined(so_far, Some(String::from_str(alloc, text.as_str())?))?;
-        rest = later;
-    }
-    Ok(text_of(alloc, so_far))
+    let words = value_at(row, Attribute::Aria(AriaAttr::Labelledby));
+    all_named(alloc, room, tree, node, words)
 }
 
 // What the labels of a node say.
@@ -78,11 +108,11 @@ fn labels(
 ) -> Result<Text, OutOfMemory>
     ensures { IfOk result (λ t. t ≡ all_referred (seen tree.now.trees) node (labels_for (seen tree.now.trees) row.now.id)) }
 {
+    laws_of_sights();
     let labels = tree.labels_for(alloc, row.id)?;
     let mut so_far = None;
     for label in labels.as_slice() {
-        let text = referred(alloc, room, tree, node, *label)?;
-        so_far = joined(so_far, Some(String::from_str(alloc, text.as_str())?))?;
+        so_far = with_referred(alloc, room, tree, node, so_far, *label)?;
     }
     Ok(text_of(alloc, so_far))
 }

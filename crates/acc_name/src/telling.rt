@@ -47,7 +47,7 @@ fn hear<R: References>(
             branch.kids,
         )?;
         let name = said(alloc, scope, told, How::Inner, above, row, &inner)?;
-        so_far = so_far.and_then(alloc, kind, row, name.text, inner.chosen)?;
+        so_far = so_far.and_then(alloc, kind, row, name, inner)?;
         rest = branch.after;
     }
     room.beside(so_far.len())?;

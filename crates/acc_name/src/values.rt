@@ -14,13 +14,20 @@ use snap_tree::{OutOfMemory, Row, Text};
 use std::alloc::Global;
 
 /// The value of an attribute; the empty text where the row hasn't got it.
+pub(crate) fn value_at(row: &Row, name: Attribute) -> &str
+    ensures { result.now ≡ text_at name (seen_row row.now) }
+{
+    match attr(row, name) {
+        Some(text) => text.as_str(),
+        None => "",
+    }
+}
+
+/// The same as a text of its own.
 pub(crate) fn text_at(alloc: Global, row: &Row, name: Attribute) -> Result<Text, OutOfMemory>
     ensures { IfOk result (λ t. t ≡ text_at name (seen_row row.now)) }
 {
-    match attr(row, name) {
-        Some(text) => text.copy(alloc),
-        None => Ok(Text::new(alloc)),
-    }
+    Text::from_str(alloc, value_at(row, name))
 }
 
 fn is_entry(role: Option<Role>) -> bool
