@@ -8,6 +8,7 @@
 mod clauses;
 mod heard;
 mod hosts;
+mod laws;
 mod named;
 mod naming;
 mod references;
@@ -17,6 +18,7 @@ mod telling;
 mod told;
 mod values;
 
+pub use laws::laws_of_names;
 pub use named::{Name, NameSource};
 pub use naming::name;
 pub use room::MOST_NAME_BYTES;
