@@ -83,7 +83,7 @@ tagged_seen t tag = ap (λ rows. map (λ r. r.id) (filter (is_html tag) rows)) (
 
 -- ---- labels
 
-labelable_seen : (r : Row) → is_labelable (seen_row r) ≡ is_labelable r
+pub labelable_seen : (r : Row) → is_labelable (seen_row r) ≡ is_labelable r
 unfolding is_labelable attribute_name
 labelable_seen r =
     rw (html_seen (codes "button") r.body, html_seen (codes "meter") r.body, html_seen (codes "output") r.body, html_seen (codes "progress") r.body, html_seen (codes "select") r.body, html_seen (codes "textarea") r.body, html_seen (codes "input") r.body)

@@ -1,6 +1,6 @@
-ghost use Rattle.std.specs.Prelude.{◌≡◌, ◌∷◌};
+ghost use Rattle.std.specs.Prelude.{◌≡◌};
 ghost use Rattle.std.specs.Option.{option_copied};
-ghost use Rattle.acc_tree.specs.Attributes.{attribute_name, is_aria};
+ghost use Rattle.acc_tree.specs.Attributes.{attribute_name};
 ghost use Rattle.acc_tree.specs.Seen.{seen_row, attr, has, text_at, is_blank_at, is_word_at};
 
 use aria_tables::AriaAttr;
@@ -80,6 +80,16 @@ pub fn attr(row: &Row, name: Attribute) -> Option<&Text>
     ensures { option_copied result ≡ attr name (seen_row row.now) }
 {
     row.attribute(name.name())
+}
+
+/// The value of an attribute, as sent; no character where the node hasn't got it.
+pub fn text_at(row: &Row, name: Attribute) -> &str
+    ensures { result.now ≡ text_at name (seen_row row.now) }
+{
+    match attr(row, name) {
+        Some(value) => value.as_str(),
+        None => "",
+    }
 }
 
 /// Whether the node has an attribute, be its value blank.

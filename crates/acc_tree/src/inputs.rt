@@ -84,7 +84,10 @@ impl InputType {
 fn type_among(text: &str, types: &[InputType]) -> Option<InputType>
     ensures { result ≡ type_among text.now types.now }
 {
-    types.iter().copied().find(|kind| same_folded(text, kind.word()))
+    types
+        .iter()
+        .copied()
+        .find(|kind| same_folded(text, kind.word()))
 }
 
 /// The type of an `input`. It is a text field where the row has no `type`, and where its whole value is

@@ -7,6 +7,7 @@ mod attributes;
 mod frames;
 mod inclusion;
 mod inputs;
+mod labels;
 mod laws;
 mod numbers;
 mod owning;
@@ -18,10 +19,11 @@ mod tags;
 
 pub use above::{Above, TableAbove};
 pub use aria::{AriaAttrs, aria_attrs};
-pub use attributes::{Attribute, attr, has, is_blank_at, is_word_at};
+pub use attributes::{Attribute, attr, has, is_blank_at, is_word_at, text_at};
 pub use frames::under;
 pub use inclusion::{exposed_at, included_at, is_hidden};
 pub use inputs::{InputType, input_type};
+pub use labels::{is_labelable, labels_of};
 pub use laws::laws_of_sights;
 pub use numbers::whole_number;
 pub use owning::{OwnedElement, owned, owned_by};
@@ -30,3 +32,6 @@ pub use references::{element_of, first_found};
 pub use roles::{decorative_at, explicit_at, implicit_at, role_at};
 pub use sights::{Sight, above_children, aboves, sight_of};
 pub use tags::{Tag, any_tag, html_tag, known_tag};
+
+#[cfg(test)]
+mod tests;

@@ -72,7 +72,12 @@ fn standing_of(through: &[Role], above: &Above, row: &Row) -> Standing
     }
 }
 
-fn add_owned(list: &mut Vec<OwnedElement>, through: &[Role], above: &Above, trees: Branches<'_>) -> Result<(), OutOfMemory>
+fn add_owned(
+    list: &mut Vec<OwnedElement>,
+    through: &[Role],
+    above: &Above,
+    trees: Branches<'_>,
+) -> Result<(), OutOfMemory>
     ensures { OnOk result (list.new.items ≡ list.old.items ++ owned_in through.now above.now (seen trees.entry)) }
 {
     let mut rest = trees;
@@ -96,11 +101,20 @@ fn add_owned(list: &mut Vec<OwnedElement>, through: &[Role], above: &Above, tree
 /// `true`; what it owns itself, again and again, where it isn't visible, or its role is none,
 /// presentation, generic, absent or one of those that are looked through; else the child. It goes once
 /// over what is looked through, and takes memory for its list alone.
-pub fn owned_by(alloc: Global, sight: Sight<'_>, through: &[Role]) -> Result<List<OwnedElement>, OutOfMemory>
+pub fn owned_by(
+    alloc: Global,
+    sight: Sight<'_>,
+    through: &[Role],
+) -> Result<List<OwnedElement>, OutOfMemory>
     ensures { IfOk result (λ list. list ≡ owned_by through.now (seen_sight sight.entry)) }
 {
     let mut list = Vec::new(alloc);
-    add_owned(&mut list, through, &under(&sight.above, sight.row), sight.below)?;
+    add_owned(
+        &mut list,
+        through,
+        &under(&sight.above, sight.row),
+        sight.below,
+    )?;
     Ok(List::from_vec(list))
 }
 

@@ -53,7 +53,9 @@ fn is_focusable(facts: Facts) -> bool
 fn has_global(row: &Row) -> bool
     ensures { result ≡ has_global (seen_row row.now) }
 {
-    aria_attrs(row).any(|a| attr_of(a.name.as_str().as_bytes()).is_some_and(|known| is_global(known)))
+    aria_attrs(row).any(|a| attr_of(a.name.as_str().as_bytes()).is_some_and(|known| is_global(
+        known,
+    )))
 }
 
 fn unless_conflicting(row: &Row, named: Option<Role>) -> Option<Role>
@@ -119,22 +121,35 @@ fn shows_list(row: &Row) -> bool
 fn with_suggestions(row: &Row, role: Role) -> Role
     ensures { result ≡ with_suggestions (seen_row row.now) role }
 {
-    if has(row, Attribute::ListAttr) { Role::Combobox } else { role }
+    if has(row, Attribute::ListAttr) {
+        Role::Combobox
+    } else {
+        role
+    }
 }
 
 fn input_role(row: &Row, kind: InputType) -> Option<Role>
     ensures { result ≡ input_role (seen_row row.now) kind }
 {
     match kind {
-        InputType::Button | InputType::Image | InputType::Reset | InputType::Submit => Some(Role::Button),
+        InputType::Button | InputType::Image | InputType::Reset | InputType::Submit => Some(
+            Role::Button,
+        ),
         InputType::Checkbox => Some(Role::Checkbox),
         InputType::Radio => Some(Role::Radio),
         InputType::Range => Some(Role::Slider),
         InputType::Number => Some(Role::Spinbutton),
         InputType::Search => Some(with_suggestions(row, Role::Searchbox)),
         InputType::TextField => Some(with_suggestions(row, Role::Textbox)),
-        InputType::Color | InputType::Date | InputType::DatetimeLocal | InputType::File | InputType::Hidden
-        | InputType::Month | InputType::Password | InputType::Time | InputType::Week => None,
+        InputType::Color
+        | InputType::Date
+        | InputType::DatetimeLocal
+        | InputType::File
+        | InputType::Hidden
+        | InputType::Month
+        | InputType::Password
+        | InputType::Time
+        | InputType::Week => None,
     }
 }
 

@@ -282,7 +282,9 @@ impl Tag {
 fn tag_among(text: &str, tags: &[Tag]) -> Option<Tag>
     ensures { result ≡ tag_among text.now tags.now }
 {
-    tags.iter().copied().find(|tag| same_folded(text, tag.word()))
+    tags.iter()
+        .copied()
+        .find(|tag| same_folded(text, tag.word()))
 }
 
 /// The tag of a word, which compares ASCII case-insensitively; None where it isn't known.

@@ -1,6 +1,7 @@
 ghost use Rattle.std.specs.Prelude.{◌≡◌};
 
-use rule_core::{Rule, RuleBook, RuleInfo, RuleNo, Verdict, one_more};
+use counts::next;
+use rule_core::{Rule, RuleBook, RuleInfo, RuleNo, Verdict};
 use rules_page::{PageHasLang, PageHasTitle};
 use snap_tree::{NodeId, OutOfMemory, Tree};
 use std::alloc::Global;
@@ -48,7 +49,7 @@ impl RuleBook for Early {
         rule: RuleNo,
         n: NodeId,
     ) -> Result<Option<Verdict>, OutOfMemory> {
-        self.calls = one_more(self.calls);
+        self.calls = next(self.calls);
         match rule.0 {
             1 => PageHasTitle.judge(alloc, tree, n),
             3 => PageHasLang.judge(alloc, tree, n),

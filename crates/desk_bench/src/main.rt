@@ -5,9 +5,11 @@
 
 mod clock;
 mod edits;
+mod roles;
 
 use crate::clock::{Stopped, tell, time_of};
 use crate::edits::time_edits;
+use crate::roles::time_roles;
 use snap_json::{read_raw, read_snapshot, write_snapshot};
 use snap_tree::{OutOfMemory, Raw, Tree};
 use std::alloc::Global;
@@ -62,6 +64,7 @@ fn time_writing<R: CpuClock + Eprint + AllocGlobal>(rt: &R, tree: &Tree) -> Resu
 fn time_steps<R: CpuClock + Eprint + AllocGlobal>(rt: &R, bytes: &[u8]) -> Result<usize, Stopped> {
     let tree = time_reading(rt, bytes)?;
     time_writing(rt, &tree)?;
+    time_roles(rt, &tree)?;
     time_edits(rt, &tree)?;
     Ok(tree.rows().len())
 }

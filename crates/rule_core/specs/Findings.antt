@@ -1,5 +1,5 @@
 -- What a rule finds on a target, and the verdict that it makes with its evidence.
-use Rattle.std.specs.Prelude.{ℕ, List}
+use Rattle.std.specs.Prelude.{ℕ, List, [], Option, unwrap_or}
 use Rattle.rule_core.specs.declared.reason.Reason.{Reason}
 use Rattle.rule_core.specs.declared.reason.Reason.TheVariants.{Met}
 use Rattle.rule_core.specs.declared.verdict.Auto.TheVariants.{Passed, Failed, CantTell}
@@ -23,3 +23,7 @@ met = passed Met
 -- the finding with the text that it rests on
 abbrev pub verdict_of : Finding → List ℕ → Verdict
 verdict_of finding text = record { auto = finding.auto; reason = finding.reason; evidence = brief text }
+
+-- the finding with a text that may be absent; then the evidence is empty
+abbrev pub verdict_on : Finding → Option (List ℕ) → Verdict
+verdict_on finding text = verdict_of finding (unwrap_or text [])

@@ -3,5 +3,4 @@ pub mod Books
 pub mod BookLaws
 pub mod Words
 pub mod Brief
-pub mod Judgings
 pub mod Findings

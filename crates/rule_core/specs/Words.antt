@@ -1,7 +1,9 @@
--- The word that a report prints for each reason.
-use Rattle.std.specs.Prelude.{ℕ, List, codes}
+-- The word that a report prints for each reason, and the reason that a word is read as.
+use Rattle.std.specs.Prelude.{ℕ, List, codes, bytes_eq, Option}
+use Rattle.std.specs.List.{find}
 use Rattle.rule_core.specs.declared.reason.Reason.{Reason}
 use Rattle.rule_core.specs.declared.reason.Reason.TheVariants.{Met, Decorative, Merged, NoTitle, EmptyTitle, JudgeTitle, NoLang, EmptyLang, UnknownLang, ThreeLetter, NoZoom, SmallScale, Delay, NoName, JudgeHeading, BadTokens, NoKnownRole, OutsideRole, UnknownAttr, LaterAttr, BadValue, DeadReference, MissingState, BadOwned, NothingOwned, FocusableInside, HeadersOutside, NoCells, LargeGrid, NoHeading, JudgeHeadingStart, NoLandmark, JudgeLandmark, NoSkipLink, JudgeSkipLink, NoCollapse, JudgeCollapse}
+use Rattle.rule_core.specs.declared.reason.TheConstants.{REASONS}
 
 abbrev pub word_of : Reason → List ℕ
 word_of Met = codes "ok"
@@ -41,3 +43,7 @@ word_of NoSkipLink = codes "no-skip-link"
 word_of JudgeSkipLink = codes "judge-skip-link"
 word_of NoCollapse = codes "no-collapse"
 word_of JudgeCollapse = codes "judge-collapse"
+
+-- the reason that has the word, where there is one
+abbrev pub reason_of : List ℕ → Option Reason
+reason_of word = find (λ reason. bytes_eq (word_of reason) word) REASONS

@@ -1,11 +1,11 @@
 ghost use Rattle.std.specs.Prelude.{◌≡◌, ℕ, ◌<◌, ◌^◌, List, length, Option, None, IfOk, IsTrue, false, slice_get};
+ghost use Rattle.counts.specs.Counts.{next};
 ghost use Rattle.snap_tree.specs.declared.row.NodeId.{NodeId};
 ghost use Rattle.snap_tree.specs.Trees.{Document};
 ghost use Rattle.rule_core.specs.declared.info.RuleNo.{RuleNo};
 ghost use Rattle.rule_core.specs.declared.info.RuleInfo.{RuleInfo};
 ghost use Rattle.rule_core.specs.declared.verdict.Verdict.{Verdict};
 ghost use Rattle.rule_core.specs.Infos.{is_orderly, has_atomic};
-ghost use Rattle.rule_core.specs.Judgings.{one_more};
 
 use crate::info::{RuleInfo, RuleNo};
 use crate::verdict::Verdict;
@@ -37,7 +37,7 @@ pub trait RuleBook {
         n: NodeId,
     ) -> Result<Option<Verdict>, OutOfMemory>
         ensures verdict { IfOk result (λ verdict. verdict ≡ means rule tree.now n) }
-        ensures counted { calls self.new ≡ one_more (calls self.old) };
+        ensures counted { calls self.new ≡ next (calls self.old) };
 
     /// The number of judgings so far; at the greatest `u64` it stays.
     fn calls(&self) -> u64

@@ -1,5 +1,6 @@
 ghost use Rattle.std.specs.Prelude.{◌≡◌, IfOk};
-ghost use Rattle.rule_core.specs.Findings.{passed, failed, cant_tell, met, verdict_of};
+ghost use Rattle.std.specs.Option.{option_copied};
+ghost use Rattle.rule_core.specs.Findings.{passed, failed, cant_tell, met, verdict_of, verdict_on};
 
 use crate::evidence::brief;
 use crate::reason::Reason;
@@ -61,6 +62,16 @@ impl Finding {
             reason: self.reason,
             evidence: brief(alloc, text)?,
         })
+    }
+
+    /// The verdict that rests on a text which may be absent; then the evidence is empty.
+    pub fn verdict_on(self, alloc: Global, text: Option<&Text>) -> Result<Verdict, OutOfMemory>
+        ensures { IfOk result (λ verdict. verdict ≡ verdict_on self (option_copied text.entry)) }
+    {
+        match text {
+            Some(text) => self.verdict(alloc, text),
+            None => self.verdict(alloc, &Text::new(alloc)),
+        }
     }
 }
 

@@ -1,48 +1,126 @@
-ghost use Rattle.std.specs.Prelude.{◌≡◌};
-ghost use Rattle.rule_core.specs.Words.{word_of};
+ghost use Rattle.std.specs.Prelude.{◌≡◌, List, ℕ, Some};
+ghost use Rattle.rule_core.specs.declared.reason.Reason.{Reason};
+ghost use Rattle.rule_core.specs.Words.{word_of, reason_of};
 
 /// Why a verdict is what it is.
 #[derive(Clone, Copy, Debug, PartialEq, Eq, Hash)]
 pub enum Reason {
     /// Every expectation is met.
     Met,
+    /// An image that is exposed has the role none or presentation, so it wants no name.
     Decorative,
+    /// A composite rule's outcome, which its inputs' outcomes make.
     Merged,
+    /// The page has no HTML element `title`.
     NoTitle,
+    /// The page title is blank.
     EmptyTitle,
+    /// A person has to judge whether the page title says what the page is about.
     JudgeTitle,
+    /// The root has no attribute `lang`.
     NoLang,
+    /// The root's `lang` is blank.
     EmptyLang,
+    /// The primary subtag of `lang` is no known language.
     UnknownLang,
+    /// The primary subtag of `lang` has three letters, for which there is no table.
     ThreeLetter,
+    /// The viewport's `user-scalable` is `no`.
     NoZoom,
+    /// The viewport's `maximum-scale` is below 2.
     SmallScale,
+    /// The page refreshes itself after a delay.
     Delay,
+    /// The accessible name is empty.
     NoName,
+    /// A person has to judge whether the heading says what follows it.
     JudgeHeading,
+    /// The tokens of `autocomplete` are no autofill detail tokens of HTML.
     BadTokens,
+    /// No token of `role` is a known role, nor begins `doc-` or `graphics-`.
     NoKnownRole,
+    /// No token of `role` is a known role, and one begins `doc-` or `graphics-`.
     OutsideRole,
+    /// An attribute that begins `aria-` is none of WAI-ARIA.
     UnknownAttr,
+    /// An attribute that begins `aria-` is of a later WAI-ARIA than 1.2.
     LaterAttr,
+    /// The value of an ARIA attribute isn't of the attribute's kind.
     BadValue,
+    /// No token of an ARIA attribute that refers to elements is the id of one.
     DeadReference,
+    /// A state or property that the role requires is absent or blank.
     MissingState,
+    /// The role of an owned element isn't one that the role allows.
     BadOwned,
+    /// Nothing is owned, where the role wants owned elements.
     NothingOwned,
+    /// A node is tabbable that is hidden from assistive technology.
     FocusableInside,
+    /// A token of `headers` is the id of no other cell of the same table.
     HeadersOutside,
+    /// No cell is assigned to the header.
     NoCells,
+    /// The table's grid has more slots than are searched.
     LargeGrid,
+    /// No included heading has a name.
     NoHeading,
+    /// A person has to judge whether a heading stands where the content that isn't repeated starts.
     JudgeHeadingStart,
+    /// There is no included landmark.
     NoLandmark,
+    /// A person has to judge whether a landmark holds the content that isn't repeated.
     JudgeLandmark,
+    /// There is no included link that leads to an element of the page.
     NoSkipLink,
+    /// A person has to judge whether a link leads to the content that isn't repeated.
     JudgeSkipLink,
+    /// There is nothing by which a block could be collapsed.
     NoCollapse,
+    /// A person has to judge whether the repeated blocks can be collapsed.
     JudgeCollapse,
 }
+
+/// The reasons, in the order of their declaration.
+const REASONS: [Reason; 37] = [
+    Reason::Met,
+    Reason::Decorative,
+    Reason::Merged,
+    Reason::NoTitle,
+    Reason::EmptyTitle,
+    Reason::JudgeTitle,
+    Reason::NoLang,
+    Reason::EmptyLang,
+    Reason::UnknownLang,
+    Reason::ThreeLetter,
+    Reason::NoZoom,
+    Reason::SmallScale,
+    Reason::Delay,
+    Reason::NoName,
+    Reason::JudgeHeading,
+    Reason::BadTokens,
+    Reason::NoKnownRole,
+    Reason::OutsideRole,
+    Reason::UnknownAttr,
+    Reason::LaterAttr,
+    Reason::BadValue,
+    Reason::DeadReference,
+    Reason::MissingState,
+    Reason::BadOwned,
+    Reason::NothingOwned,
+    Reason::FocusableInside,
+    Reason::HeadersOutside,
+    Reason::NoCells,
+    Reason::LargeGrid,
+    Reason::NoHeading,
+    Reason::JudgeHeadingStart,
+    Reason::NoLandmark,
+    Reason::JudgeLandmark,
+    Reason::NoSkipLink,
+    Reason::JudgeSkipLink,
+    Reason::NoCollapse,
+    Reason::JudgeCollapse,
+];
 
 impl Reason {
     /// The word that reports print for the reason.
@@ -89,7 +167,25 @@ impl Reason {
             Reason::JudgeCollapse => "judge-collapse",
         }
     }
+
+    /// The reason of a word that `word` gives; `None` for any other text.
+    pub fn from_word(word: &str) -> Option<Self>
+        ensures { result ≡ reason_of word.now }
+    {
+        REASONS.iter().copied().find(|reason| reason.word() == word)
+    }
 }
+
+/// Laws of the words of reasons. It does nothing: the clauses are what it is for.
+///
+/// The word of a reason is read as that reason, no other text is, and no two reasons have one word.
+#[tactic(auto, using(crate::proofs::WordLaws::read_back, crate::proofs::WordLaws::known, crate::proofs::WordLaws::differ))]
+pub fn laws_of_words()
+    ensures read_back { (reason : Reason) → reason_of (word_of reason) ≡ Some reason }
+    ensures known { (word : List ℕ) (reason : Reason) → reason_of word ≡ Some reason
+        → word ≡ word_of reason }
+    ensures differ { (one other : Reason) → word_of one ≡ word_of other → one ≡ other }
+{}
 
 #[cfg(test)]
 mod tests;

@@ -5,7 +5,6 @@ use Rattle.snap_tree.specs.declared.row.Facts.{Facts}
 use Rattle.snap_tree.specs.Trees.{Trees}
 use Rattle.snap_tree.specs.Grown.{grown}
 use Rattle.snap_tree.specs.Spots.{Spot, spot}
-use Rattle.snap_tree.specs.Weight.{most_weight}
 use Rattle.snap_tree.specs.Well.{IsWell}
 use Rattle.snap_tree.proofs.Wellness.{well_from_sound}
 use Rattle.snap_tree.proofs.Soundness.{shaped_well, sound_from_well}
@@ -19,6 +18,7 @@ use Rattle.snap_edit.specs.Laws.{FactsBreakNothing}
 use Rattle.snap_edit.proofs.Settling.{settled_by}
 use Rattle.snap_edit.proofs.Shaping.{KeepsRow, shaped_changed}
 use Rattle.snap_edit.proofs.Bare.{same_weight}
+use Rattle.snap_tree.specs.declared.weight.TheConstants.{MOST_WEIGHT}
 
 facts_set : (facts : Facts) → KeepsRow (with_facts facts)
 facts_set facts = record { id = λ r. refl; parent = λ r. refl; text = λ r. refl; well = λ r w. record { numbered = w.numbered; body_well = w.body_well } }
@@ -32,7 +32,7 @@ well_set n facts t s w e =
       few = new.few;
       apart = new.apart;
       rows_well = new.rows_well;
-      light = subst (λ weight. weight ≤ most_weight) (sym (same_weight n facts t)) w.light;
+      light = subst (λ weight. weight ≤ MOST_WEIGHT) (sym (same_weight n facts t)) w.light;
     }
 
 facts_by : (n : NodeId) (facts : Facts) (t : Trees) (k : EditKind) (o : Option Spot) → spot t n ≡ o → IsWell t → edited t (SetFacts n facts) ≡ Err k → k ≡ NoNode

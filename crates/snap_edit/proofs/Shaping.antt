@@ -15,8 +15,8 @@ use Rattle.snap_tree.specs.Trees.{Trees, empty, tree, rows_of}
 use Rattle.snap_tree.specs.Grown.{grown}
 use Rattle.snap_tree.specs.Rows.{has_number, is_text, same_folded}
 use Rattle.snap_tree.specs.Spots.{Spot, spot, number_of}
-use Rattle.snap_tree.specs.Weight.{reference_weight, most_weight}
-use Rattle.snap_tree.specs.Faults.{most_depth, tree_fault}
+use Rattle.snap_tree.specs.Weight.{reference_weight}
+use Rattle.snap_tree.specs.Faults.{tree_fault}
 use Rattle.snap_tree.specs.Well.{IsPlaced, EachPlaced, HasRoot, AreApart}
 use Rattle.snap_tree.specs.WellRow.{IsWellBody, IsWellRow}
 use Rattle.snap_tree.proofs.Cuts.{length-rows_of}
@@ -32,6 +32,8 @@ use Rattle.snap_edit.specs.Laws.{IsHeavyAtMost}
 use Rattle.snap_edit.proofs.Replacing.{finds, parts}
 use Rattle.snap_edit.proofs.Taking.{apart_less}
 use Rattle.snap_edit.proofs.Undoing.{text_kept}
+use Rattle.snap_tree.specs.declared.build.TheConstants.{MOST_DEPTH}
+use Rattle.snap_tree.specs.declared.weight.TheConstants.{MOST_WEIGHT}
 
 -- ---- a row with fewer attributes
 
@@ -89,7 +91,7 @@ row_left name r well = record { numbered = well.numbered; body_well = body_left 
 placed_under : (xs ys : List Row) (t : Trees) → number_of xs ≡ number_of ys → length xs ≡ length ys → EachPlaced xs t → EachPlaced ys t
 placed_under xs ys empty e l h = tt
 placed_under xs ys (tree r kids after) e l h =
-    (record { named = h.0.named ∙ e; shallow = subst (λ n. n < most_depth) l h.0.shallow; childless = h.0.childless }, (placed_under (r ∷ xs) (r ∷ ys) kids refl (ap suc l) h.1.0, placed_under xs ys after e l h.1.1))
+    (record { named = h.0.named ∙ e; shallow = subst (λ n. n < MOST_DEPTH) l h.0.shallow; childless = h.0.childless }, (placed_under (r ∷ xs) (r ∷ ys) kids refl (ap suc l) h.1.0, placed_under xs ys after e l h.1.1))
 
 -- what stands in a node's place below the same nodes is placed there
 abbrev KeepsPlace : (Row → Trees → Trees) → Type 0
@@ -184,7 +186,7 @@ shaped_removed n t s h e below =
 -- ---- what is left to go wrong
 
 -- trees in shape can only be too heavy
-too_heavy : (t : Trees) (f : TreeFault) (b : Bool) → nat_lt most_weight (reference_weight t) ≡ b → IsShaped t → settled t ≡ Err (Tree f) → f ≡ ReferenceWeight
+too_heavy : (t : Trees) (f : TreeFault) (b : Bool) → nat_lt MOST_WEIGHT (reference_weight t) ≡ b → IsShaped t → settled t ≡ Err (Tree f) → f ≡ ReferenceWeight
 unfolding settled tree_fault
 too_heavy t f true e s h = let is : Err (Tree ReferenceWeight) ≡ Err (Tree f) = rw (shape_of_placed t s, regrown_shaped t s, e) at h in cc
 too_heavy t f false e s h = let no : Ok t ≡ Err (Tree f) = rw (shape_of_placed t s, regrown_shaped t s, e) at h in cc

@@ -10,7 +10,7 @@ use Rattle.snap_tree.specs.declared.fault.TreeFault.TheVariants.{DoubleNumber, P
 use Rattle.snap_tree.specs.Trees.{Trees, empty, tree}
 use Rattle.snap_tree.specs.Grown.{names, grown}
 use Rattle.snap_tree.specs.Rows.{has_number, is_text, own_fault}
-use Rattle.snap_tree.specs.Faults.{place_fault, row_fault, rows_fault, tree_fault, most_nodes}
+use Rattle.snap_tree.specs.Faults.{place_fault, row_fault, rows_fault, tree_fault}
 use Rattle.snap_tree.specs.Well.{HasRoot}
 use Rattle.snap_tree.specs.Naming.{AreNamed}
 use Rattle.snap_tree.proofs.Entering.{row_fault_double, row_fault_new}
@@ -18,6 +18,7 @@ use Rattle.snap_tree.proofs.Wellness.{same_number, none_or, well_from_sound}
 use Rattle.snap_tree.proofs.Naming.{named_well}
 use Rattle.snap_edit.specs.Trees.{hung}
 use Rattle.snap_edit.specs.Edits.{text_fault, alone_fault}
+use Rattle.snap_tree.specs.declared.build.TheConstants.{MOST_NODES}
 
 -- ---- below a text
 
@@ -66,7 +67,7 @@ none_below r (x ∷ rows) t h = by_test (x.id.0 == r.id.0) (names x r) refl refl
 
 text_alone :
     (r : Row) (rows : List Row) (a b : Bool)
-    → is_text r ≡ true → nat_lt most_nodes (length (r ∷ rows)) ≡ a → is_some r.parent ≡ b → text_fault r rows ≡ None
+    → is_text r ≡ true → nat_lt MOST_NODES (length (r ∷ rows)) ≡ a → is_some r.parent ≡ b → text_fault r rows ≡ None
     → rows ≡ []
 text_alone r rows true b t ea eb h = let no : Some TooMany ≡ None = rw ea at h in cc
 text_alone r rows false true t ea eb h = let no : Some (ParentUnknownOrNotOpen r.id) ≡ None = rw (ea, eb) at h in cc
@@ -90,7 +91,7 @@ hung_by :
     → is_text r ≡ b → (if b then text_fault r rows else tree_fault (r ∷ rows)) ≡ None
     → AreNamed (Some p) (hung p (grown (r ∷ rows)))
 hung_by p r rows true t h =
-    let none : rows ≡ [] = text_alone r rows (nat_lt most_nodes (length (r ∷ rows))) (is_some r.parent) t refl refl h in
+    let none : rows ≡ [] = text_alone r rows (nat_lt MOST_NODES (length (r ∷ rows))) (is_some r.parent) t refl refl h in
     subst (λ rs. AreNamed (Some p) (hung p (grown (r ∷ rs)))) (sym none) (refl, (tt, tt))
 hung_by p r rows false t h = hung_sound p (r ∷ rows) h
 

@@ -10,7 +10,7 @@ use Rattle.snap_tree.specs.Trees.{Trees, empty, tree, rows_of}
 use Rattle.snap_tree.specs.Grown.{grown}
 use Rattle.snap_tree.specs.Rows.{has_number, is_text, own_fault}
 use Rattle.snap_tree.specs.Spots.{Spot, spot, number_of, kids}
-use Rattle.snap_tree.specs.Faults.{most_nodes, rows_fault, tree_fault}
+use Rattle.snap_tree.specs.Faults.{rows_fault, tree_fault}
 use Rattle.snap_edit.specs.declared.edit.Edit.{Edit}
 use Rattle.snap_edit.specs.declared.edit.Edit.TheVariants.{SetAttr, DropAttr, SetText, SetFacts, Insert, Remove, Move}
 use Rattle.snap_edit.specs.declared.fault.EditKind.{EditKind}
@@ -19,6 +19,7 @@ use Rattle.snap_edit.specs.declared.fault.EditFault.{EditFault}
 use Rattle.snap_edit.specs.declared.fault.EditFault.TheVariants.{At, OutOfMemory}
 use Rattle.snap_edit.specs.Attrs.{attrs_with, attrs_without, with_attrs, with_text, with_facts}
 use Rattle.snap_edit.specs.Trees.{changed, without, inserted, hung}
+use Rattle.snap_tree.specs.declared.build.TheConstants.{MOST_NODES}
 
 -- how many edits one list has at the most
 abbrev pub most_edits : ℕ
@@ -50,7 +51,7 @@ in_place t p place next =
 -- no parent that is open but a text, and a text alone refers to nothing
 abbrev pub text_fault : Row → List Row → Option TreeFault
 text_fault r rows =
-    if nat_lt most_nodes (length (r ∷ rows)) then Some TooMany
+    if nat_lt MOST_NODES (length (r ∷ rows)) then Some TooMany
     else (if is_some r.parent then Some (ParentUnknownOrNotOpen r.id)
     else option_or (own_fault r) (rows_fault (r ∷ []) rows))
 

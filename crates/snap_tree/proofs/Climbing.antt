@@ -1,8 +1,9 @@
 -- The ancestors of a node are the nodes that its parent leads to.
-use Rattle.std.proofs.Common.{◌≡◌, ◌==◌, List, [], ◌∷◌, ◌++◌, Bool, true, false, ◌||◌, Option, Some, None, IfSome, option_and_then, refl, sym, ◌∙◌, ap, subst, arith, inl, inr, ◌⊎◌}
+use Rattle.std.proofs.Common.{◌≡◌, ◌==◌, List, [], ◌∷◌, ◌++◌, Bool, true, false, ◌||◌, Option, Some, None, IfSome, option_and_then, refl, sym, ◌∙◌, ap, subst, arith, inl, inr, ◌⊎◌, Bor}
+use Rattle.std.proofs.lemmas.List.Folds.{list_any-append}
 use Rattle.std.proofs.lemmas.Bool.{or_parts}
 use Rattle.std.proofs.lemmas.Bool.Decides.{nat_tests}
-use Rattle.std.specs.Option.{option_map, option_map_or}
+use Rattle.std.specs.Option.{option_map, option_map_or, option_copied}
 use Rattle.std.specs.List.{list_any, find}
 use Rattle.snap_tree.specs.declared.row.NodeId.{NodeId}
 use Rattle.snap_tree.specs.declared.row.Row.{Row}
@@ -16,19 +17,11 @@ use Rattle.snap_tree.proofs.Spotting.{spot_row}
 
 -- ---- numbers that are there, and that are not
 
-pub any_append : (n : NodeId) (xs ys : List Row) → list_any (has_number n) (xs ++ ys) ≡ (list_any (has_number n) xs || list_any (has_number n) ys)
-any_append n [] ys = refl
-any_append n (x ∷ xs) ys = by_number (has_number n x) refl (any_append n xs ys)
-  where
-    by_number : (b : Bool) → has_number n x ≡ b → list_any (has_number n) (xs ++ ys) ≡ (list_any (has_number n) xs || list_any (has_number n) ys) → list_any (has_number n) (x ∷ (xs ++ ys)) ≡ (list_any (has_number n) (x ∷ xs) || list_any (has_number n) ys)
-    by_number true e h = rw e refl
-    by_number false e h = rw e h
-
 pub apart_append : (xs ys : List Row) → AreApart (xs ++ ys) → AreApart xs × AreApart ys
 apart_append [] ys h = (tt, h)
 apart_append (x ∷ xs) ys h =
     let rest = apart_append xs ys h.1 in
-    let both = or_parts _ _ (sym (any_append x.id xs ys) ∙ h.0) in
+    let both = or_parts _ _ (sym (list_any-append (has_number x.id) xs ys) ∙ h.0) in
     ((both.0, rest.0), rest.1)
 
 pub found_any : (n : NodeId) (rows : List Row) (x : Row) → find (has_number n) rows ≡ Some x → list_any (has_number n) rows ≡ true
@@ -49,7 +42,7 @@ later_number n (x ∷ xs) ys a h = by_number (has_number n x) refl (later_number
 
     by_number : (b : Bool) → has_number n x ≡ b → list_any (has_number n) xs ≡ false → list_any (has_number n) (x ∷ xs) ≡ false
     by_number true e k =
-        let clash : list_any (has_number x.id) ys ≡ false = (or_parts (list_any (has_number x.id) xs) (list_any (has_number x.id) ys) (sym (any_append x.id xs ys) ∙ a.0)).1 in
+        let clash : list_any (has_number x.id) ys ≡ false = (or_parts (list_any (has_number x.id) xs) (list_any (has_number x.id) ys) (sym (list_any-append (has_number x.id) xs ys) ∙ a.0)).1 in
         let clashes : true ≡ false = sym h ∙ sym (same_any ys e) ∙ clash in cc
     by_number false e k = rw e k
 
@@ -62,6 +55,10 @@ none_any n above t h = by_spot (spot_in n above t) refl
     by_spot : (o : Option Spot) → spot_in n above t ≡ o → spot_in n above t ≡ None
     by_spot None e = e
     by_spot (Some s) e = let no : true ≡ false = sym (spot_any n above t s e) ∙ h in cc
+
+pub copied_none : (o : Option (Bor Row)) → option_copied o ≡ None → o ≡ None
+copied_none None h = refl
+copied_none (Some r) h = cc
 
 pub absent_row : (t : Trees) (n : NodeId) → IsAbsent t n → node t n ≡ None
 absent_row t n h = sym (spot_row n [] t) ∙ ap (option_map (λ s. s.row)) (none_any n [] t h)
@@ -105,10 +102,10 @@ not_root n r rows a h = by_number (has_number n r) refl
         let no : true ≡ false = sym h ∙ sym (ap (λ k. list_any (λ x. x.id.0 == k) rows) same) ∙ a in cc
 
 any_left : (n : NodeId) (xs ys : List Row) → list_any (has_number n) xs ≡ true → list_any (has_number n) (xs ++ ys) ≡ true
-any_left n xs ys h = any_append n xs ys ∙ ap (λ b. b || list_any (has_number n) ys) h
+any_left n xs ys h = list_any-append (has_number n) xs ys ∙ ap (λ b. b || list_any (has_number n) ys) h
 
 any_right : (n : NodeId) (xs ys : List Row) → list_any (has_number n) xs ≡ false → list_any (has_number n) ys ≡ true → list_any (has_number n) (xs ++ ys) ≡ true
-any_right n xs ys h k = any_append n xs ys ∙ ap (λ b. b || list_any (has_number n) ys) h ∙ k
+any_right n xs ys h k = list_any-append (has_number n) xs ys ∙ ap (λ b. b || list_any (has_number n) ys) h ∙ k
 
 climb_kids : (r : Row) (kids after : Trees) (above up : List Row) → AreApart (r ∷ (rows_of kids ++ rows_of after)) → Climbs (r ∷ above) kids up → Climbs above (tree r kids after) up
 climb_kids r kids after above [] a h = cc

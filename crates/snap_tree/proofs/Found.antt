@@ -1,5 +1,8 @@
 -- What the indexes of a tree find.
-use Rattle.std.proofs.Common.{◌≡◌, ℕ, suc, ◌+◌, ◌-◌, ◌<◌, ◌≤◌, ◌==◌, List, [], ◌∷◌, length, get_or, map, filter, Bool, true, false, Some, None, if◌then◌else◌, refl, ◌∙◌, ap, arith, subst}
+use Rattle.std.proofs.Common.{◌≡◌, ℕ, suc, ◌+◌, ◌-◌, ◌<◌, ◌≤◌, ◌==◌, List, [], ◌∷◌, length, get_or, map, filter, Bool, true, false, Some, None, refl, sym, ◌∙◌, ap, arith, subst, Option, IfSome, nat_lt, Bor}
+use Rattle.std.proofs.lemmas.Bool.Decides.{nat_tests}
+use Rattle.std.proofs.lemmas.List.Elements.{filter_agree}
+use Rattle.std.specs.Option.{option_copied, is_some}
 use Rattle.std.specs.List.{find}
 use Rattle.snap_tree.specs.declared.row.Row.{Row}
 use Rattle.snap_tree.specs.declared.row.Body.{Body}
@@ -41,6 +44,17 @@ place_found from n place (r ∷ rows) h = by_test (r.id.0 == n) refl h (place_fo
     by_test true e h k = let is : Some from ≡ Some place = rw e at h in let same : from ≡ place = cc in subst (λ p. StandsAt from n p (r ∷ rows)) same (stands_first from n r rows e)
     by_test false e h k = let is : place_from (from + 1) n rows ≡ Some place = rw e at h in stands_later from n place r rows e (k is)
 
+-- what a look at the place that was found gives is the row
+pub row_found : (n place : ℕ) (rows : List Row) (o : Option (Bor Row)) → place_from 0 n rows ≡ Some place → is_some o ≡ nat_lt place (length rows) → IfSome o (λ x. x.now ≡ get_or rows place x.now) → option_copied o ≡ find (λ r. r.id.0 == n) rows
+row_found n place rows None e k h =
+    let at = place_found 0 n place rows e in
+    let inside : nat_lt place (length rows) ≡ true = grind (arith, nat_tests, at.ends) in
+    let no : false ≡ true = k ∙ inside in cc
+row_found n place rows (Some x) e k h =
+    let at = place_found 0 n place rows e in
+    let same : place - 0 ≡ place = omega arith in
+    sym (at.row x.now ∙ ap (λ p. Some (get_or rows p x.now)) same ∙ ap Some (sym h))
+
 pub place_none : (from n : ℕ) (rows : List Row) → place_from from n rows ≡ None → find (λ r. r.id.0 == n) rows ≡ None
 place_none from n [] h = refl
 place_none from n (r ∷ rows) h = by_test (r.id.0 == n) refl h (place_none (from + 1) n rows)
@@ -57,9 +71,5 @@ tag_is tag (Element Svg t attrs) = refl
 tag_is tag (Element Other t attrs) = refl
 tag_is tag (Words text) = refl
 
-filter_alike : (p q : Row → Bool) → ((r : Row) → p r ≡ q r) → (rows : List Row) → filter p rows ≡ filter q rows
-filter_alike p q alike [] = refl
-filter_alike p q alike (r ∷ rows) = ap (λ b. if b then r ∷ filter p rows else filter p rows) (alike r) ∙ ap (λ rs. if q r then r ∷ rs else rs) (filter_alike p q alike rows)
-
 pub tagged_is : (tag : List ℕ) (rows : List Row) → keyed Tag (folded tag) rows ≡ map (λ r. r.id) (filter (is_html tag) rows)
-tagged_is tag rows = ap (map (λ r. r.id)) (filter_alike _ (is_html tag) (λ r. tag_is tag r.body) rows)
+tagged_is tag rows = ap (map (λ r. r.id)) (filter_agree _ (is_html tag) (λ r. tag_is tag r.body) rows)

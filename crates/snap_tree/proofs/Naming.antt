@@ -1,5 +1,6 @@
 -- Trees in which each node names the one above it are what their rows grow to.
 use Rattle.std.proofs.Common.{◌≡◌, ◌==◌, List, [], ◌∷◌, ◌++◌, true, false, ◌||◌, Option, Some, None, refl, sym, ◌∙◌, ap, subst, arith}
+use Rattle.std.proofs.lemmas.List.Folds.{list_any-append}
 use Rattle.std.proofs.lemmas.Bool.{or_parts}
 use Rattle.std.proofs.lemmas.Bool.Decides.{nat_tests}
 use Rattle.std.specs.List.{list_any}
@@ -11,7 +12,7 @@ use Rattle.snap_tree.specs.Rows.{has_number}
 use Rattle.snap_tree.specs.Spots.{NamesNone, number_of}
 use Rattle.snap_tree.specs.Well.{EachPlaced, AreApart, IsWell}
 use Rattle.snap_tree.specs.Naming.{AreNamed}
-use Rattle.snap_tree.proofs.Climbing.{any_append, apart_append}
+use Rattle.snap_tree.proofs.Climbing.{apart_append}
 use Rattle.snap_tree.proofs.Spotting.{takes_beside, grown_beside}
 
 -- none of the rows has this number, if it is one
@@ -23,7 +24,7 @@ absent_parts : (parent : Option NodeId) (r : Row) (xs ys : List Row) → IsAbsen
 absent_parts None r xs ys h = (tt, tt, tt)
 absent_parts (Some p) r xs ys h =
     let first = or_parts (has_number p r) (list_any (has_number p) (xs ++ ys)) h in
-    let rest = or_parts (list_any (has_number p) xs) (list_any (has_number p) ys) (sym (any_append p xs ys) ∙ first.1) in
+    let rest = or_parts (list_any (has_number p) xs) (list_any (has_number p) ys) (sym (list_any-append (has_number p) xs ys) ∙ first.1) in
     (ap (λ b. b || false) first.0, rest.0, rest.1)
 
 -- a row with this parent names none of the rows
@@ -53,7 +54,7 @@ regrown_below parent empty n h a = refl
 regrown_below parent (tree r kids after) n h a =
     let apart = apart_append (rows_of kids) (rows_of after) a.1 in
     let absent = absent_parts parent r (rows_of kids) (rows_of after) h in
-    let own = or_parts (list_any (has_number r.id) (rows_of kids)) (list_any (has_number r.id) (rows_of after)) (sym (any_append r.id (rows_of kids) (rows_of after)) ∙ a.0) in
+    let own = or_parts (list_any (has_number r.id) (rows_of kids)) (list_any (has_number r.id) (rows_of after)) (sym (list_any-append (has_number r.id) (rows_of kids) (rows_of after)) ∙ a.0) in
     let below : grown (rows_of kids) ≡ kids = regrown_below (Some r.id) kids n.1.0 own.0 apart.0 in
     let later : grown (rows_of after) ≡ after = regrown_below parent after n.1.1 absent.2 apart.1 in
     let parts : grown (rows_of kids ++ rows_of after) ≡ beside kids after =

@@ -8,12 +8,13 @@ use Rattle.snap_tree.specs.declared.row.Attr.{Attr}
 use Rattle.snap_tree.specs.declared.row.Body.{Body}
 use Rattle.snap_tree.specs.declared.row.Body.TheVariants.{Element, Words}
 use Rattle.snap_tree.specs.declared.row.Row.{Row}
-use Rattle.snap_tree.specs.Rows.{attrs_in, attrs_of, same_folded, most_attrs, is_long, is_empty, has_long, has_double, has_empty, own_fault}
+use Rattle.snap_tree.specs.Rows.{attrs_in, attrs_of, same_folded, is_long, is_empty, has_long, has_double, has_empty, own_fault}
 use Rattle.snap_tree.specs.WellRow.{IsWellAttr, IsWellBody, IsWellRow}
+use Rattle.snap_tree.specs.declared.limits.TheConstants.{MOST_ATTRS}
 
 -- the tests of a body by which it has no fault
 record Passes (b : Body) : Type 0 where
-  few : nat_lt most_attrs (length (attrs_in b)) ≡ false
+  few : nat_lt MOST_ATTRS (length (attrs_in b)) ≡ false
   short : has_long b ≡ false
   differ : has_double (attrs_in b) ≡ false
   named : has_empty b ≡ false
@@ -83,7 +84,7 @@ body_passes (Words text) h = record { few = refl; short = grind (arith, nat_test
 
 -- ---- rows
 
-row_by : (r : Row) (a b c d : Bool) → nat_lt most_attrs (length (attrs_of r)) ≡ a → has_long r.body ≡ b → has_double (attrs_of r) ≡ c → (r.id.0 == 0 || has_empty r.body) ≡ d → own_fault r ≡ None → IsWellRow r
+row_by : (r : Row) (a b c d : Bool) → nat_lt MOST_ATTRS (length (attrs_of r)) ≡ a → has_long r.body ≡ b → has_double (attrs_of r) ≡ c → (r.id.0 == 0 || has_empty r.body) ≡ d → own_fault r ≡ None → IsWellRow r
 unfolding own_fault
 row_by r true b c d ea eb ec ed h = let no : Some (TooManyAttrs r.id) ≡ None = rw ea at h in cc
 row_by r false true c d ea eb ec ed h = let no : Some (TextTooLong r.id) ≡ None = rw (ea, eb) at h in cc

@@ -8,10 +8,10 @@ use Rattle.snap_tree.specs.declared.row.Row.{Row}
 use Rattle.snap_tree.specs.Trees.{Trees, empty, tree, rows_of, beside}
 use Rattle.snap_tree.specs.Grown.{names, grown, under}
 use Rattle.snap_tree.specs.Rows.{has_number, is_text}
-use Rattle.snap_tree.specs.Faults.{most_nodes, most_depth, open_rows, from_parent, ancestors, is_below_text, place_fault, row_fault, rows_fault, shape_fault, tree_fault}
+use Rattle.snap_tree.specs.Faults.{open_rows, from_parent, ancestors, is_below_text, place_fault, row_fault, rows_fault, shape_fault, tree_fault}
 use Rattle.snap_tree.specs.Well.{IsPlaced, EachPlaced, HasRoot, AreApart, IsWell}
 use Rattle.snap_tree.specs.WellRow.{IsWellRow}
-use Rattle.snap_tree.specs.Weight.{reference_weight, most_weight}
+use Rattle.snap_tree.specs.Weight.{reference_weight}
 use Rattle.snap_tree.proofs.Growth.{grown_push}
 use Rattle.snap_tree.proofs.Cuts.{length-rows_of}
 use Rattle.snap_tree.proofs.EachRow.{all_parts}
@@ -20,6 +20,8 @@ use Rattle.snap_tree.proofs.Climbing.{apart_append, later_number, same_id}
 use Rattle.snap_tree.proofs.Naming.{regrown, named_placed}
 use Rattle.snap_tree.proofs.RowLimits.{sound_row}
 use Rattle.snap_tree.proofs.Wellness.{Fits, IsGood, placed_over, element_above, above_lower, above_last, IsRooted, Grows, IsShaped}
+use Rattle.snap_tree.specs.declared.build.TheConstants.{MOST_NODES, MOST_DEPTH}
+use Rattle.snap_tree.specs.declared.weight.TheConstants.{MOST_WEIGHT}
 
 -- ---- where a row went, each node stood in its place before, and the row's place is good
 
@@ -68,7 +70,7 @@ under_stood r above (tree x kids (tree y b a)) =
 place_sound : (first : Bool) (r : Row) (above : ℕ) (below : Bool) → Fits first r above below → place_fault first r above below ≡ None
 unfolding place_fault
 place_sound first r above below f =
-    let shallow : nat_le most_depth above ≡ false = grind (arith, nat_tests, f.shallow) in
+    let shallow : nat_le MOST_DEPTH above ≡ false = grind (arith, nat_tests, f.shallow) in
     rw (f.in_place, f.root, f.parent, shallow) f.own
 
 rooted_before : (r : Row) (t new : Trees) → under r t ≡ Some new → IsRooted new → IsRooted t
@@ -132,11 +134,11 @@ some_rows : (t : Trees) → HasRoot t → 0 < length (rows_of t)
 some_rows empty h = absurd h
 some_rows (tree r kids after) h = omega arith
 
-shape_sound : (rows : List Row) → 0 < length rows → length rows ≤ most_nodes → rows_fault [] rows ≡ None → shape_fault rows ≡ None
+shape_sound : (rows : List Row) → 0 < length rows → length rows ≤ MOST_NODES → rows_fault [] rows ≡ None → shape_fault rows ≡ None
 unfolding shape_fault
 shape_sound rows some few h =
     let not_none : (length rows == 0) ≡ false = grind (arith, nat_tests) in
-    let not_many : nat_lt most_nodes (length rows) ≡ false = grind (arith, nat_tests) in
+    let not_many : nat_lt MOST_NODES (length rows) ≡ false = grind (arith, nat_tests) in
     rw (not_none, not_many) h
 
 -- what shaped trees grow from
@@ -158,5 +160,5 @@ pub sound_from_well : (t : Trees) → IsWell t → tree_fault (rows_of t) ≡ No
 unfolding tree_fault
 sound_from_well t well =
     let s = shaped_well t well in
-    let light : nat_lt most_weight (reference_weight t) ≡ false = grind (arith, nat_tests, well.light) in
+    let light : nat_lt MOST_WEIGHT (reference_weight t) ≡ false = grind (arith, nat_tests, well.light) in
     rw (shape_of_placed t s, regrown_shaped t s, light) refl

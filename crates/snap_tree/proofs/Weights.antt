@@ -28,12 +28,13 @@ use Rattle.snap_tree.specs.Opened.{Breaks}
 use Rattle.snap_tree.specs.Spots.{Spot, spots_in, spots}
 use Rattle.snap_tree.specs.Places.{place_from}
 use Rattle.snap_tree.specs.Labels.{is_labelable, id_of, for_of, first_with_id, labels_by, labels_at, labels_with, labels_for, outer_label}
-use Rattle.snap_tree.specs.Weight.{bytes_in, node_weight, subtree_weight, weight_of, id_weight, references, found_weight, reference_weight, most_weight}
+use Rattle.snap_tree.specs.Weight.{bytes_in, node_weight, subtree_weight, weight_of, id_weight, references, found_weight, reference_weight}
 use Rattle.snap_tree.specs.Weighing.{saturated, sums_from, HasSums, weight_at}
 use Rattle.snap_tree.proofs.Growth.{rows_of_grown}
 use Rattle.snap_tree.proofs.Spotting.{spotted, stranger, spot_at, length-sizes}
 use Rattle.snap_tree.proofs.Cuts.{length-rows_of}
 use Rattle.snap_tree.proofs.Labelled.{rows-spots}
+use Rattle.snap_tree.specs.declared.weight.TheConstants.{MOST_WEIGHT}
 
 -- ---- a row within its limits
 
@@ -222,16 +223,16 @@ pub breaks_shape : (f : BuildFault) (rows : List Row) → Breaks f (shape_fault 
 unfolding tree_fault
 breaks_shape f rows h = breaks_or f (shape_fault rows) (weight_fault (grown rows)) h
 
-pub too_heavy : (rows : List Row) (weight : ℕ) → shape_fault rows ≡ None → weight ≡ saturated (reference_weight (grown rows)) → most_weight < weight → tree_fault rows ≡ Some ReferenceWeight
+pub too_heavy : (rows : List Row) (weight : ℕ) → shape_fault rows ≡ None → weight ≡ saturated (reference_weight (grown rows)) → MOST_WEIGHT < weight → tree_fault rows ≡ Some ReferenceWeight
 unfolding tree_fault
 too_heavy rows weight h e m =
-    let heavy : nat_lt most_weight (reference_weight (grown rows)) ≡ true = grind (arith, nat_tests) in
+    let heavy : nat_lt MOST_WEIGHT (reference_weight (grown rows)) ≡ true = grind (arith, nat_tests) in
     rw (h, heavy) refl
 
-pub light_enough : (rows : List Row) (weight : ℕ) → shape_fault rows ≡ None → weight ≡ saturated (reference_weight (grown rows)) → weight ≤ most_weight → tree_fault rows ≡ None
+pub light_enough : (rows : List Row) (weight : ℕ) → shape_fault rows ≡ None → weight ≡ saturated (reference_weight (grown rows)) → weight ≤ MOST_WEIGHT → tree_fault rows ≡ None
 unfolding tree_fault
 light_enough rows weight h e m =
-    let light : nat_lt most_weight (reference_weight (grown rows)) ≡ false = grind (arith, nat_tests) in
+    let light : nat_lt MOST_WEIGHT (reference_weight (grown rows)) ≡ false = grind (arith, nat_tests) in
     rw (h, light) refl
 
 -- ---- the labels of a number

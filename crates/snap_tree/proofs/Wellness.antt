@@ -12,15 +12,17 @@ use Rattle.snap_tree.specs.declared.fault.TreeFault.TheVariants.{Empty, TooMany,
 use Rattle.snap_tree.specs.Trees.{Trees, empty, tree, rows_of, count, beside}
 use Rattle.snap_tree.specs.Grown.{names, is_number, grown, under, planted}
 use Rattle.snap_tree.specs.Rows.{has_number, is_text, own_fault}
-use Rattle.snap_tree.specs.Faults.{most_nodes, most_depth, open_rows, from_parent, ancestors, is_first, is_misplaced, is_below_text, place_fault, row_fault, rows_fault, shape_fault, weight_fault, tree_fault}
+use Rattle.snap_tree.specs.Faults.{open_rows, from_parent, ancestors, is_first, is_misplaced, is_below_text, place_fault, row_fault, rows_fault, shape_fault, weight_fault, tree_fault}
 use Rattle.snap_tree.specs.Well.{IsPlaced, EachPlaced, HasRoot, AreApart, IsWell}
 use Rattle.snap_tree.specs.WellRow.{IsWellRow}
-use Rattle.snap_tree.specs.Weight.{reference_weight, most_weight}
+use Rattle.snap_tree.specs.Weight.{reference_weight}
 use Rattle.snap_tree.proofs.Growth.{rows_of_grown, grown_push}
 use Rattle.snap_tree.proofs.RowLimits.{well_row}
 use Rattle.snap_tree.proofs.Cuts.{length-rows_of}
 use Rattle.snap_tree.proofs.EachRow.{all_append}
 use Rattle.snap_tree.proofs.Opening.{from_parent-found, from_parent-none, under_opens, Went}
+use Rattle.snap_tree.specs.declared.build.TheConstants.{MOST_NODES, MOST_DEPTH}
+use Rattle.snap_tree.specs.declared.weight.TheConstants.{MOST_WEIGHT}
 
 -- ---- what a row without a fault tells
 
@@ -28,10 +30,10 @@ pub record Fits (first : Bool) (r : Row) (above : ℕ) (below : Bool) : Type 0 w
   pub in_place : is_misplaced first r above ≡ false
   pub root : (first && is_text r) ≡ false
   pub parent : below ≡ false
-  pub shallow : above < most_depth
+  pub shallow : above < MOST_DEPTH
   pub own : own_fault r ≡ None
 
-fits : (first : Bool) (r : Row) (above : ℕ) (below a b c : Bool) → is_misplaced first r above ≡ a → (first && is_text r) ≡ b → nat_le most_depth above ≡ c → place_fault first r above below ≡ None → Fits first r above below
+fits : (first : Bool) (r : Row) (above : ℕ) (below a b c : Bool) → is_misplaced first r above ≡ a → (first && is_text r) ≡ b → nat_le MOST_DEPTH above ≡ c → place_fault first r above below ≡ None → Fits first r above below
 unfolding place_fault
 fits first r above below true b c ea eb ec h = let no : Some (ParentUnknownOrNotOpen r.id) ≡ None = rw ea at h in cc
 fits first r above below false true c ea eb ec h = let no : Some (RootNotElement r.id) ≡ None = rw (ea, eb) at h in cc
@@ -236,11 +238,11 @@ root_of (tree r kids (tree y below after)) h p = h
 pub record IsShaped (t : Trees) : Type 0 where
   pub rooted : HasRoot t
   pub placed : EachPlaced [] t
-  pub few : count t ≤ most_nodes
+  pub few : count t ≤ MOST_NODES
   pub apart : AreApart (rows_of t)
   pub rows_well : AllByRecursion IsWellRow (rows_of t)
 
-shaped_by : (rows : List Row) (a b : Bool) → (length rows == 0) ≡ a → nat_lt most_nodes (length rows) ≡ b → shape_fault rows ≡ None → IsShaped (grown rows)
+shaped_by : (rows : List Row) (a b : Bool) → (length rows == 0) ≡ a → nat_lt MOST_NODES (length rows) ≡ b → shape_fault rows ≡ None → IsShaped (grown rows)
 unfolding shape_fault
 shaped_by rows true b ea eb h = let no : Some Empty ≡ None = rw ea at h in cc
 shaped_by rows false true ea eb h = let no : Some TooMany ≡ None = rw (ea, eb) at h in cc
@@ -250,7 +252,7 @@ shaped_by rows false false ea eb h =
     let g = rows_grow [] rows nothing rest in
     let n : count (grown rows) ≡ length rows = sym (length-rows_of (grown rows)) ∙ ap length (rows_of_grown rows) in
     let some : 0 < length rows = grind (arith, nat_tests) in
-    let few : length rows ≤ most_nodes = grind (arith, nat_tests) in
+    let few : length rows ≤ MOST_NODES = grind (arith, nat_tests) in
     record {
       rooted = root_of (grown rows) g.rooted (omega arith);
       placed = g.placed;
@@ -261,7 +263,7 @@ shaped_by rows false false ea eb h =
 
 -- rows whose shape is sound make shaped trees
 pub shaped : (rows : List Row) → shape_fault rows ≡ None → IsShaped (grown rows)
-shaped rows h = shaped_by rows (length rows == 0) (nat_lt most_nodes (length rows)) refl refl h
+shaped rows h = shaped_by rows (length rows == 0) (nat_lt MOST_NODES (length rows)) refl refl h
 
 -- rows without a fault have a sound shape, and references that aren't too heavy
 pub sound_parts : (rows : List Row) → tree_fault rows ≡ None → (shape_fault rows ≡ None) × (weight_fault (grown rows) ≡ None)
@@ -271,27 +273,24 @@ sound_parts rows h = none_or (shape_fault rows) (weight_fault (grown rows)) h
 pub shape_of_sound : (rows : List Row) → tree_fault rows ≡ None → shape_fault rows ≡ None
 shape_of_sound rows h = (sound_parts rows h).0
 
-light_by : (t : Trees) (b : Bool) → nat_lt most_weight (reference_weight t) ≡ b → weight_fault t ≡ None → reference_weight t ≤ most_weight
+light_by : (t : Trees) (b : Bool) → nat_lt MOST_WEIGHT (reference_weight t) ≡ b → weight_fault t ≡ None → reference_weight t ≤ MOST_WEIGHT
 light_by t true e h = let no : Some ReferenceWeight ≡ None = rw e at h in cc
 light_by t false e h = grind (arith, nat_tests)
+
+-- a shaped tree whose references aren't too heavy is well
+pub light_well : (t : Trees) → IsShaped t → reference_weight t ≤ MOST_WEIGHT → IsWell t
+light_well t s light = record { rooted = s.rooted; placed = s.placed; few = s.few; apart = s.apart; rows_well = s.rows_well; light = light }
 
 -- rows without a fault make a well tree
 pub well_from_sound : (rows : List Row) → tree_fault rows ≡ None → IsWell (grown rows)
 well_from_sound rows h =
     let parts = sound_parts rows h in
-    let s = shaped rows parts.0 in
-    record {
-      rooted = s.rooted;
-      placed = s.placed;
-      few = s.few;
-      apart = s.apart;
-      rows_well = s.rows_well;
-      light = light_by (grown rows) (nat_lt most_weight (reference_weight (grown rows))) refl parts.1;
-    }
+    let t = grown rows in
+    light_well t (shaped rows parts.0) (light_by t (nat_lt MOST_WEIGHT (reference_weight t)) refl parts.1)
 
 -- ---- what a sound shape tells of the rows themselves
 
-pub few_rows : (rows : List Row) → shape_fault rows ≡ None → length rows ≤ most_nodes
+pub few_rows : (rows : List Row) → shape_fault rows ≡ None → length rows ≤ MOST_NODES
 few_rows rows h =
     omega (arith, (shaped rows h).few, length-rows_of (grown rows), ap length (rows_of_grown rows))
 

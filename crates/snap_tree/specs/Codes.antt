@@ -10,7 +10,7 @@ use Rattle.snap_tree.specs.declared.row.Attr.{Attr}
 use Rattle.snap_tree.specs.declared.row.Body.{Body}
 use Rattle.snap_tree.specs.declared.row.Body.TheVariants.{Element, Words}
 use Rattle.snap_tree.specs.declared.row.Row.{Row}
-use Rattle.snap_tree.specs.Trees.{Trees, empty, tree, Document}
+use Rattle.snap_tree.specs.Trees.{Trees, empty, tree, Document, document}
 
 abbrev coded_id : Coded NodeId
 coded_id = code_by ℕ coded_ℕ (λ n. n.0) (λ n. record { 0 = n }) (λ _. refl)
@@ -93,4 +93,4 @@ abbrev pub coded_trees : Coded Trees
 coded_trees = code_by (List (Option Row)) (coded_list (coded_option coded_row)) marks (λ ms. first (read ms [])) (λ t. ap first (read-marks t []))
 
 abbrev pub coded_document : Coded Document
-coded_document = code_by (List ℕ × Trees) (coded× (coded_list coded_ℕ) coded_trees) (λ d. (d.address, d.trees)) (λ p. record { address = p.0; trees = p.1 }) (λ _. refl)
+coded_document = code_by (List ℕ × Trees) (coded× (coded_list coded_ℕ) coded_trees) (λ d. (d.address, d.trees)) (λ p. document p.0 p.1) (λ _. refl)

@@ -8,13 +8,9 @@ use Rattle.snap_tree.specs.declared.fault.TreeFault.TheVariants.{Empty, TooMany,
 use Rattle.snap_tree.specs.Trees.{Trees, empty, tree}
 use Rattle.snap_tree.specs.Grown.{names, grown}
 use Rattle.snap_tree.specs.Rows.{has_number, is_text, own_fault}
-use Rattle.snap_tree.specs.Weight.{reference_weight, most_weight}
-
-abbrev pub most_nodes : ℕ
-most_nodes = 10000
-
-abbrev pub most_depth : ℕ
-most_depth = 128
+use Rattle.snap_tree.specs.Weight.{reference_weight}
+use Rattle.snap_tree.specs.declared.build.TheConstants.{MOST_NODES, MOST_DEPTH}
+use Rattle.snap_tree.specs.declared.weight.TheConstants.{MOST_WEIGHT}
 
 -- the nodes that are open for one more row, the deepest first: the last root, its last child, and so on
 abbrev pub open_rows : Trees → List Row
@@ -52,7 +48,7 @@ place_fault first r above below_text =
     if is_misplaced first r above then Some (ParentUnknownOrNotOpen r.id)
     else (if first && is_text r then Some (RootNotElement r.id)
     else (if below_text then Some (TextHasKids r.id)
-    else (if nat_le most_depth above then Some (TooDeep r.id)
+    else (if nat_le MOST_DEPTH above then Some (TooDeep r.id)
     else own_fault r)))
 
 -- the first fault of a row that comes after others
@@ -72,12 +68,12 @@ rows_fault earlier (r ∷ rows) = option_or (row_fault earlier r) (rows_fault (e
 unfoldable pub shape_fault : List Row → Option TreeFault
 shape_fault rows =
     if length rows == 0 then Some Empty
-    else (if nat_lt most_nodes (length rows) then Some TooMany
+    else (if nat_lt MOST_NODES (length rows) then Some TooMany
     else rows_fault [] rows)
 
 -- what references find is too heavy
 abbrev pub weight_fault : Trees → Option TreeFault
-weight_fault t = if nat_lt most_weight (reference_weight t) then Some ReferenceWeight else None
+weight_fault t = if nat_lt MOST_WEIGHT (reference_weight t) then Some ReferenceWeight else None
 
 -- the first fault of a page's rows
 unfoldable pub tree_fault : List Row → Option TreeFault

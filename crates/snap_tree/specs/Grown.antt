@@ -3,7 +3,8 @@ use Rattle.std.specs.Prelude.{◌==◌, List, [], ◌∷◌, Bool, false, if◌t
 use Rattle.std.specs.Option.{option_or}
 use Rattle.snap_tree.specs.declared.row.NodeId.{NodeId}
 use Rattle.snap_tree.specs.declared.row.Row.{Row}
-use Rattle.snap_tree.specs.Trees.{Trees, empty, tree, beside}
+use Rattle.snap_tree.specs.declared.row.Raw.{Raw}
+use Rattle.snap_tree.specs.Trees.{Trees, empty, tree, beside, Document, document}
 
 -- it is there, and is this number
 abbrev pub is_number : Option NodeId → NodeId → Bool
@@ -27,6 +28,10 @@ left r (tree x kids after) = if names x r then left r after else tree x kids aft
 abbrev pub grown : List Row → Trees
 grown [] = empty
 grown (r ∷ rows) = tree r (taken r (grown rows)) (left r (grown rows))
+
+-- the page that an address and rows make
+abbrev pub page_of : Raw → Document
+page_of raw = document raw.address (grown raw.rows)
 
 -- The same, from the first row to the last: each row goes under its parent as the last child. The
 -- nodes that are open for one more row are the last root, its last child, and so on down; of those

@@ -12,6 +12,7 @@ use Rattle.snap_tree.specs.declared.row.Row.{Row}
 use Rattle.snap_tree.specs.declared.fault.TreeFault.{TreeFault}
 use Rattle.snap_tree.specs.declared.fault.TreeFault.TheVariants.{TooManyAttrs, TextTooLong, DoubleAttr, EmptyName}
 use Rattle.snap_tree.specs.Words.{folded}
+use Rattle.snap_tree.specs.declared.limits.TheConstants.{MOST_ATTRS, MOST_BYTES}
 
 -- equal but for the case of ASCII letters
 abbrev pub same_folded : List ℕ → List ℕ → Bool
@@ -61,14 +62,8 @@ is_key text (Some key) = bytes_eq text key
 
 -- ---- the limits of a row
 
-abbrev pub most_attrs : ℕ
-most_attrs = 64
-
-abbrev pub most_bytes : ℕ
-most_bytes = 65536
-
 abbrev pub is_long : List ℕ → Bool
-is_long text = nat_lt most_bytes (length text)
+is_long text = nat_lt MOST_BYTES (length text)
 
 -- the text, the tag, or a name or a value of an attribute is too long
 abbrev pub has_long : Body → Bool
@@ -91,7 +86,7 @@ has_empty (Words text) = false
 -- the first fault of a row by itself
 unfoldable pub own_fault : Row → Option TreeFault
 own_fault r =
-    if nat_lt most_attrs (length (attrs_of r)) then Some (TooManyAttrs r.id)
+    if nat_lt MOST_ATTRS (length (attrs_of r)) then Some (TooManyAttrs r.id)
     else (if has_long r.body then Some (TextTooLong r.id)
     else (if has_double (attrs_of r) then Some (DoubleAttr r.id)
     else (if r.id.0 == 0 || has_empty r.body then Some (EmptyName r.id) else None)))

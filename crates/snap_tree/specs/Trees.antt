@@ -12,6 +12,14 @@ pub record Document : Type 0 where
   pub address : List ℕ
   pub trees : Trees
 
+-- the page of this address, with these trees
+abbrev pub document : List ℕ → Trees → Document
+document address trees = record { address = address; trees = trees }
+
+-- the same page, but with these trees
+abbrev pub with_trees : Document → Trees → Document
+with_trees page trees = document page.address trees
+
 -- the rows in document order, which is preorder
 abbrev pub rows_of : Trees → List Row
 rows_of empty = []

@@ -12,10 +12,6 @@ use Rattle.snap_tree.specs.Rows.{attribute}
 use Rattle.snap_tree.specs.Spots.{Spot, spot, spots}
 use Rattle.snap_tree.specs.Labels.{first_with_id, labels_at}
 
--- how much the references of a page weigh at the most
-abbrev pub most_weight : ℕ
-most_weight = 100000
-
 -- the bytes of a text, or of an element's attribute values
 abbrev pub bytes_in : Body → ℕ
 bytes_in (Element space tag attrs) = sum_by (λ a. length a.value) attrs

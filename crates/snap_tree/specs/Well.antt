@@ -5,14 +5,15 @@ use Rattle.snap_tree.specs.declared.row.Row.{Row}
 use Rattle.snap_tree.specs.Trees.{Trees, empty, tree, rows_of, count}
 use Rattle.snap_tree.specs.Rows.{has_number, is_text}
 use Rattle.snap_tree.specs.WellRow.{IsWellRow}
-use Rattle.snap_tree.specs.Faults.{most_nodes, most_depth}
-use Rattle.snap_tree.specs.Weight.{reference_weight, most_weight}
+use Rattle.snap_tree.specs.Weight.{reference_weight}
 pub use Rattle.snap_tree.specs.Spots.{number_of}
+use Rattle.snap_tree.specs.declared.build.TheConstants.{MOST_NODES, MOST_DEPTH}
+use Rattle.snap_tree.specs.declared.weight.TheConstants.{MOST_WEIGHT}
 
 -- a node in its place: it names the node above it, it isn't too deep, and a text has nothing below it
 pub record IsPlaced (above : List Row) (r : Row) (kids : Trees) : Type 0 where
   pub named : r.parent ≡ number_of above
-  pub shallow : length above < most_depth
+  pub shallow : length above < MOST_DEPTH
   pub childless : is_text r ≡ true → kids ≡ empty
 
 -- each node stands in its place, below these ancestors, the nearest first
@@ -34,7 +35,7 @@ AreApart (r ∷ rows) = (list_any (has_number r.id) rows ≡ false) × AreApart 
 pub record IsWell (t : Trees) : Type 0 where
   pub rooted : HasRoot t
   pub placed : EachPlaced [] t
-  pub few : count t ≤ most_nodes
+  pub few : count t ≤ MOST_NODES
   pub apart : AreApart (rows_of t)
   pub rows_well : AllByRecursion IsWellRow (rows_of t)
-  pub light : reference_weight t ≤ most_weight
+  pub light : reference_weight t ≤ MOST_WEIGHT

@@ -5,11 +5,12 @@ use Rattle.snap_tree.specs.declared.row.Attr.{Attr}
 use Rattle.snap_tree.specs.declared.row.Body.{Body}
 use Rattle.snap_tree.specs.declared.row.Body.TheVariants.{Element, Words}
 use Rattle.snap_tree.specs.declared.row.Row.{Row}
-use Rattle.snap_tree.specs.Rows.{same_folded, most_attrs, most_bytes}
+use Rattle.snap_tree.specs.Rows.{same_folded}
+use Rattle.snap_tree.specs.declared.limits.TheConstants.{MOST_ATTRS, MOST_BYTES}
 
 -- the text isn't too long
 abbrev pub IsShort : List ℕ → Type 0
-IsShort text = length text ≤ most_bytes
+IsShort text = length text ≤ MOST_BYTES
 
 -- the name isn't empty, nor too long
 pub record IsName (name : List ℕ) : Type 0 where
@@ -23,7 +24,7 @@ pub record IsWellAttr (a : Attr) : Type 0 where
 -- an element has a tag, and not too many attributes, no two of one name when folded
 pub record IsWellElement (tag : List ℕ) (attrs : List Attr) : Type 0 where
   pub named : IsName tag
-  pub few : length attrs ≤ most_attrs
+  pub few : length attrs ≤ MOST_ATTRS
   pub each_well : AllByRecursion IsWellAttr attrs
   pub differ : IsDistinct same_folded (map (λ a. a.name) attrs)
 

@@ -13,6 +13,7 @@ use crate::text::Text;
 use crate::tree::Tree;
 use crate::words::{blank, next_word, tidy};
 use std::alloc::Global;
+use std::process::Abort;
 use std::test::Fail;
 
 const SHOWN: Facts = Facts {
@@ -76,10 +77,6 @@ fn raw(alloc: Global, rows: Vec<Row>) -> Result<Raw, OutOfMemory> {
     })
 }
 
-fn has_parent(tree: &Tree, number: u32, parent: u32) -> bool {
-    tree.parent(NodeId(number)) == parent_of(parent)
-}
-
 fn has_kids(tree: &Tree, number: u32, kids: &[u32]) -> bool {
     let mut found = tree.kids(NodeId(number));
     for kid in kids {
@@ -90,8 +87,36 @@ fn has_kids(tree: &Tree, number: u32, kids: &[u32]) -> bool {
     found.next().is_none()
 }
 
-fn holds(tree: &Tree, number: u32) -> bool {
-    tree.node(NodeId(number)).is_some() && tree.below(NodeId(number)).is_some()
+// A number, whether the page holds it, its parent's (0 for none) and its children's.
+type Standing<'a> = (u32, bool, u32, &'a [u32]);
+
+fn stands_so(rt: &impl Abort, tree: &Tree, case: Standing<'_>) {
+    let (number, is_held, parent, kids) = case;
+    let node = NodeId(number);
+    let is_found = tree.node(node).is_some() & tree.below(node).is_some();
+    assert_eq!(rt; is_found, is_held, "{number}");
+    assert!(rt; tree.parent(node) == parent_of(parent), "{number}");
+    assert!(rt; has_kids(tree, number, kids), "{number}");
+}
+
+const TITLES: &str =
+    "1 0 html;2 1 head;3 2 title;4 3 #Home;5 1 body;6 5 svg:svg;7 6 svg:title;8 5 TITLE";
+
+#[test]
+fn looks_nodes_up(rt: HostRuntime) -> Result<(), Fail> {
+    let tree = built(rt.alloc(), TITLES)?;
+    let cases: [Standing<'_>; 6] = [
+        (1, true, 0, &[2, 5]),
+        (2, true, 1, &[3]),
+        (4, true, 3, &[]),
+        (5, true, 1, &[6, 8]),
+        (8, true, 5, &[]),
+        (9, false, 0, &[]),
+    ];
+    for case in cases {
+        stands_so(&rt, &tree, case);
+    }
+    Ok(())
 }
 
 fn has_tagged(alloc: Global, tree: &Tree, tag: &str, nodes: &[NodeId]) -> Result<bool, Fail> {
@@ -100,35 +125,29 @@ fn has_tagged(alloc: Global, tree: &Tree, tag: &str, nodes: &[NodeId]) -> Result
 }
 
 #[test]
-fn looks_nodes_up(rt: HostRuntime) -> Result<(), Fail> {
+fn finds_html_elements_by_tag(rt: HostRuntime) -> Result<(), Fail> {
     let alloc = rt.alloc();
-    let page = "1 0 html;2 1 head;3 2 title;4 3 #Home;5 1 body;6 5 svg:svg;7 6 svg:title;8 5 TITLE";
-    let tree = built(alloc, page)?;
-    let cases: [(u32, u32, &[u32]); 6] = [
-        (1, 0, &[2, 5]),
-        (2, 1, &[3]),
-        (4, 3, &[]),
-        (5, 1, &[6, 8]),
-        (8, 5, &[]),
-        (9, 0, &[]),
-    ];
-    for (number, parent, kids) in cases {
-        assert!(rt; has_parent(&tree, number, parent), "{number}");
-        assert!(rt; has_kids(&tree, number, kids), "{number}");
-        assert_eq!(rt; holds(&tree, number), number != 9);
-    }
-    assert_eq!(rt; tree.rows().len(), 8);
-    assert_eq!(rt; tree.address().as_str(), "https://example.org/");
+    let tree = built(alloc, TITLES)?;
     let titles = [NodeId(3), NodeId(8)];
     assert!(rt; has_tagged(alloc, &tree, "Title", titles.as_slice())?);
     assert!(rt; has_tagged(alloc, &tree, "svg", [].as_slice())?);
     Ok(())
 }
 
+// A text, whether it is blank, and how it is tidied.
+type Tidied<'a> = (&'a str, bool, &'a str);
+
+fn is_cut_so(rt: &impl Abort, alloc: Global, case: Tidied<'_>) -> Result<(), Fail> {
+    let (sent, is_blank, tidied) = case;
+    let text = Text::from_str(alloc, sent)?;
+    assert_eq!(rt; blank(&text), is_blank, "{sent:?}");
+    assert_eq!(rt; tidy(alloc, &text)?.as_str(), tidied, "{sent:?}");
+    Ok(())
+}
+
 #[test]
 fn cuts_words(rt: HostRuntime) -> Result<(), Fail> {
-    let alloc = rt.alloc();
-    let cases = [
+    let cases: [Tidied<'_>; 8] = [
         ("", true, ""),
         (" \t\n\u{b}\u{c}\r", true, ""),
         (
@@ -142,12 +161,14 @@ fn cuts_words(rt: HostRuntime) -> Result<(), Fail> {
         ("\u{200b}", false, "\u{200b}"),
         ("\u{e9}t\u{e9}\n", false, "\u{e9}t\u{e9}"),
     ];
-    for (sent, is_blank, tidied) in cases {
-        let text = Text::from_str(alloc, sent)?;
-        assert_eq!(rt; blank(&text), is_blank, "{sent:?}");
-        assert_eq!(rt; tidy(alloc, &text)?.as_str(), tidied, "{sent:?}");
+    for case in cases {
+        is_cut_so(&rt, rt.alloc(), case)?;
     }
+    Ok(())
+}
+
+#[test]
+fn takes_the_first_word(rt: HostRuntime) {
     assert_eq!(rt; next_word("\tone two "), Some(("one", " two ")));
     assert_eq!(rt; next_word(" "), None);
-    Ok(())
 }

@@ -1,7 +1,9 @@
-ghost use Rattle.std.specs.Prelude.{◌≡◌, [], None, IfSome, IfOk, IfErr, OnOk};
+ghost use Rattle.std.specs.Prelude.{◌≡◌, [], None, IfSome, IfOk, IfErr, OnOk, option_and_then};
 ghost use Rattle.std.specs.Option.{option_copied, option_map};
+ghost use Rattle.std.specs.List.{find};
 ghost use Rattle.snap_tree.specs.Trees.{rows_of};
-ghost use Rattle.snap_tree.specs.Grown.{grown};
+ghost use Rattle.snap_tree.specs.Grown.{grown, page_of};
+ghost use Rattle.snap_tree.specs.Rows.{has_number};
 ghost use Rattle.snap_tree.specs.Faults.{shape_fault, tree_fault};
 ghost use Rattle.snap_tree.specs.Well.{IsWell};
 ghost use Rattle.snap_tree.specs.Places.{IsPlaces, HasRun, run_below};
@@ -39,7 +41,7 @@ pub struct Tree {
 }
 
 impl Model for Tree {
-    ghost use Rattle.snap_tree.specs.Trees.{Document};
+    ghost use Rattle.snap_tree.specs.Trees.{Document, document};
     ghost use Rattle.snap_tree.specs.Codes.{coded_document};
 
     ghost Value = { Document };
@@ -49,7 +51,7 @@ impl Model for Tree {
     ghost use Rattle.snap_tree.specs.Grown.{grown};
     ghost use Rattle.snap_tree.specs.Indexed.{IsKept};
 
-    ghost view = { λ t. record { address = t.address; trees = grown t.rows.items } };
+    ghost view = { λ t. document t.address (grown t.rows.items) };
 
     ghost invariant = { λ t. IsKept t.rows.items t.index t.tags };
 }
@@ -68,6 +70,24 @@ fn sound_places(alloc: Global, rows: &[Row]) -> Result<Places, BuildFault>
         return Err(BuildFault::Tree(TreeFault::TooMany));
     }
     places_of(alloc, rows)
+}
+
+// The row of a number, given the place of each; None where no row has it.
+fn row_of<'a>(rows: &'a [Row], places: &Places, n: NodeId) -> Option<&'a Row>
+    requires { IsPlaces places.now rows.now }
+    ensures { option_copied result ≡ find (has_number n) rows.now }
+{
+    match places.get(&n.0) {
+        Some(place) => rows.get(*place),
+        None => None,
+    }
+}
+
+// The number of the parent that a row names, where there is a row.
+fn named_by(row: Option<&Row>) -> Option<NodeId>
+    ensures { result ≡ option_and_then (λ r. r.parent) (option_copied row.entry) }
+{
+    row?.parent
 }
 
 /// The trees below the node at a place, given the size of each subtree in document order: the run of
@@ -119,14 +139,23 @@ impl Tree {
     /// references find. Else it wants memory.
     #[tactic(auto, using(crate::proofs::Wellness::well_from_sound))]
     pub fn build(alloc: Global, raw: Raw) -> Result<Self, BuildFault>
-        ensures tree { IfOk result (λ t. t ≡ record { address = raw.address; trees = grown raw.rows }) }
+        ensures tree { IfOk result (λ t. t ≡ page_of raw) }
         ensures well { IfOk result (λ t. IsWell t.trees) }
         ensures sound { OnOk result (tree_fault raw.rows ≡ None) }
         ensures fault { IfErr result (λ f. Breaks f (tree_fault raw.rows)) }
     {
+        let index = sound_index(alloc, raw.rows.as_slice())?;
+        Ok(Tree::over(alloc, raw, index)?)
+    }
+
+    // The page of rows without a fault, whose index is known.
+    fn over(alloc: Global, raw: Raw, index: Index) -> Result<Self, OutOfMemory>
+        requires sound { tree_fault raw.rows ≡ None }
+        requires indexed { IsIndex raw.rows index }
+        ensures { IfOk result (λ t. t ≡ page_of raw) }
+    {
         let Raw { address, rows } = raw;
         let rows = rows.into_vec();
-        let index = sound_index(alloc, rows.as_slice())?;
         let tags = groups_of(alloc, Key::Tag, rows.as_slice())?;
         Ok(Tree {
             address,
@@ -168,10 +197,7 @@ impl Tree {
         ensures spot { option_copied result ≡ option_map (λ s. s.row) (spot self.now.trees n) }
         ensures absent { IsAbsent self.now.trees n → result ≡ None }
     {
-        match self.index.places.get(&n.0) {
-            Some(place) => Some(&self.rows[*place]),
-            None => None,
-        }
+        row_of(self.rows.as_slice(), &self.index.places, n)
     }
 
     /// The number of a node's parent; None for the root and for a number that the tree doesn't hold.
@@ -185,12 +211,7 @@ impl Tree {
         ensures walks { WalksAbove self.now.trees n }
         ensures absent { IsAbsent self.now.trees n → result ≡ None }
     {
-        // Looked at for the proof, which rests on the tree's invariant: it is well.
-        let _rows = &self.rows;
-        match self.node(n) {
-            Some(row) => row.parent,
-            None => None,
-        }
+        named_by(row_of(self.rows.as_slice(), &self.index.places, n))
     }
 
     /// The trees below a node; None exactly where the tree doesn't hold the number.
@@ -266,14 +287,8 @@ impl Tree {
     {
         let address = self.address.copy(alloc)?;
         let rows = copies_of(alloc, self.rows.as_slice())?;
-        let places = self.index.places.clone()?;
-        let index = Index::of(alloc, rows.as_slice(), places)?;
-        let tags = groups_of(alloc, Key::Tag, rows.as_slice())?;
-        Ok(Tree {
-            address,
-            rows,
-            index,
-            tags,
-        })
+        let index = Index::of(alloc, rows.as_slice(), self.index.places.clone()?)?;
+        let rows = List::from_vec(rows);
+        Tree::over(alloc, Raw { address, rows }, index)
     }
 }

@@ -2,14 +2,15 @@ ghost use Rattle.std.specs.Prelude.{◌≡◌, ◌+◌, ◌^◌, ◌<◌, ◌≤
 ghost use Rattle.std.specs.Option.{option_copied};
 ghost use Rattle.std.specs.List.{sum_by, AllByRecursion};
 ghost use Rattle.snap_tree.specs.Grown.{grown};
-ghost use Rattle.snap_tree.specs.Faults.{most_nodes, shape_fault};
+ghost use Rattle.snap_tree.specs.Faults.{shape_fault};
 ghost use Rattle.snap_tree.specs.WellRow.{IsWellRow};
 ghost use Rattle.snap_tree.specs.Spots.{spots};
 ghost use Rattle.snap_tree.specs.Indexed.{IsIndex};
-ghost use Rattle.snap_tree.specs.Weight.{bytes_in, node_weight, weight_of, id_weight, listed, references, reference_weight, most_weight};
+ghost use Rattle.snap_tree.specs.Weight.{bytes_in, node_weight, weight_of, id_weight, listed, references, reference_weight};
 ghost use Rattle.snap_tree.specs.Labels.{labels_with};
 ghost use Rattle.snap_tree.specs.Weighing.{saturated, sums_from, HasSums, weight_at};
 
+use crate::build::MOST_NODES;
 use crate::groups::group;
 use crate::index::Index;
 use crate::labels::{id_of, labels_by};
@@ -52,7 +53,7 @@ fn node_weight(row: &Row) -> u64
 
 // What the rows before each place weigh, and at the end what all weigh.
 fn sums_of(alloc: Global, rows: &[Row]) -> Result<Vec<u64>, OutOfMemory>
-    requires few { length rows.now ≤ most_nodes }
+    requires few { length rows.now ≤ MOST_NODES }
     requires well { AllByRecursion IsWellRow rows.now }
     ensures { IfOk result (λ sums. sums.items ≡ sums_from 0 rows.now) }
 {

@@ -30,3 +30,14 @@ fn a_verdict_has_the_finding_and_the_evidence(rt: HostRuntime) -> Result<(), Fai
     }
     Ok(())
 }
+
+#[test]
+fn a_text_that_is_absent_is_empty_evidence(rt: HostRuntime) -> Result<(), Fail> {
+    let lang = Text::from_str(rt.alloc(), "en")?;
+    for (text, evidence) in [(None, ""), (Some(&lang), "en")] {
+        let verdict = Finding::met().verdict_on(rt.alloc(), text)?;
+        assert_eq!(rt; verdict.auto, Auto::Passed);
+        assert_eq!(rt; verdict.evidence.as_str(), evidence);
+    }
+    Ok(())
+}

@@ -3,6 +3,7 @@ use crate::row::NodeId;
 use crate::text::Text;
 use crate::tree::Tree;
 use std::alloc::Global;
+use std::process::Abort;
 use std::test::Fail;
 
 // Whether the first element with an id has this number, or there is none.
@@ -57,83 +58,87 @@ pub(super) fn has_labels(
 // A page, and a node of it with its labels.
 type Case<'a> = (&'a str, u32, &'a str);
 
-#[test]
-fn finds_labels_by_id(rt: HostRuntime) -> Result<(), Fail> {
-    let two =
-        "1 0 form;2 1 label for=q;3 1 input id=q;4 1 LABEL FOR=q;5 1 select id=q;6 1 svg:label for=q;7 1 label for=Q";
-    let blank = "1 0 form;2 1 label for=;3 1 input id=;4 1 label for=~;5 1 input id=~";
-    let paragraph = "1 0 p id=q;2 1 label for=q;3 1 input id=q";
-    let cases: [Case<'_>; 8] = [
-        (two, 3, "2 4"),
-        (two, 5, ""),
-        (two, 2, ""),
-        (two, 8, ""),
-        (blank, 3, ""),
-        (blank, 5, "4"),
-        (paragraph, 1, ""),
-        (paragraph, 3, ""),
-    ];
-    let alloc = rt.alloc();
+fn labels_are(alloc: Global, page: &str, number: u32, labels: &str) -> Result<bool, Fail> {
+    let tree = built(alloc, page)?;
+    has_labels(alloc, &tree, number, labels)
+}
+
+fn each_labelled(rt: &impl Abort, alloc: Global, cases: &[Case<'_>]) -> Result<(), Fail> {
     for (page, number, labels) in cases {
-        let tree = built(alloc, page)?;
-        assert!(rt;
-            has_labels(alloc, &tree, number, labels)?,
-            "{page} {number}"
-        );
+        let is_labelled = labels_are(alloc, page, *number, labels)?;
+        assert!(rt; is_labelled, "{page} {number}");
     }
     Ok(())
 }
+
+const TWO: &str =
+    "1 0 form;2 1 label for=q;3 1 input id=q;4 1 LABEL FOR=q;5 1 select id=q;6 1 svg:label for=q;7 1 label for=Q";
+
+const BLANK: &str = "1 0 form;2 1 label for=;3 1 input id=;4 1 label for=~;5 1 input id=~";
+
+const PARAGRAPH: &str = "1 0 p id=q;2 1 label for=q;3 1 input id=q";
+
+const BY_ID: [Case<'static>; 8] = [
+    (TWO, 3, "2 4"),
+    (TWO, 5, ""),
+    (TWO, 2, ""),
+    (TWO, 8, ""),
+    (BLANK, 3, ""),
+    (BLANK, 5, "4"),
+    (PARAGRAPH, 1, ""),
+    (PARAGRAPH, 3, ""),
+];
+
+#[test]
+fn finds_labels_by_id(rt: HostRuntime) -> Result<(), Fail> {
+    each_labelled(&rt, rt.alloc(), BY_ID.as_slice())
+}
+
+const NESTED: &str = "1 0 label;2 1 label;3 2 span;4 3 input;5 2 input;6 1 input";
+
+const OTHER: &str = "1 0 label;2 1 label for=other;3 2 input id=q;4 1 input";
+
+const EMPTY_FOR: &str = "1 0 label for=;2 1 input";
+
+const HIDDEN: &str = "1 0 label;2 1 input type=Hidden;3 1 svg:input;4 1 input type=~hidden";
+
+const BOTH: &str = "1 0 form;2 1 label for=q;3 1 label;4 3 input id=q;5 1 label for=q";
+
+const NAMED: &str = "1 0 label for=q;2 1 input id=q";
+
+const AROUND: [Case<'static>; 11] = [
+    (NESTED, 4, "2"),
+    (NESTED, 5, ""),
+    (NESTED, 6, ""),
+    (OTHER, 3, ""),
+    (OTHER, 4, ""),
+    (EMPTY_FOR, 2, ""),
+    (HIDDEN, 2, ""),
+    (HIDDEN, 3, ""),
+    (HIDDEN, 4, "1"),
+    (BOTH, 4, "2 5 3"),
+    (NAMED, 2, "1"),
+];
 
 #[test]
 fn finds_the_label_around_an_element(rt: HostRuntime) -> Result<(), Fail> {
-    let nested = "1 0 label;2 1 label;3 2 span;4 3 input;5 2 input;6 1 input";
-    let other = "1 0 label;2 1 label for=other;3 2 input id=q;4 1 input";
-    let empty_for = "1 0 label for=;2 1 input";
-    let hidden = "1 0 label;2 1 input type=Hidden;3 1 svg:input;4 1 input type=~hidden";
-    let both = "1 0 form;2 1 label for=q;3 1 label;4 3 input id=q;5 1 label for=q";
-    let named = "1 0 label for=q;2 1 input id=q";
-    let cases: [Case<'_>; 11] = [
-        (nested, 4, "2"),
-        (nested, 5, ""),
-        (nested, 6, ""),
-        (other, 3, ""),
-        (other, 4, ""),
-        (empty_for, 2, ""),
-        (hidden, 2, ""),
-        (hidden, 3, ""),
-        (hidden, 4, "1"),
-        (both, 4, "2 5 3"),
-        (named, 2, "1"),
-    ];
-    let alloc = rt.alloc();
-    for (page, number, labels) in cases {
-        let tree = built(alloc, page)?;
-        assert!(rt;
-            has_labels(alloc, &tree, number, labels)?,
-            "{page} {number}"
-        );
-    }
-    Ok(())
+    each_labelled(&rt, rt.alloc(), AROUND.as_slice())
 }
+
+const LABELABLE: [Case<'static>; 10] = [
+    ("1 0 label;2 1 button", 2, "1"),
+    ("1 0 label;2 1 meter", 2, "1"),
+    ("1 0 label;2 1 output", 2, "1"),
+    ("1 0 label;2 1 progress", 2, "1"),
+    ("1 0 label;2 1 SELECT", 2, "1"),
+    ("1 0 label;2 1 textarea", 2, "1"),
+    ("1 0 label;2 1 input", 2, "1"),
+    ("1 0 label;2 1 svg:button", 2, ""),
+    ("1 0 label;2 1 fieldset", 2, ""),
+    ("1 0 label;2 1 a", 2, ""),
+];
 
 #[test]
 fn knows_what_can_have_a_label(rt: HostRuntime) -> Result<(), Fail> {
-    let cases = [
-        ("1 0 label;2 1 button", "1"),
-        ("1 0 label;2 1 meter", "1"),
-        ("1 0 label;2 1 output", "1"),
-        ("1 0 label;2 1 progress", "1"),
-        ("1 0 label;2 1 SELECT", "1"),
-        ("1 0 label;2 1 textarea", "1"),
-        ("1 0 label;2 1 input", "1"),
-        ("1 0 label;2 1 svg:button", ""),
-        ("1 0 label;2 1 fieldset", ""),
-        ("1 0 label;2 1 a", ""),
-    ];
-    let alloc = rt.alloc();
-    for (page, labels) in cases {
-        let tree = built(alloc, page)?;
-        assert!(rt; has_labels(alloc, &tree, 2, labels)?, "{page}");
-    }
-    Ok(())
+    each_labelled(&rt, rt.alloc(), LABELABLE.as_slice())
 }

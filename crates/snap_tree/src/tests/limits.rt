@@ -1,4 +1,4 @@
-use super::sketch::{fault_of, repeated};
+use super::sketch::{fault_is, repeated};
 use crate::memory::OutOfMemory;
 use std::alloc::Global;
 use std::test::Fail;
@@ -16,20 +16,21 @@ fn path(alloc: Global, rows: &str) -> Result<String, OutOfMemory> {
     Ok(page)
 }
 
+const DEPTHS: [(&str, u8, u32); 6] = [
+    ("", 0, 0),
+    (";129 127 p", 0, 0),
+    (";129 128 p", 5, 129),
+    (";129 128 ", 5, 129),
+    (";129 128 p href=a HREF=b", 5, 129),
+    (";129 127 #x;130 129 p", 9, 130),
+];
+
 #[test]
 fn keeps_the_greatest_depth(rt: HostRuntime) -> Result<(), Fail> {
     let alloc = rt.alloc();
-    let cases = [
-        ("", 0, 0),
-        (";129 127 p", 0, 0),
-        (";129 128 p", 5, 129),
-        (";129 128 ", 5, 129),
-        (";129 128 p href=a HREF=b", 5, 129),
-        (";129 127 #x;130 129 p", 9, 130),
-    ];
-    for (rows, number, node) in cases {
+    for (rows, number, node) in DEPTHS {
         let page = path(alloc, rows)?;
-        assert_eq!(rt; fault_of(alloc, page.as_str())?, (number, node), "{rows}");
+        fault_is(&rt, alloc, page.as_str(), (number, node), rows)?;
     }
     Ok(())
 }
@@ -44,22 +45,19 @@ fn wide(alloc: Global, root: &str, count: u32) -> Result<String, OutOfMemory> {
     Ok(page)
 }
 
+const COUNTS: [(&str, u32, u8, u32); 4] = [
+    ("1 0 div", 10_000, 0, 0),
+    ("1 0 div", 10_001, 2, 0),
+    ("1 9 div", 10_000, 4, 1),
+    ("1 9 div", 10_001, 2, 0),
+];
+
 #[test]
 fn keeps_the_greatest_number_of_nodes(rt: HostRuntime) -> Result<(), Fail> {
     let alloc = rt.alloc();
-    let cases = [
-        ("1 0 div", 10_000, 0, 0),
-        ("1 0 div", 10_001, 2, 0),
-        ("1 9 div", 10_000, 4, 1),
-        ("1 9 div", 10_001, 2, 0),
-    ];
-    for (root, count, number, node) in cases {
+    for (root, count, number, node) in COUNTS {
         let page = wide(alloc, root, count)?;
-        assert_eq!(rt;
-            fault_of(alloc, page.as_str())?,
-            (number, node),
-            "{root} {count}"
-        );
+        fault_is(&rt, alloc, page.as_str(), (number, node), root)?;
     }
     Ok(())
 }
@@ -75,25 +73,22 @@ fn attributed(alloc: Global, root: &str, count: u8, more: &str) -> Result<String
     Ok(page)
 }
 
+const ATTRIBUTES: [(&str, u8, &str, u8, u32); 7] = [
+    ("5 0 svg:g", 64, "", 0, 0),
+    ("5 0 svg:g", 65, "", 6, 5),
+    ("5 0 svg:g", 2, " A1=", 8, 5),
+    ("5 0 svg:g", 64, " A1=", 6, 5),
+    ("5 0 svg:g", 64, " =", 6, 5),
+    ("5 0 ", 64, "", 12, 5),
+    ("5 0 ", 65, "", 6, 5),
+];
+
 #[test]
 fn keeps_the_greatest_number_of_attributes(rt: HostRuntime) -> Result<(), Fail> {
     let alloc = rt.alloc();
-    let cases = [
-        ("5 0 svg:g", 64, "", 0, 0),
-        ("5 0 svg:g", 65, "", 6, 5),
-        ("5 0 svg:g", 2, " A1=", 8, 5),
-        ("5 0 svg:g", 64, " A1=", 6, 5),
-        ("5 0 svg:g", 64, " =", 6, 5),
-        ("5 0 ", 64, "", 12, 5),
-        ("5 0 ", 65, "", 6, 5),
-    ];
-    for (root, count, more, number, node) in cases {
+    for (root, count, more, number, node) in ATTRIBUTES {
         let page = attributed(alloc, root, count, more)?;
-        assert_eq!(rt;
-            fault_of(alloc, page.as_str())?,
-            (number, node),
-            "{root} {count} {more}"
-        );
+        fault_is(&rt, alloc, page.as_str(), (number, node), more)?;
     }
     Ok(())
 }
@@ -111,23 +106,24 @@ fn lengthened(alloc: Global, page: &str) -> Result<String, OutOfMemory> {
     Ok(text)
 }
 
+const LENGTHS: [(&str, u8, u32); 9] = [
+    ("5 0 @ @=@;6 5 #@", 0, 0),
+    ("5 0 @b id=", 7, 5),
+    ("5 0 p @b=", 7, 5),
+    ("5 0 p id=@b", 7, 5),
+    ("5 0 p;6 5 #@b", 7, 6),
+    ("5 0 #@b", 11, 5),
+    ("5 0 p id=@b ID=", 7, 5),
+    ("5 0  id=@b", 7, 5),
+    ("5 0 p;6 5 ;7 5 #@b", 12, 6),
+];
+
 #[test]
 fn keeps_the_greatest_length(rt: HostRuntime) -> Result<(), Fail> {
     let alloc = rt.alloc();
-    let cases = [
-        ("5 0 @ @=@;6 5 #@", 0, 0),
-        ("5 0 @b id=", 7, 5),
-        ("5 0 p @b=", 7, 5),
-        ("5 0 p id=@b", 7, 5),
-        ("5 0 p;6 5 #@b", 7, 6),
-        ("5 0 #@b", 11, 5),
-        ("5 0 p id=@b ID=", 7, 5),
-        ("5 0  id=@b", 7, 5),
-        ("5 0 p;6 5 ;7 5 #@b", 12, 6),
-    ];
-    for (sketch, number, node) in cases {
+    for (sketch, number, node) in LENGTHS {
         let page = lengthened(alloc, sketch)?;
-        assert_eq!(rt; fault_of(alloc, page.as_str())?, (number, node), "{sketch}");
+        fault_is(&rt, alloc, page.as_str(), (number, node), sketch)?;
     }
     Ok(())
 }

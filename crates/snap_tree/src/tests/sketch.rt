@@ -4,6 +4,7 @@ use crate::memory::OutOfMemory;
 use crate::row::{Attr, Raw, Row, Space};
 use crate::tree::Tree;
 use std::alloc::Global;
+use std::process::Abort;
 use std::test::Fail;
 
 // A page in a table of tests is rows with `;` between. A row has a number, its parent's (0 for none), a
@@ -22,7 +23,7 @@ pub(super) fn built(alloc: Global, page: &str) -> Result<Tree, Fail> {
 }
 
 // The number of the page's first fault and that of its node; 0 where there is none.
-pub(super) fn fault_of(alloc: Global, page: &str) -> Result<(u8, u32), Fail> {
+fn fault_of(alloc: Global, page: &str) -> Result<(u8, u32), Fail> {
     match Tree::build(alloc, sketched(alloc, page)?) {
         Ok(_) => Ok((0, 0)),
         Err(BuildFault::Tree(fault)) => match fault.node() {
@@ -31,6 +32,20 @@ pub(super) fn fault_of(alloc: Global, page: &str) -> Result<(u8, u32), Fail> {
         },
         Err(BuildFault::OutOfMemory) => Err(Fail::from(OutOfMemory)),
     }
+}
+
+// Fails unless the page has this first fault. The case is what a failure names.
+pub(super) fn fault_is(
+    rt: &impl Abort,
+    alloc: Global,
+    page: &str,
+    fault: (u8, u32),
+    case: &str,
+) -> Result<(), Fail> {
+    let (number, node) = fault_of(alloc, page)?;
+    assert_eq!(rt; number, fault.0, "{case}");
+    assert_eq!(rt; node, fault.1, "{case}");
+    Ok(())
 }
 
 // A text so many times.

@@ -1,4 +1,4 @@
-use super::sketch::{fault_of, repeated};
+use super::sketch::{fault_is, repeated};
 use crate::memory::OutOfMemory;
 use std::alloc::Global;
 use std::test::Fail;
@@ -22,30 +22,27 @@ fn referring(
     Ok(page)
 }
 
+// the p and its text weigh 1 + 1 + 1,024, and 1 + 1 + 998 where the text has 63,872 bytes
+const BY_IDS: [(&str, usize, &str, usize, u8); 11] = [
+    ("aria-labelledby", 97, "", 65_536, 0),
+    ("aria-labelledby", 98, "", 65_536, 10),
+    ("aria-owns", 97, "", 65_536, 0),
+    ("ARIA-OWNS", 98, "", 65_536, 10),
+    ("aria-describedby", 98, "", 65_536, 0),
+    ("aria-labelledby", 98, ";5 1 span id=t", 65_536, 0),
+    ("aria-labelledby", 98, ";0 1 p", 65_536, 12),
+    ("aria-labelledby", 100, "", 63_872, 0),
+    ("aria-labelledby", 100, "", 63_935, 0),
+    ("aria-labelledby", 100, "", 63_936, 10),
+    ("aria-labelledby", 101, "", 63_872, 10),
+];
+
 #[test]
 fn weighs_what_ids_find(rt: HostRuntime) -> Result<(), Fail> {
     let alloc = rt.alloc();
-    // the p and its text weigh 1 + 1 + 1,024, and 1 + 1 + 998 where the text has 63,872 bytes
-    let cases = [
-        ("aria-labelledby", 97, "", 65_536, 0),
-        ("aria-labelledby", 98, "", 65_536, 10),
-        ("aria-owns", 97, "", 65_536, 0),
-        ("ARIA-OWNS", 98, "", 65_536, 10),
-        ("aria-describedby", 98, "", 65_536, 0),
-        ("aria-labelledby", 98, ";5 1 span id=t", 65_536, 0),
-        ("aria-labelledby", 98, ";0 1 p", 65_536, 12),
-        ("aria-labelledby", 100, "", 63_872, 0),
-        ("aria-labelledby", 100, "", 63_935, 0),
-        ("aria-labelledby", 100, "", 63_936, 10),
-        ("aria-labelledby", 101, "", 63_872, 10),
-    ];
-    for (name, count, rows, bytes, number) in cases {
+    for (name, count, rows, bytes, number) in BY_IDS {
         let page = referring(alloc, name, count, rows, bytes)?;
-        assert_eq!(rt;
-            fault_of(alloc, page.as_str())?,
-            (number, 0),
-            "{name} {count} {rows} {bytes}"
-        );
+        fault_is(&rt, alloc, page.as_str(), (number, 0), name)?;
     }
     Ok(())
 }
@@ -63,26 +60,23 @@ fn labelled(alloc: Global, attr: &str, kind: &str, count: usize) -> Result<Strin
     Ok(page)
 }
 
+// the label weighs 1 + 1,025 + 4, since the input's values have from 197 to 201 bytes
+const BY_LABELS: [(&str, &str, usize, u8); 7] = [
+    ("for=q", "hidden", 97, 0),
+    ("for=q", "text", 97, 10),
+    ("for=q", "text", 96, 0),
+    ("class=q", "text", 97, 10),
+    ("class=q", "text", 96, 0),
+    ("for=", "text", 97, 0),
+    ("for=x", "text", 97, 0),
+];
+
 #[test]
 fn weighs_what_labels_find(rt: HostRuntime) -> Result<(), Fail> {
     let alloc = rt.alloc();
-    // the label weighs 1 + 1,025 + 4, since the input's values have from 197 to 201 bytes
-    let cases = [
-        ("for=q", "hidden", 97, 0),
-        ("for=q", "text", 97, 10),
-        ("for=q", "text", 96, 0),
-        ("class=q", "text", 97, 10),
-        ("class=q", "text", 96, 0),
-        ("for=", "text", 97, 0),
-        ("for=x", "text", 97, 0),
-    ];
-    for (attr, kind, count, number) in cases {
+    for (attr, kind, count, number) in BY_LABELS {
         let page = labelled(alloc, attr, kind, count)?;
-        assert_eq!(rt;
-            fault_of(alloc, page.as_str())?,
-            (number, 0),
-            "{attr} {kind} {count}"
-        );
+        fault_is(&rt, alloc, page.as_str(), (number, 0), attr)?;
     }
     Ok(())
 }

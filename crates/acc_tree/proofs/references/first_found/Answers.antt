@@ -9,7 +9,8 @@ returns-in-Some-element_of-clause-found c =
     sym c.loop-word.invariant.2 ∙ found_first (seen c.args.tree.now.trees) (words c.loop-word.rest.now) c.in-Some.word.now (words c.in-Some.later.now) c.in-Some-element_of.node c.in-Some.ensures.is c.in-Some-element_of.ensures
 
 pub loop-word-preserved : goal.loop-word-preserved
-loop-word-preserved c =
-    ( search rules,
-    omega (arith, c.in-Some.ensures.shorter),
-    found_later (seen c.args.tree.now.trees) (words c.loop-word.rest.now) c.in-Some.word.now (words c.in-Some.later.now) c.in-Some.ensures.is (sym c.in_default-element_of.is ∙ c.element_of.ensures) ∙ c.loop-word.invariant.2 )
+loop-word-preserved c = (
+  search rules,
+  omega (arith, c.in-Some.ensures.shorter),
+  found_later (seen c.args.tree.now.trees) (words c.loop-word.rest.now) c.in-Some.word.now (words c.in-Some.later.now) c.in-Some.ensures.is (sym c.in_default-element_of.is ∙ c.element_of.ensures) ∙ c.loop-word.invariant.2,
+)
