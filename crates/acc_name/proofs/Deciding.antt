@@ -132,5 +132,5 @@ values_within asked s = record {
   referred = refl;
   input = λ input entry. rw (input, entry) refl;
   select = λ select. rw (select_is_no_input (html_tag s.row) select, select) refl;
-  range = λ no_input no_select range. rw (no_input, no_select, range) refl;
+  range = λ no_entry no_select range. rw (no_entry, no_select, range) refl;
 }

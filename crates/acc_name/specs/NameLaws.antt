@@ -1,6 +1,6 @@
 -- Each clause of names in the standard's own shape (Accessible Name and Description Computation 1.2,
 -- "Computation steps").
-use Rattle.std.specs.Prelude.{◌≡◌, not, ℕ, List, [], ◌∷◌, ◌++◌, map, filter, Bool, true, false, Option, Some, None, option_map, IsTrue}
+use Rattle.std.specs.Prelude.{◌≡◌, ◌&&◌, not, ℕ, List, [], ◌∷◌, ◌++◌, map, filter, Bool, true, false, Option, Some, None, option_map, IsTrue}
 use Rattle.std.specs.List.{find, flat_map}
 use Rattle.aria_tables.specs.declared.attr.AriaAttr.TheVariants as aria
 use Rattle.aria_tables.specs.declared.role.Role.{Role}
@@ -141,7 +141,7 @@ pub record ValuesWithin (asked : Asked) (s : Sight) : Type 0 where
   pub referred : value_text asked how.Referred s ≡ []
   pub input : is_input (html_tag s.row) ≡ true → is_entry (role_at s.above s.row) ≡ true → value_text asked how.Inner s ≡ text_at attribute.Value s.row
   pub select : is_select (html_tag s.row) ≡ true → value_text asked how.Inner s ≡ spaced (chosen_texts asked s)
-  pub range : is_input (html_tag s.row) ≡ false → is_select (html_tag s.row) ≡ false → is_range (role_at s.above s.row) ≡ true → value_text asked how.Inner s ≡ range_text s.row
+  pub range : (is_input (html_tag s.row) && is_entry (role_at s.above s.row)) ≡ false → is_select (html_tag s.row) ≡ false → is_range (role_at s.above s.row) ≡ true → value_text asked how.Inner s ≡ range_text s.row
 
 -- step 2F: what is referred to or within a name says what its children say; of its own name a node does if
 -- its role is named from content
