@@ -96,12 +96,12 @@ value_is asked h s =
     ∙ ap (λ text. value_of h (role_at s.above s.row) s.row (Some text)) (spaced_joined (chosen_texts asked s))
 
 clauses_are : (asked : Asked) (h : How) (s : Sight)
-    → by_clauses (asked.told s) h s.above s.row (heard asked (under s.above s.row) (caption_of s.row) s.below) ≡ first_said (clauses asked h s)
+    → by_clauses (asked.told s) h (role_at s.above s.row) s.row (heard asked (under s.above s.row) (caption_of s.row) s.below) ≡ first_said (clauses asked h s)
 clauses_are asked h s =
     rw (value_is asked h s, caption_of_roots asked (under s.above s.row) (caption_of s.row) s.below, content_of_roots asked (under s.above s.row) (caption_of s.row) s.below) refl
 
 by_element : (asked : Asked) (h : How) (s : Sight) (inner : Heard) (body : Body)
-    → is_words body ≡ false → by_body (asked.told s) h s.above s.row inner body ≡ by_clauses (asked.told s) h s.above s.row inner
+    → is_words body ≡ false → by_body (asked.told s) h (role_at s.above s.row) s.row inner body ≡ by_clauses (asked.told s) h (role_at s.above s.row) s.row inner
 by_element asked h s inner (Element space tag attrs) e = refl
 by_element asked h s inner (Words text) e = cc
 

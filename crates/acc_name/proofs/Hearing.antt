@@ -7,6 +7,7 @@ use Rattle.snap_tree.specs.Trees.{Trees, tree}
 use Rattle.snap_tree.specs.Words.{spaced}
 use Rattle.acc_tree.specs.declared.above.Above.{Above}
 use Rattle.acc_tree.specs.Frames.{under}
+use Rattle.acc_tree.specs.Roles.{role_at}
 use Rattle.acc_name.specs.declared.hosts.CaptionKind.{CaptionKind}
 use Rattle.acc_name.specs.declared.named.How.TheVariants as how
 use Rattle.acc_name.specs.declared.named.Name.{Name}
@@ -91,7 +92,7 @@ and_then-nothing a = rw (append-nil a.content, joined-none a.chosen, or-none a.c
 -- one tree more
 pub heard-step : (asked : Asked) (above : Above) (kind : Option CaptionKind) (first : Heard) (row : Row) (kids later : Trees) (inner : Heard) (name : Name)
     → inner ≡ heard asked (under above row) (caption_of row) kids
-    → name ≡ said asked.node asked.hidden (asked.told (record { row = row; below = kids; above = above })) how.Inner above row inner
+    → name ≡ said asked.node asked.hidden (asked.told (record { row = row; below = kids; above = above })) how.Inner (role_at above row) row inner
     → and_then (and_then first (alone kind row name.text inner.chosen)) (heard asked above kind later) ≡ and_then first (heard asked above kind (tree row kids later))
 heard-step asked above kind first row kids later inner name is says =
     and_then-assoc first (alone kind row name.text inner.chosen) (heard asked above kind later)

@@ -179,27 +179,27 @@ placeholder_of row = if has_placeholder (html_tag row) then text_at attribute.Pl
 -- ---- what a node says
 
 -- an element's clauses in their order
-abbrev pub by_clauses : Told → How → Above → Row → Heard → Name
-by_clauses told how above row inner = first_said (
+abbrev pub by_clauses : Told → How → Option Role → Row → Heard → Name
+by_clauses told how role row inner = first_said (
     says source.LabelledBy told.labelled_by
-    ∷ says source.HostText (value_of how (role_at above row) row inner.chosen)
+    ∷ says source.HostText (value_of how role row inner.chosen)
     ∷ says source.AriaLabel (text_at (attribute.Aria aria.Label) row)
     ∷ says source.HostLabel told.labels
     ∷ says source.HostText (host_text (host_of row) row inner.caption)
-    ∷ says source.Content (content_of how (role_at above row) inner.content)
+    ∷ says source.Content (content_of how role inner.content)
     ∷ says source.Title (text_at attribute.Title row)
     ∷ says source.Placeholder (placeholder_of row)
     ∷ [])
 
 -- clause 7: a text says itself
-abbrev pub by_body : Told → How → Above → Row → Heard → Body → Name
-by_body told how above row inner (Element space tag attrs) = by_clauses told how above row inner
-by_body told how above row inner (Words text) = says source.Content text
+abbrev pub by_body : Told → How → Option Role → Row → Heard → Body → Name
+by_body told how role row inner (Element space tag attrs) = by_clauses told how role row inner
+by_body told how role row inner (Words text) = says source.Content text
 
--- what a node says, given what references say of it and what those below it say
-abbrev pub said : NodeId → Bool → Told → How → Above → Row → Heard → Name
-said node hidden told how above row inner =
-    if is_silent node hidden how row then no_name else by_body told how above row inner row.body
+-- what a node says, given what references say of it, its role, and what those below it say
+abbrev pub said : NodeId → Bool → Told → How → Option Role → Row → Heard → Name
+said node hidden told how role row inner =
+    if is_silent node hidden how row then no_name else by_body told how role row inner row.body
 
 -- ---- what trees say
 
@@ -241,12 +241,12 @@ heard asked above kind empty = nothing_heard
 heard asked above kind (tree row kids after) =
     let inner = heard asked (under above row) (caption_of row) kids in
     let told = asked.told (record { row = row; below = kids; above = above }) in
-    and_then (alone kind row (said asked.node asked.hidden told how.Inner above row inner).text inner.chosen) (heard asked above kind after)
+    and_then (alone kind row (said asked.node asked.hidden told how.Inner (role_at above row) row inner).text inner.chosen) (heard asked above kind after)
 
 -- what a node says, for its own name, where it is referred to, or within a name
 abbrev pub spoken : Asked → How → Sight → Name
 spoken asked how s =
-    said asked.node asked.hidden (asked.told s) how s.above s.row (heard asked (under s.above s.row) (caption_of s.row) s.below)
+    said asked.node asked.hidden (asked.told s) how (role_at s.above s.row) s.row (heard asked (under s.above s.row) (caption_of s.row) s.below)
 
 -- ---- references
 
@@ -259,20 +259,27 @@ abbrev pub all_referred : Trees → NodeId → List NodeId → List ℕ
 all_referred trees node ms = spaced (map (referred trees node) ms)
 
 -- clauses 2 and 5: what the elements say that aria-labelledby finds, and what the labels say
-abbrev pub told_by : Trees → NodeId → Sight → Told
-told_by trees node s = record {
-  labelled_by = all_referred trees node (found trees (named_by aria.Labelledby s.row));
-  labels = all_referred trees node (labels_for trees s.row.id);
+abbrev pub told_of : Trees → NodeId → Row → Told
+told_of trees node row = record {
+  labelled_by = all_referred trees node (found trees (named_by aria.Labelledby row));
+  labels = all_referred trees node (labels_for trees row.id);
 }
 
+abbrev pub told_by : Trees → NodeId → Sight → Told
+told_by trees node s = told_of trees node s.row
+
 -- ---- the name
+
+-- what a node says for its own name; a stranger says nothing
+abbrev pub own_text : Trees → NodeId → Name
+own_text trees n =
+    option_map_or (spoken (record { node = n; hidden = false; told = told_by trees n }) how.Own) (sight_of trees n) no_name
 
 -- nothing gave a text that isn't empty
 abbrev pub named : NameSource → List ℕ → Name
 named source [] = no_name
 named source (b ∷ text) = says source (b ∷ text)
 
--- the name of a number, with the clause that gave it; a stranger has none
+-- the name of a number, tidied, with the clause that gave it; a stranger has none
 abbrev pub name_of : Trees → NodeId → Name
-name_of trees n =
-    option_map_or (λ s. let own = spoken (record { node = n; hidden = false; told = told_by trees n }) how.Own s in named own.source (tidy own.text)) (sight_of trees n) no_name
+name_of trees n = let own = own_text trees n in named own.source (tidy own.text)

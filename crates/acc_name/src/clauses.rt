@@ -2,7 +2,6 @@ ghost use Rattle.std.specs.Prelude.{◌≡◌, [], ◌∷◌, ◌&&◌, not, IfO
 ghost use Rattle.aria_tables.specs.declared.attr.AriaAttr.TheVariants as aria;
 ghost use Rattle.acc_tree.specs.declared.attributes.Attribute.TheVariants as attribute;
 ghost use Rattle.acc_tree.specs.Seen.{seen_row, text_at};
-ghost use Rattle.acc_tree.specs.Roles.{role_at};
 ghost use Rattle.acc_name.specs.declared.named.NameSource.TheVariants as source;
 ghost use Rattle.acc_name.specs.Hosts.{host_of, host_text};
 ghost use Rattle.acc_name.specs.Names.{no_name, says, first_said, is_inner, is_shown, is_silent, content_of, placeholder_of, by_clauses, said};
@@ -13,7 +12,7 @@ use crate::hosts::host_of;
 use crate::named::{How, Name, NameSource};
 use crate::told::{Scope, Told};
 use crate::values::{content_of, host_text, placeholder_of, text_at, value_of};
-use acc_tree::{Above, Attribute, is_hidden, role_at};
+use acc_tree::{Attribute, is_hidden};
 use aria_tables::{AriaAttr, Role};
 use snap_tree::{Body, NodeId, OutOfMemory, Row, Text, blank};
 use std::alloc::Global;
@@ -122,11 +121,11 @@ fn by_clauses(
     alloc: Global,
     told: Told,
     how: How,
-    above: &Above,
+    role: Option<Role>,
     row: &Row,
     inner: &Voice,
 ) -> Result<Name, OutOfMemory>
-    ensures { IfOk result (λ name. name ≡ by_clauses told how above.now (seen_row row.now) (shown inner.now)) }
+    ensures { IfOk result (λ name. name ≡ by_clauses told how role (seen_row row.now) (shown inner.now)) }
 {
     let Told {
         labelled_by,
@@ -138,7 +137,6 @@ fn by_clauses(
             source: NameSource::LabelledBy,
         });
     }
-    let role = role_at(above, row);
     let value = value_of(alloc, how, role, row, inner)?;
     if !blank(&value) {
         return Ok(Name {
@@ -170,23 +168,23 @@ fn is_silent(node: NodeId, hidden: bool, how: How, row: &Row) -> bool
     is_inner(how) & (row.id.0 == node.0) | !hidden & !is_shown(row)
 }
 
-/// What a node says, given what references say of it and what those below it say.
+/// What a node says, given what references say of it, its role, and what those below it say.
 pub(crate) fn said(
     alloc: Global,
     scope: Scope,
     told: Told,
     how: How,
-    above: &Above,
+    role: Option<Role>,
     row: &Row,
     inner: &Voice,
 ) -> Result<Name, OutOfMemory>
-    ensures { IfOk result (λ name. name ≡ said scope.node scope.hidden told how above.now (seen_row row.now) (shown inner.now)) }
+    ensures { IfOk result (λ name. name ≡ said scope.node scope.hidden told how role (seen_row row.now) (shown inner.now)) }
 {
     if is_silent(scope.node, scope.hidden, how, row) {
         return Ok(no_name(alloc));
     }
     match &row.body {
-        Body::Element { .. } => by_clauses(alloc, told, how, above, row, inner),
+        Body::Element { .. } => by_clauses(alloc, told, how, role, row, inner),
         Body::Words { text } => Ok(Name {
             text: text.copy(alloc)?,
             source: NameSource::Content,

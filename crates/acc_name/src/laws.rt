@@ -13,7 +13,7 @@ ghost use Rattle.acc_name.specs.NameLaws.{OwnNodeIsSilent, HiddenIsSilent, First
 /// The node asked for says nothing within its own name, nor does a hidden one. The first of an element's
 /// clauses that isn't blank decides, where the children say their texts in order, each by itself. What
 /// references find says its text as one that is referred to, and no reference is followed there.
-#[tactic(auto, using(crate::proofs::Deciding::first_decides, crate::proofs::Deciding::follows_once, crate::proofs::Deciding::text_says_itself, crate::proofs::Deciding::children_in_order, crate::proofs::Deciding::values_within))]
+#[tactic(auto, using(crate::proofs::Deciding::first_decides, crate::proofs::Deciding::follows_once, crate::proofs::Deciding::text_says_itself, crate::proofs::Deciding::children_in_order, crate::proofs::Deciding::values_within, crate::proofs::Alone::stranger))]
 pub fn laws_of_names()
     ensures own_node { (asked : Asked) (s : Sight) → OwnNodeIsSilent asked s }
     ensures hidden { (asked : Asked) (how : How) (s : Sight) → HiddenIsSilent asked how s }

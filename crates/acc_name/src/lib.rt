@@ -6,6 +6,7 @@
 #![tactic(auto)]
 
 mod clauses;
+mod following;
 mod heard;
 mod hosts;
 mod laws;

@@ -1,146 +1,23 @@
-ghost use Rattle.std.specs.Prelude.{◌≡◌, [], Some, IfOk, unwrap_or};
-ghost use Rattle.snap_tree.specs.Trees.{Trees};
-ghost use Rattle.aria_tables.specs.declared.attr.AriaAttr.TheVariants as aria;
-ghost use Rattle.snap_tree.specs.Labels.{labels_for};
-ghost use Rattle.snap_tree.specs.Words.{words};
-ghost use Rattle.acc_tree.specs.References.{found, named_by};
+ghost use Rattle.std.specs.Prelude.{◌≡◌, ◌||◌, false, IfOk};
+ghost use Rattle.std.specs.Option.{is_some};
 ghost use Rattle.acc_tree.specs.Seen.{seen_row, seen};
-ghost use Rattle.acc_name.specs.Names.{joined, referred, all_referred, told_by, named, name_of};
-ghost use Rattle.acc_name.specs.Voices.{text_in};
+ghost use Rattle.acc_name.specs.declared.named.How.TheVariants as how;
+ghost use Rattle.acc_name.specs.Hosts.{caption_of};
+ghost use Rattle.acc_name.specs.Names.{asks_content, nothing_heard, said, told_of, own_text, named, name_of};
 
-use crate::clauses::no_name;
-use crate::heard::joined;
+use crate::clauses::{no_name, said};
+use crate::following::{OnPage, told_of};
+use crate::heard::Voice;
+use crate::hosts::{caption_in, host_of};
 use crate::named::{How, Name, NameSource};
-use crate::references::{References, Untold};
 use crate::room::Room;
 use crate::telling::spoken;
-use crate::told::{Scope, Told};
-use crate::values::value_at;
-use acc_tree::{Above, Attribute, exposed_at, first_found, laws_of_sights, sight_of};
-use aria_tables::AriaAttr;
-use snap_tree::{Branches, NodeId, OutOfMemory, Row, Text, Tree, tidy};
+use crate::told::Scope;
+use crate::values::asks_content;
+use acc_tree::{laws_of_sights, role, sight_of};
+use aria_tables::Role;
+use snap_tree::{NodeId, OutOfMemory, Row, Text, Tree, tidy};
 use std::alloc::Global;
-
-// What a node says where it is referred to in the name of another. Hidden nodes count if it is hidden
-// itself.
-fn referred(
-    alloc: Global,
-    room: Room,
-    tree: &Tree,
-    node: NodeId,
-    m: NodeId,
-) -> Result<Text, OutOfMemory>
-    ensures { IfOk result (λ t. t ≡ referred (seen tree.now.trees) node m) }
-{
-    let Some(sight) = sight_of(tree, m) else {
-        return Ok(Text::new(alloc));
-    };
-    let hidden = !exposed_at(&sight.above, sight.row);
-    let scope = Scope { node, hidden };
-    let name = spoken(alloc, &Untold, scope, room, How::Referred, sight)?;
-    tidy(alloc, &name.text)
-}
-
-fn text_of(alloc: Global, joined: Option<String>) -> Text
-    ensures { result ≡ unwrap_or (text_in joined) [] }
-{
-    match joined {
-        Some(text) => Text::from_string(text),
-        None => Text::new(alloc),
-    }
-}
-
-// What some elements say where they are referred to, and then a further one, with a space between.
-fn with_referred(
-    alloc: Global,
-    room: Room,
-    tree: &Tree,
-    node: NodeId,
-    so_far: Option<String>,
-    m: NodeId,
-) -> Result<Option<String>, OutOfMemory>
-    ensures { IfOk result (λ t. text_in t ≡ joined (text_in so_far) (Some (referred (seen tree.now.trees) node m))) }
-{
-    let text = referred(alloc, room, tree, node, m)?;
-    joined(so_far, Some(String::from_str(alloc, text.as_str())?))
-}
-
-// What the elements say that the words of a text find.
-fn all_named(
-    alloc: Global,
-    room: Room,
-    tree: &Tree,
-    node: NodeId,
-    text: &str,
-) -> Result<Text, OutOfMemory>
-    ensures { IfOk result (λ t. t ≡ all_referred (seen tree.now.trees) node (found (seen tree.now.trees) (words text.now))) }
-{
-    let mut so_far = None;
-    let mut rest = text;
-    while let Some((m, later)) = first_found(tree, rest) {
-        so_far = with_referred(alloc, room, tree, node, so_far, m)?;
-        rest = later;
-    }
-    Ok(text_of(alloc, so_far))
-}
-
-// What the elements say that aria-labelledby finds.
-fn labelled_by(
-    alloc: Global,
-    room: Room,
-    tree: &Tree,
-    node: NodeId,
-    row: &Row,
-) -> Result<Text, OutOfMemory>
-    ensures { IfOk result (λ t. t ≡ all_referred (seen tree.now.trees) node (found (seen tree.now.trees) (named_by aria.Labelledby (seen_row row.now)))) }
-{
-    let words = value_at(row, Attribute::Aria(AriaAttr::Labelledby));
-    all_named(alloc, room, tree, node, words)
-}
-
-// What the labels of a node say.
-fn labels(
-    alloc: Global,
-    room: Room,
-    tree: &Tree,
-    node: NodeId,
-    row: &Row,
-) -> Result<Text, OutOfMemory>
-    ensures { IfOk result (λ t. t ≡ all_referred (seen tree.now.trees) node (labels_for (seen tree.now.trees) row.now.id)) }
-{
-    laws_of_sights();
-    let labels = tree.labels_for(alloc, row.id)?;
-    let mut so_far = None;
-    for label in labels.as_slice() {
-        so_far = with_referred(alloc, room, tree, node, so_far, *label)?;
-    }
-    Ok(text_of(alloc, so_far))
-}
-
-/// All references of a page, for the name of one node.
-#[derive(Drop)]
-pub(crate) struct OnPage<'a> {
-    tree: &'a Tree,
-    node: NodeId,
-}
-
-impl References for OnPage<'_> {
-    ghost tells = { λ page s. told_by (seen page.tree.now.trees) page.node s };
-
-    fn told(
-        &self,
-        alloc: Global,
-        room: Room,
-        row: &Row,
-        _below: &Branches<'_>,
-        _above: &Above,
-    ) -> Result<Told, OutOfMemory> {
-        Ok(Told {
-            labelled_by: labelled_by(alloc, room, self.tree, self.node, row)?,
-            labels: labels(alloc, room, self.tree, self.node, row)?,
-        })
-    }
-}
 
 fn named(alloc: Global, source: NameSource, text: Text) -> Name
     ensures { result ≡ named source text }
@@ -152,12 +29,9 @@ fn named(alloc: Global, source: NameSource, text: Text) -> Name
     }
 }
 
-/// The accessible name of a node, and the clause that gave it.
-///
-/// A number that the tree doesn't hold has no name. It wants memory too where more than
-/// [`MOST_NAME_BYTES`](crate::MOST_NAME_BYTES) bytes of text would be held at once.
-pub fn name(alloc: Global, tree: &Tree, n: NodeId) -> Result<Name, OutOfMemory>
-    ensures { IfOk result (λ name. name ≡ name_of (seen tree.now.trees) n) }
+// What a node says for its own name that asks those below it.
+fn asking(alloc: Global, tree: &Tree, n: NodeId) -> Result<Name, OutOfMemory>
+    ensures { IfOk result (λ name. name ≡ own_text (seen tree.now.trees) n) }
 {
     let Some(sight) = sight_of(tree, n) else {
         return Ok(no_name(alloc));
@@ -166,14 +40,73 @@ pub fn name(alloc: Global, tree: &Tree, n: NodeId) -> Result<Name, OutOfMemory>
         node: n,
         hidden: false,
     };
-    let own = spoken(
+    spoken(
         alloc,
         &OnPage { tree, node: n },
         scope,
         Room::whole(),
         How::Own,
         sight,
-    )?;
+    )
+}
+
+// What a node says for its own name that asks nobody below it.
+fn alone(
+    alloc: Global,
+    tree: &Tree,
+    node: NodeId,
+    row: &Row,
+    role: Option<Role>,
+) -> Result<Name, OutOfMemory>
+    ensures { IfOk result (λ name. name ≡ said node false (told_of (seen tree.now.trees) node (seen_row row.now)) how.Own role (seen_row row.now) nothing_heard) }
+{
+    let scope = Scope {
+        node,
+        hidden: false,
+    };
+    let told = told_of(alloc, Room::whole(), tree, node, row)?;
+    said(
+        alloc,
+        scope,
+        told,
+        How::Own,
+        role,
+        row,
+        &Voice::nothing(alloc),
+    )
+}
+
+// Whether a node asks those below it for its own name: it is named from content, or a child captions it.
+fn asks_below(role: Option<Role>, row: &Row) -> bool
+    ensures { result ≡ (asks_content how.Own role || is_some (caption_of (seen_row row.now))) }
+{
+    asks_content(How::Own, role) || caption_in(host_of(row)).is_some()
+}
+
+// What a node says for its own name. It asks those below it only where that can name it.
+fn own_text(alloc: Global, tree: &Tree, n: NodeId) -> Result<Name, OutOfMemory>
+    ensures { IfOk result (λ name. name ≡ own_text (seen tree.now.trees) n) }
+{
+    laws_of_sights();
+    let Some(row) = tree.node(n) else {
+        return Ok(no_name(alloc));
+    };
+    let role = role(tree, n);
+    if asks_below(role, row) {
+        asking(alloc, tree, n)
+    } else {
+        alone(alloc, tree, n, row, role)
+    }
+}
+
+/// The accessible name of a node, and the clause that gave it.
+///
+/// A number that the tree doesn't hold has no name. It wants memory too where more than
+/// [`MOST_NAME_BYTES`](crate::MOST_NAME_BYTES) bytes of text would be held at once.
+pub fn name(alloc: Global, tree: &Tree, n: NodeId) -> Result<Name, OutOfMemory>
+    ensures { IfOk result (λ name. name ≡ name_of (seen tree.now.trees) n) }
+{
+    let own = own_text(alloc, tree, n)?;
     let text = tidy(alloc, &own.text)?;
     Ok(named(alloc, own.source, text))
 }

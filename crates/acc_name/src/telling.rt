@@ -11,7 +11,6 @@ use crate::named::{How, Name};
 use crate::references::References;
 use crate::room::Room;
 use crate::told::Scope;
-use crate::values::asks_content;
 use acc_tree::{Above, Sight, role_at, under};
 use snap_tree::{Branches, OutOfMemory};
 use std::alloc::Global;
@@ -46,7 +45,8 @@ fn hear<R: References>(
             captioned,
             branch.kids,
         )?;
-        let name = said(alloc, scope, told, How::Inner, above, row, &inner)?;
+        let role = role_at(above, row);
+        let name = said(alloc, scope, told, How::Inner, role, row, &inner)?;
         so_far = so_far.and_then(alloc, kind, row, name, inner)?;
         rest = branch.after;
     }
@@ -54,7 +54,7 @@ fn hear<R: References>(
     Ok(so_far)
 }
 
-/// What a node says. Its own name asks those below it only where they can say something.
+/// What a node says, given how it is come to.
 pub(crate) fn spoken<R: References>(
     alloc: Global,
     references: &R,
@@ -67,12 +67,8 @@ pub(crate) fn spoken<R: References>(
 {
     let Sight { row, below, above } = sight;
     let told = references.told(alloc, room, row, &below, &above)?;
+    let beneath = under(&above, row);
     let captioned = caption_in(host_of(row));
-    let inner = if asks_content(how, role_at(&above, row)) | captioned.is_some() {
-        let beneath = under(&above, row);
-        hear(alloc, references, scope, room, &beneath, captioned, below)?
-    } else {
-        Voice::nothing(alloc)
-    };
-    said(alloc, scope, told, how, &above, row, &inner)
+    let inner = hear(alloc, references, scope, room, &beneath, captioned, below)?;
+    said(alloc, scope, told, how, role_at(&above, row), row, &inner)
 }

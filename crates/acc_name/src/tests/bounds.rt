@@ -9,15 +9,15 @@ use std::test::Fail;
 // A label around so many selects, each in a selected option of the one above, around a text.
 fn nested(alloc: Global, levels: u32, text: &str) -> Result<String, Fail> {
     let mut page = String::from_str(alloc, "1 0 label")?;
-    let mut parent = 1;
-    for level in 0..levels {
-        let select = 2 * level + 2;
+    let mut parent = 1u32;
+    for _ in 0..levels {
+        let select = parent.saturating_add(1);
+        let option = parent.saturating_add(2);
         write!(
             page,
-            ";{select} {parent} select;{} {select} option selected=",
-            select + 1
+            ";{select} {parent} select;{option} {select} option selected="
         )?;
-        parent = select + 1;
+        parent = option;
     }
     write!(page, ";1000 {parent} #{text}")?;
     Ok(page)

@@ -6,7 +6,7 @@ use Rattle.acc_tree.specs.Seen.{seen}
 use Rattle.acc_tree.specs.Sights.{Sight, seen_sight}
 use Rattle.acc_name.specs.declared.named.How.TheVariants as how
 use Rattle.acc_name.specs.Names.{Asked, untold, spoken, referred}
-use Rattle.acc_name.proofs.naming.referred.Goals as goal
+use Rattle.acc_name.proofs.following.referred.Goals as goal
 
 pub returns : goal.returns
 returns c =

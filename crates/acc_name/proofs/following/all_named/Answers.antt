@@ -2,7 +2,7 @@ use Rattle.std.proofs.Common.{rules, ◌∙◌}
 use Rattle.acc_tree.specs.Seen.{seen}
 use Rattle.acc_name.specs.Names.{referred}
 use Rattle.acc_name.proofs.Hearing.{joined-step, joined-end}
-use Rattle.acc_name.proofs.naming.all_named.Goals as goal
+use Rattle.acc_name.proofs.following.all_named.Goals as goal
 
 pub loop-m-preserved : goal.loop-m-preserved
 loop-m-preserved c =

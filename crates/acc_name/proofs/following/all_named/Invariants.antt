@@ -7,7 +7,7 @@ use Rattle.acc_tree.specs.Seen.{seen}
 use Rattle.acc_name.specs.Names.{joined, referred}
 use Rattle.acc_name.specs.Voices.{text_in}
 use Rattle.acc_name.proofs.Hearing.{all_joined}
-use Rattle.acc_name.proofs.naming.all_named.Given as goal
+use Rattle.acc_name.proofs.following.all_named.Given as goal
 
 abbrev pub invariant-loop-m : goal.invariant-loop-m
 invariant-loop-m l =

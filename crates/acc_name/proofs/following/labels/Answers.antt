@@ -2,7 +2,7 @@ use Rattle.std.proofs.Common.{◌∙◌, ap, sym}
 use Rattle.acc_tree.specs.Seen.{seen}
 use Rattle.acc_name.specs.Names.{all_referred, referred}
 use Rattle.acc_name.proofs.Hearing.{joined-more, joined-all}
-use Rattle.acc_name.proofs.naming.labels.Goals as goal
+use Rattle.acc_name.proofs.following.labels.Goals as goal
 
 pub loop-label-preserved : goal.loop-label-preserved
 loop-label-preserved c =
