@@ -1,17 +1,16 @@
 -- The laws of sights: a sight is a spot whose list above is summed up.
-use Rattle.std.proofs.Common.{◌≡◌, ℕ, suc, ◌<◌, List, [], ◌∷◌, length, map, Bool, true, false, Option, Some, None, option_map, if◌then◌else◌, refl, sym, ◌∙◌, ap, subst, arith, IfSome}
+use Rattle.std.proofs.Common.{◌≡◌, ℕ, suc, ◌<◌, List, [], ◌∷◌, length, map, Bool, true, false, Option, Some, None, option_map, refl, sym, ◌∙◌, ap, subst, arith}
 use Rattle.std.specs.Option.{option_or, option_map_or}
 use Rattle.snap_tree.specs.declared.row.NodeId.{NodeId}
 use Rattle.snap_tree.specs.declared.row.Row.{Row}
 use Rattle.snap_tree.specs.Rows.{has_number}
 use Rattle.snap_tree.specs.Spots.{Spot, spot_in, spot, number_of, IsSpotOf, ClimbsBy}
-use Rattle.snap_tree.specs.SpotLaws.{NamesFirstAbove, ClimbsAbove}
 use Rattle.snap_tree.specs.Trees.{Trees, empty, tree}
 use Rattle.acc_tree.specs.declared.above.Above.{Above}
 use Rattle.acc_tree.specs.Frames.{nothing_above, under, above_of}
 use Rattle.acc_tree.specs.Seen.{seen_row, seen}
 use Rattle.acc_tree.specs.Pages.{said_of}
-use Rattle.acc_tree.specs.Sights.{IsClimbed, Sight, sight_in, sight_of, above_children, summed, seen_spot, SightIsSpot, SeenSpot}
+use Rattle.acc_tree.specs.Sights.{IsClimbed, Sight, sight_in, sight_of, above_children, row_of, summed, seen_spot, SightIsSpot, SeenSpot}
 
 map_or : {A B : Type 0} (f : A → B) (a b : Option A) → option_map f (option_or a b) ≡ option_or (option_map f a) (option_map f b)
 map_or f None b = refl
@@ -146,3 +145,11 @@ said_found says stranger t climbed n row is =
 
 pub said_none : {A : Type 0} (says : Above → Row → A) (stranger : A) (t : Trees) (n : NodeId) → None ≡ option_map (λ s. s.row) (spot t n) → stranger ≡ said_of says stranger (seen t) n
 said_none says stranger t n is = ap (λ o. option_map_or (λ s. says s.above s.row) o stranger) (sight_none (λ s. s.row) t n is)
+
+row_by : (o : Option Spot) → option_map seen_row (option_map (λ s. s.row) o) ≡ option_map (λ s. s.row) (option_map summed (option_map seen_spot o))
+row_by None = refl
+row_by (Some s) = refl
+
+-- what is seen of the row of a number
+pub row_seen : (t : Trees) (n : NodeId) (o : Option Row) → o ≡ option_map (λ s. s.row) (spot t n) → option_map seen_row o ≡ row_of (seen t) n
+row_seen t n o is = ap (option_map seen_row) is ∙ row_by (spot t n) ∙ sym (ap (option_map (λ s. s.row)) (seen_sight_is t n (spot t n) refl))

@@ -29,6 +29,10 @@ sight_in n above (tree row kids after) =
 abbrev pub sight_of : Trees → NodeId → Option Sight
 sight_of trees n = sight_in n nothing_above trees
 
+-- the row of a number
+abbrev pub row_of : Trees → NodeId → Option Row
+row_of trees n = option_map (λ s. s.row) (sight_of trees n)
+
 -- what is above the children of a number; nothing is above the roots, and above those of a stranger
 abbrev pub above_children : Trees → Option NodeId → Above
 above_children trees None = nothing_above

@@ -1,6 +1,7 @@
 ghost use Rattle.std.specs.Prelude.{◌≡◌, ◌++◌, option_map, IfOk, OnOk};
+ghost use Rattle.std.specs.Option.{option_copied};
 ghost use Rattle.acc_tree.specs.Seen.{seen_row, seen};
-ghost use Rattle.acc_tree.specs.Sights.{IsClimbed, sight_of, seen_sight, above_children, aboves_in, aboves};
+ghost use Rattle.acc_tree.specs.Sights.{IsClimbed, sight_of, seen_sight, row_of, above_children, aboves_in, aboves};
 
 use crate::above::Above;
 use crate::frames::under;
@@ -36,6 +37,13 @@ pub fn above_children(tree: &Tree, parent: Option<NodeId>) -> Above
         Some(row) => under(&above_children(tree, row.parent), row),
         None => Above::nothing(),
     }
+}
+
+/// The row of a number; None exactly where the tree doesn't hold it.
+pub fn row_of(tree: &Tree, n: NodeId) -> Option<&Row>
+    ensures { option_map seen_row (option_copied result) ≡ row_of (seen tree.now.trees) n }
+{
+    tree.node(n)
 }
 
 /// The sight of a number; None exactly where the tree doesn't hold it. It takes no memory.

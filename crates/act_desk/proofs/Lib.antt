@@ -3,4 +3,5 @@ pub mod Known
 pub mod RowLists
 pub mod Grouped
 pub mod ByRule
-pub mod Statuses
+pub mod Causes
+pub mod Endings

@@ -1,13 +1,13 @@
-pub mod Counts
+pub mod Told
 pub mod Streams
-pub mod ReadAll
 pub mod Memory
 pub mod Outcomes
 pub mod TextReport
 pub mod FaultLine
 pub mod Early
-pub mod Audit
 pub mod Status
 pub mod Telling
+pub mod Audit
+pub mod Commands
 pub mod Run
 pub mod Start

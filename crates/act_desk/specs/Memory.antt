@@ -1,7 +1,8 @@
 -- A source and a sink in memory.
-use Rattle.std.specs.Prelude.{◌==◌, ℕ, ◌-◌, min, max, List, ◌++◌, length, take, drop, Bool, if◌then◌else◌, ◌||◌}
+use Rattle.std.specs.Prelude.{◌==◌, ℕ, ◌-◌, min, max, List, ◌++◌, length, take, drop, Bool, if◌then◌else◌, ◌||◌, Some}
 use Rattle.std.specs.List.{list_any}
-use Rattle.act_desk.specs.Counts.{next}
+use Rattle.counts.specs.Counts.{next}
+use Rattle.act_desk.specs.Told.{Input, Output}
 
 -- a source: the bytes left, the most that a read gives, the numbers of the reads that fail, and how
 -- many reads and faults there were
@@ -11,6 +12,10 @@ pub record Given : Type 0 where
   pub fails : List ℕ
   pub calls : ℕ
   pub faults : ℕ
+
+-- what it tells
+abbrev pub given_told : Given → Input
+given_told s = record { faults = s.faults; left = Some s.left }
 
 -- the list names the call after so many
 abbrev pub is_named : List ℕ → ℕ → Bool
@@ -32,6 +37,10 @@ pub record Held : Type 0 where
   pub fails : List ℕ
   pub calls : ℕ
   pub faults : ℕ
+
+-- what it tells
+abbrev pub held_told : Held → Output
+held_told s = record { faults = s.faults; held = Some s.held }
 
 -- the next write fails: the list names it, or no room is left
 abbrev pub is_refused : Held → Bool

@@ -1,40 +1,67 @@
--- What a read does to the bytes that a source has left, and a write to those that a sink holds, where they are told.
-use Rattle.std.specs.Prelude.{◌≡◌, ℕ, ◌<◌, ◌≤◌, ◌↔◌, List, [], length, take, Option, Result, IfOk, OnErr, IfSome}
+-- What reads do to a source and writes to a sink: to the bytes, where they are told, and to the count of faults.
+use Rattle.std.specs.Prelude.{◌≡◌, ℕ, ◌<◌, ◌≤◌, ◌⊎◌, ◌↔◌, List, [], length, take, Result, IfOk, OnErr, IfSome}
 use Rattle.std.specs.Io.KnownBytes.{Consumes, Appends, Keeps, IsAtEnd}
+use Rattle.counts.specs.Counts.{next, Rose}
 use Rattle.act_desk.specs.declared.failed.Failed.{Failed}
+use Rattle.act_desk.specs.Told.{Input, Output}
 
 -- A read gave this many bytes, the front of what was left, in a buffer of that length: none exactly
 -- where nothing was left.
-pub record Gives (old new : Option (List ℕ)) (buf : List ℕ) (n : ℕ) : Type 0 where
+pub record Gives (old new : Input) (buf : List ℕ) (n : ℕ) : Type 0 where
   pub fits : n ≤ length buf
-  pub front : Consumes old new (take n buf)
-  pub end : IfSome old (λ left. (n ≡ 0) ↔ (left ≡ []))
+  pub front : Consumes old.left new.left (take n buf)
+  pub end : IfSome old.left (λ left. (n ≡ 0) ↔ (left ≡ []))
 
-pub record Reads (old new : Option (List ℕ)) (buf : List ℕ) (result : Result ℕ Failed) : Type 0 where
+-- Failed comes only where the count rose in this call. The count never falls.
+pub record Reads (old new : Input) (buf : List ℕ) (result : Result ℕ Failed) : Type 0 where
   pub gives : IfOk result (Gives old new buf)
-  pub failed : OnErr result (Keeps old new)
+  pub keeps : OnErr result (Keeps old.left new.left)
+  pub rose : OnErr result (Rose old.faults new.faults)
+  pub never_falls : old.faults ≤ new.faults
 
 -- A write took this many of the bytes, at least one, and the sink holds them after what it held.
-pub record Takes (old new : Option (List ℕ)) (bytes : List ℕ) (n : ℕ) : Type 0 where
+pub record Takes (old new : Output) (bytes : List ℕ) (n : ℕ) : Type 0 where
   pub some : 0 < n
   pub fits : n ≤ length bytes
-  pub grown : Appends old new (take n bytes)
+  pub grown : Appends old.held new.held (take n bytes)
+  pub no_fault : new.faults ≡ old.faults
 
-pub record Writes (old new : Option (List ℕ)) (bytes : List ℕ) (result : Result ℕ Failed) : Type 0 where
+-- a write met one fault, and took nothing
+pub record Refuses (old new : Output) : Type 0 where
+  pub keeps : Keeps old.held new.held
+  pub fault : new.faults ≡ next old.faults
+
+-- The count rises by one where a write fails, and else stays.
+pub record Writes (old new : Output) (bytes : List ℕ) (result : Result ℕ Failed) : Type 0 where
   pub takes : IfOk result (Takes old new bytes)
-  pub failed : OnErr result (Keeps old new)
+  pub refuses : OnErr result (Refuses old new)
+  pub never_falls : old.faults ≤ new.faults
 
--- a sink holds a front of the bytes after what it held, and not all of them
-abbrev pub AppendsFront : Option (List ℕ) → Option (List ℕ) → List ℕ → Type 0
-AppendsFront old new bytes = (n : ℕ) × (n < length bytes) × Appends old new (take n bytes)
+-- ---- over several calls
 
 -- a source gave no more bytes than this
-abbrev pub ReadsAtMost : ℕ → Option (List ℕ) → Option (List ℕ) → Type 0
-ReadsAtMost limit old new = (bytes : List ℕ) × (length bytes ≤ limit) × Consumes old new bytes
+abbrev pub ReadsAtMost : ℕ → Input → Input → Type 0
+ReadsAtMost limit old new = (bytes : List ℕ) × (length bytes ≤ limit) × Consumes old.left new.left bytes
 
 -- A source was read to its end, or to a limit: these are the bytes that it gave. At its end nothing is
 -- left of what it told.
-pub record IsReadTo (limit : ℕ) (old new : Option (List ℕ)) (bytes : List ℕ) : Type 0 where
-  pub front : Consumes old new bytes
+pub record IsReadTo (limit : ℕ) (old new : Input) (bytes : List ℕ) : Type 0 where
+  pub front : Consumes old.left new.left bytes
   pub within : length bytes ≤ limit
-  pub end : length bytes < limit → IfSome old (λ _. IsAtEnd new)
+  pub end : length bytes < limit → IfSome old.left (λ _. IsAtEnd new.left)
+
+-- a sink took all these bytes, and met no fault
+pub record Took (old new : Output) (bytes : List ℕ) : Type 0 where
+  pub grown : Appends old.held new.held bytes
+  pub no_fault : new.faults ≡ old.faults
+
+-- a sink took a front of these bytes and met a fault, after which it wasn't written again
+pub record BrokeOff (old new : Output) (bytes : List ℕ) : Type 0 where
+  pub front : ℕ
+  pub cut : front < length bytes
+  pub grown : Appends old.held new.held (take front bytes)
+  pub fault : new.faults ≡ next old.faults
+
+-- a sink took a line, or a front of it where it met a fault
+abbrev pub TookOrBroke : Output → Output → List ℕ → Type 0
+TookOrBroke old new line = Took old new line ⊎ BrokeOff old new line

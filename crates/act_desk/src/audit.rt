@@ -1,6 +1,7 @@
-ghost use Rattle.std.specs.Prelude.{◌≡◌, IfOk};
+ghost use Rattle.std.specs.Prelude.{◌≡◌, ◌≤◌, IfOk};
 ghost use Rattle.act_desk.specs.Streams.{ReadsAtMost};
-ghost use Rattle.act_desk.specs.Audit.{report_of, fails, limit, IsFoundIn, IsFound};
+ghost use Rattle.act_desk.specs.Telling.{status_of, writing_of};
+ghost use Rattle.act_desk.specs.Audit.{report_of, fails, IsFoundIn, AuditCause};
 
 use crate::audit_page::audit_page;
 use crate::fault_line::fault_line;
@@ -13,17 +14,18 @@ use snap_json::{SnapFault, read_snapshot};
 use snap_tree::{List, OutOfMemory, Tree};
 use std::alloc::Global;
 
-// One byte more than a snapshot may have.
-const LIMIT: usize = 8_388_609;
+/// How many bytes an audit reads at most: one more than a snapshot may have.
+pub const MOST_READ: usize = 8_388_609;
 
 /// Reads one snapshot to the end of the source, or to the 8,388,609th byte, and judges it by a book.
+#[tactic(auto, using(crate::proofs::Causes::audited))]
 pub fn audit<I: Source, B: RuleBook>(alloc: Global, input: &mut I, book: &mut B) -> Found
-    ensures found { IsFound (record { infos = B.infos; means = B.means })
-        (record { faults = I.faults input.old; left = I.left input.old })
-        (record { faults = I.faults input.new; left = I.left input.new }) result }
-    ensures stops { ReadsAtMost limit (I.left input.old) (I.left input.new) }
+    ensures cause { AuditCause (record { infos = B.infos; means = B.means })
+        (I.told input.old) (I.told input.new) (status_of result) (writing_of result) }
+    ensures never_falls { (I.told input.old).faults ≤ (I.told input.new).faults }
+    ensures stops { ReadsAtMost MOST_READ (I.told input.old) (I.told input.new) }
 {
-    match read_all(alloc, input, LIMIT) {
+    match read_all(alloc, input, MOST_READ) {
         Ok(bytes) => audit_bytes(alloc, bytes.as_slice(), book),
         Err(ReadFault::Failed) => Found::ReadFault,
         Err(ReadFault::OutOfMemory) => Found::NoMemory,
@@ -35,7 +37,7 @@ fn audit_bytes<B: RuleBook>(alloc: Global, bytes: &[u8], book: &mut B) -> Found
 {
     match read_snapshot(alloc, bytes) {
         Ok(tree) => match report(alloc, &tree, book) {
-            Ok((report, failed)) => Found::Audited { report, failed },
+            Ok((output, failed)) => Found::Finished { output, failed },
             Err(OutOfMemory) => Found::NoMemory,
         },
         Err(SnapFault::OutOfMemory) => Found::NoMemory,

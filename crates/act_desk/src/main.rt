@@ -6,6 +6,7 @@
 mod audit;
 mod audit_page;
 mod calls;
+mod command;
 mod early;
 mod failed;
 mod fault_line;
@@ -29,26 +30,21 @@ mod write_all;
 use crate::early::Early;
 use crate::run::run;
 use crate::start::command_words;
-use crate::status::Status;
 use crate::stream::{Reader, Writer};
-use crate::write_all::write_all;
+use crate::tell::tell;
 use std::process::ExitCode;
 
 fn main(rt: HostRuntime) -> ExitCode {
+    let mut out = Writer::new(rt.stdout());
     let mut err = Writer::new(rt.stderr());
     let words = match command_words(&rt) {
         Ok(words) => words,
         Err(refusal) => {
-            let status = refusal.status();
-            let ended = match write_all(&mut err, status.line().as_bytes()) {
-                Ok(()) => status,
-                Err(_) => Status::WriteFault,
-            };
+            let ended = tell(&mut out, &mut err, &refusal.found());
             return ExitCode::from(ended.number());
         }
     };
     let mut input = Reader::new(rt.stdin());
-    let mut out = Writer::new(rt.stdout());
     let mut book = Early::new();
     ExitCode::from(run(
         rt.alloc(),

@@ -1,11 +1,11 @@
 ghost use Rattle.std.specs.Prelude.{◌≡◌, ◌<◌, [], length, IsErr, IfOk, IsTrue, ◌↔◌};
-ghost use Rattle.act_desk.specs.Counts.{Counts};
-ghost use Rattle.act_desk.specs.Memory.{is_refused, taken, after_write};
+ghost use Rattle.act_desk.specs.Memory.{held_told, is_refused, taken, after_write};
 ghost use Rattle.act_desk.specs.Streams.{Writes};
 
 use crate::calls::is_named;
 use crate::failed::Failed;
 use crate::sink::Sink;
+use counts::next;
 use snap_tree::{List, OutOfMemory};
 use std::alloc::Global;
 use std::marker::Model;
@@ -57,27 +57,22 @@ impl MemSink {
 }
 
 impl Sink for MemSink {
-    ghost use Rattle.std.specs.Prelude.{Some};
-
-    ghost faults = { λ s. s.faults };
-
-    ghost held = { λ s. Some s.held };
+    ghost told = { held_told };
 
     /// Fails exactly where the list names the call or no room is left, and else takes as many bytes as
     /// there is room for.
     fn write(&mut self, bytes: &[u8]) -> Result<usize, Failed>
         requires { 0 < length bytes.now }
-        ensures writes { Writes (Some self.old.held) (Some self.new.held) bytes.now result }
-        ensures counts { Counts self.old.faults self.new.faults result }
+        ensures writes { Writes (held_told self.old) (held_told self.new) bytes.now result }
         ensures fails { IsErr result ↔ IsTrue (is_refused self.old) }
         ensures takes { IfOk result (λ n. n ≡ taken self.old (length bytes.now)) }
         ensures after { self.new ≡ after_write self.old bytes.now }
     {
         let fails = is_named(self.fails.as_slice(), self.calls);
         let left = self.room - self.bytes.len();
-        self.calls = self.calls.saturating_add(1);
+        self.calls = next(self.calls);
         if fails || left == 0 {
-            self.faults = self.faults.saturating_add(1);
+            self.faults = next(self.faults);
             return Err(Failed);
         }
         let n = bytes.len().min(left);

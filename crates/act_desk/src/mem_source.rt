@@ -1,11 +1,11 @@
 ghost use Rattle.std.specs.Prelude.{◌≡◌, ◌-◌, ◌≤◌, min, max, ◌<◌, [], length, take, drop, IsErr, IfOk, IsTrue, ◌↔◌};
-ghost use Rattle.act_desk.specs.Counts.{Counts};
-ghost use Rattle.act_desk.specs.Memory.{is_named, given, after_read};
+ghost use Rattle.act_desk.specs.Memory.{given_told, is_named, given, after_read};
 ghost use Rattle.act_desk.specs.Streams.{Reads};
 
 use crate::calls::is_named;
 use crate::failed::Failed;
 use crate::source::Source;
+use counts::next;
 use snap_tree::List;
 use std::marker::Model;
 
@@ -49,25 +49,20 @@ impl MemSource {
 }
 
 impl Source for MemSource {
-    ghost use Rattle.std.specs.Prelude.{Some};
-
-    ghost faults = { λ s. s.faults };
-
-    ghost left = { λ s. Some s.left };
+    ghost told = { given_told };
 
     /// Fails exactly where the list names the call, and else gives as many bytes as it may.
     fn read(&mut self, buf: &mut [u8]) -> Result<usize, Failed>
         requires { 0 < length buf.old }
-        ensures reads { Reads (Some self.old.left) (Some self.new.left) buf.new result }
-        ensures counts { Counts self.old.faults self.new.faults result }
+        ensures reads { Reads (given_told self.old) (given_told self.new) buf.new result }
         ensures fails { IsErr result ↔ IsTrue (is_named self.old.fails self.old.calls) }
         ensures gives { IfOk result (λ n. (n ≡ given self.old (length buf.old)) × (take n buf.new ≡ take n self.old.left)) }
         ensures after { self.new ≡ after_read self.old (length buf.old) }
     {
         let fails = is_named(self.fails.as_slice(), self.calls);
-        self.calls = self.calls.saturating_add(1);
+        self.calls = next(self.calls);
         if fails {
-            self.faults = self.faults.saturating_add(1);
+            self.faults = next(self.faults);
             return Err(Failed);
         }
         let n = copy_front(self.bytes.as_slice(), self.at, self.piece, buf);

@@ -1,7 +1,7 @@
-ghost use Rattle.std.specs.Prelude.{◌≡◌, IfOk, vec_len};
-ghost use Rattle.act_desk.specs.ReadAll.{ReadCounts};
+ghost use Rattle.std.specs.Prelude.{◌≡◌, ◌≤◌, Err, IfOk, vec_len};
+ghost use Rattle.counts.specs.Counts.{Rose};
 ghost use Rattle.act_desk.specs.Streams.{IsReadTo, ReadsAtMost};
-ghost use Rattle.act_desk.specs.declared.read_all.ReadFault.TheVariants.{OutOfMemory as NoMemory};
+ghost use Rattle.act_desk.specs.declared.read_all.ReadFault.TheVariants as ReadFault;
 
 use crate::source::Source;
 use std::alloc::{AllocError, Global};
@@ -17,7 +17,7 @@ pub enum ReadFault {
 }
 
 impl From<AllocError> for ReadFault {
-    ghost from_gives = { λ _ e. e ≡ NoMemory };
+    ghost from_gives = { λ _ e. e ≡ ReadFault.OutOfMemory };
 
     fn from(_error: AllocError) -> Self {
         ReadFault::OutOfMemory
@@ -25,11 +25,13 @@ impl From<AllocError> for ReadFault {
 }
 
 /// All bytes that a source gives, but no more than the limit; no more are read, whatever comes. `Failed`
-/// comes only where the source met a fault, and it isn't read again then.
+/// comes only where the source met a fault.
 pub fn read_all<I: Source>(alloc: Global, input: &mut I, limit: usize) -> Result<Vec<u8>, ReadFault>
-    ensures bytes { IfOk result (λ v. IsReadTo limit (I.left input.old) (I.left input.new) v.items) }
-    ensures counts { ReadCounts (I.faults input.old) (I.faults input.new) result }
-    ensures stops { ReadsAtMost limit (I.left input.old) (I.left input.new) }
+    ensures bytes { IfOk result (λ v. IsReadTo limit (I.told input.old) (I.told input.new) v.items) }
+    ensures failed { result ≡ Err ReadFault.Failed
+        → Rose (I.told input.old).faults (I.told input.new).faults }
+    ensures never_falls { (I.told input.old).faults ≤ (I.told input.new).faults }
+    ensures stops { ReadsAtMost limit (I.told input.old) (I.told input.new) }
 {
     let mut bytes = Vec::new(alloc);
     let mut buf = zeros(alloc, PIECE)?;

@@ -2,12 +2,12 @@ ghost use Rattle.std.specs.Prelude.{◌≡◌, ◌<◌, ◌↔◌, length, map, 
 ghost use Rattle.std.specs.String.{string_bytes};
 ghost use Rattle.std.specs.IoError.{error_kind};
 ghost use Rattle.std.specs.Vec.Iter.{into_iter_items};
-ghost use Rattle.act_desk.specs.Start.{refusal_status, refusal_of, Starts};
+ghost use Rattle.act_desk.specs.Start.{found_by, refusal_of, Starts};
 
-use crate::status::Status;
+use crate::found::Found;
 use snap_tree::{List, OutOfMemory, Text};
 use std::alloc::Global;
-use std::env::Args;
+use std::env::{Args, FillError};
 use std::io::ErrorKind;
 use std::rt::Env;
 use std::{env, io};
@@ -23,14 +23,14 @@ pub enum Refusal {
 }
 
 impl Refusal {
-    /// The status that the program ends with.
-    pub fn status(self) -> Status
-        ensures { result ≡ refusal_status self }
+    /// What the program tells then.
+    pub fn found(self) -> Found
+        ensures { result ≡ found_by self }
     {
         match self {
-            Refusal::Usage => Status::UsageFault,
-            Refusal::Store => Status::StoreFault,
-            Refusal::NoMemory => Status::NoMemory,
+            Refusal::Usage => Found::Usage,
+            Refusal::Store => Found::StoreFault,
+            Refusal::NoMemory => Found::NoMemory,
         }
     }
 }
@@ -46,27 +46,39 @@ impl From<io::Error> for Refusal {
     }
 }
 
-/// The words of a command, which stand after the program's name and the store's: `-` is the store in
-/// memory, and no other opens yet.
+/// The words of a command, which stand after the program's name and the store's. The store is looked at
+/// first: where it can't be opened, no word behind it matters.
 pub fn command_words<R: Env + AllocGlobal>(rt: &R) -> Result<List<Text>, Refusal>
     ensures { IfOk result (λ words. 0 < length words) }
 {
+    open_store(rt)?;
     words_in(rt.alloc(), env::args(rt)?)
+}
+
+// Opens the store that the second argument names: `-` is the one in memory, and no other opens yet.
+fn open_store(rt: &impl Env) -> Result<(), Refusal> {
+    let mut name = [0; 2];
+    match rt.arg(1, &mut name) {
+        Ok(size) if is_memory(&name[..size]) => Ok(()),
+        Ok(_) | Err(FillError::TooLong) => Err(Refusal::Store),
+        Err(FillError::NotPresent) => Err(Refusal::Usage),
+    }
+}
+
+// Whether that is the name of the store in memory.
+fn is_memory(name: &[u8]) -> bool
+    ensures { IsTrue result ↔ (name.now ≡ codes "-") }
+{
+    name == b"-".as_slice()
 }
 
 // The words of a command among a program's arguments, or why they give none.
 fn words_in(alloc: Global, mut args: Args) -> Result<List<Text>, Refusal>
     ensures { Starts (map string_bytes (into_iter_items args)) result }
 {
-    let Some(_program) = args.next() else {
+    let (Some(_program), Some(_store)) = (args.next(), args.next()) else {
         return Err(Refusal::Usage);
     };
-    let Some(store) = args.next() else {
-        return Err(Refusal::Usage);
-    };
-    if !is_memory(store.as_str()) {
-        return Err(Refusal::Store);
-    }
     let Ok(words) = texts_of(alloc, args) else {
         return Err(Refusal::NoMemory);
     };
@@ -74,13 +86,6 @@ fn words_in(alloc: Global, mut args: Args) -> Result<List<Text>, Refusal>
         return Err(Refusal::Usage);
     }
     Ok(List::from_vec(words))
-}
-
-// Whether that is the name of the store in memory.
-fn is_memory(store: &str) -> bool
-    ensures { IsTrue result ↔ (store.now ≡ codes "-") }
-{
-    store == "-"
 }
 
 // The same texts, in order.
@@ -97,55 +102,62 @@ fn texts_of(alloc: Global, strings: Args) -> Result<Vec<Text>, OutOfMemory>
 #[cfg(test)]
 mod tests {
     use super::*;
+    use crate::status::Status;
+    use crate::tell::status_of;
     use std::process::Abort;
     use std::test::Fail;
 
+    // A program's arguments, as bytes.
+    struct Arguments(&'static [&'static [u8]]);
+
+    impl Env for Arguments {
+        fn arg(&self, i: usize, buf: &mut [u8]) -> Result<usize, FillError> {
+            let Some(word) = self.0.get(i) else {
+                return Err(FillError::NotPresent);
+            };
+            let Some(front) = buf.get_mut(..word.len()) else {
+                return Err(FillError::TooLong);
+            };
+            front.copy_from_slice(word);
+            Ok(word.len())
+        }
+
+        fn var(&self, _name: &str, _buf: &mut [u8]) -> Result<usize, FillError> {
+            Err(FillError::NotPresent)
+        }
+
+        fn var_at(&self, _i: usize, _buf: &mut [u8]) -> Result<usize, FillError> {
+            Err(FillError::NotPresent)
+        }
+    }
+
     // Arguments, and the status that the program ends with by them; none where they have the words of a
     // command.
-    static ARGUMENTS: [(&[&str], Option<u8>); 7] = [
-        (&["act_desk", "-", "audit"], None),
-        (&["act_desk", "-", "audit", "x"], None),
-        (&[], Some(2)),
-        (&["act_desk"], Some(2)),
-        (&["act_desk", "-"], Some(2)),
-        (&["act_desk", "", "audit"], Some(6)),
-        (&["act_desk", "store"], Some(6)),
+    static ARGUMENTS: [(Arguments, Option<Status>); 9] = [
+        (Arguments(&[b"act_desk", b"-", b"audit"]), None),
+        (Arguments(&[b"act_desk", b"-", b"audit", b"x"]), None),
+        (Arguments(&[]), Some(Status::UsageFault)),
+        (Arguments(&[b"act_desk"]), Some(Status::UsageFault)),
+        (Arguments(&[b"act_desk", b"-"]), Some(Status::UsageFault)),
+        (Arguments(&[b"act_desk", b"-", b"\xff"]), Some(Status::UsageFault)),
+        (Arguments(&[b"act_desk", b"", b"audit"]), Some(Status::StoreFault)),
+        (Arguments(&[b"act_desk", b"--", b"\xff"]), Some(Status::StoreFault)),
+        (Arguments(&[b"act_desk", b"store"]), Some(Status::StoreFault)),
     ];
 
-    fn status_by(alloc: Global, args: &[&str]) -> Result<Option<u8>, Fail> {
-        let mut strings = Vec::new(alloc);
-        for arg in args {
-            strings.push(String::from_str(alloc, arg)?)?;
-        }
-        status_of(words_in(alloc, strings.into_iter()))
-    }
-
-    fn status_of(words: Result<List<Text>, Refusal>) -> Result<Option<u8>, Fail> {
-        match words {
+    fn status_by(alloc: Global, arguments: &Arguments) -> Result<Option<Status>, Fail> {
+        match command_words(&(arguments, alloc)) {
             Ok(_) => Ok(None),
             Err(Refusal::NoMemory) => Err(Fail::from(OutOfMemory)),
-            Err(refusal) => Ok(Some(refusal.status().number())),
+            Err(refusal) => Ok(Some(status_of(&refusal.found()))),
         }
-    }
-
-    fn is_status(rt: &impl Abort, status: Option<u8>, wanted: Option<u8>) {
-        assert_eq!(rt; status, wanted);
     }
 
     #[test]
     fn arguments_give_words_or_a_status(rt: HostRuntime) -> Result<(), Fail> {
-        for (args, wanted) in ARGUMENTS.as_slice() {
-            is_status(&rt, status_by(rt.alloc(), args)?, *wanted);
+        for (arguments, wanted) in ARGUMENTS.as_slice() {
+            assert_eq!(rt; status_by(rt.alloc(), arguments)?, *wanted);
         }
         Ok(())
-    }
-
-    #[test]
-    fn an_error_of_the_arguments_has_its_status(rt: HostRuntime) {
-        // a word that is no text, and want of memory
-        for (kind, status) in [(ErrorKind::InvalidData, 2), (ErrorKind::OutOfMemory, 8)] {
-            let refusal = Refusal::from(io::Error::from(kind));
-            is_status(&rt, Some(refusal.status().number()), Some(status));
-        }
     }
 }

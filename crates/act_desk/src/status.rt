@@ -4,8 +4,8 @@ ghost use Rattle.act_desk.specs.Status.{status_number, status_line};
 /// How the program ends.
 #[derive(Clone, Copy, Debug, PartialEq, Eq, Hash)]
 pub enum Status {
-    /// A page was audited, and no final outcome is failed.
-    NoneFailed,
+    /// The command is done, and no final outcome of an audit is failed.
+    Done,
     /// A page was audited, and some final outcome is failed.
     SomeFailed,
     /// The words are no command.
@@ -27,7 +27,7 @@ impl Status {
         ensures { result ≡ status_number self }
     {
         match self {
-            Status::NoneFailed => 0,
+            Status::Done => 0,
             Status::SomeFailed => 1,
             Status::UsageFault => 2,
             Status::ReadFault => 3,
@@ -38,13 +38,13 @@ impl Status {
         }
     }
 
-    /// The line that says so on standard error: empty where a page was audited, and for a snapshot's
+    /// The line that says so on standard error: empty where the command is done, and for a snapshot's
     /// fault, which has a line of its own.
     pub fn line(self) -> &'static str
         ensures { result.now ≡ status_line self }
     {
         match self {
-            Status::NoneFailed | Status::SomeFailed | Status::SnapshotFault => "",
+            Status::Done | Status::SomeFailed | Status::SnapshotFault => "",
             Status::UsageFault => "usage fault\n",
             Status::ReadFault => "read fault\n",
             Status::WriteFault => "write fault\n",

@@ -1,10 +1,12 @@
-ghost use Rattle.std.specs.Prelude.{◌≡◌, ◌<◌, None, length};
-ghost use Rattle.act_desk.specs.Counts.{Counts};
-ghost use Rattle.act_desk.specs.Streams.{Reads, Writes};
+ghost use Rattle.std.specs.Prelude.{◌≡◌, ◌<◌, None, length, OnOk, OnErr};
+ghost use Rattle.counts.specs.Counts.{next};
+ghost use Rattle.act_desk.specs.Told.{counted};
+ghost use Rattle.act_desk.specs.Streams.{Reads};
 
 use crate::failed::Failed;
 use crate::sink::Sink;
 use crate::source::Source;
+use counts::next;
 use std::io::{Read, Write};
 
 /// A stream that is read, as standard input.
@@ -24,15 +26,19 @@ impl<R: Read + Drop> Reader<R> {
 }
 
 impl<R: Read + Drop> Source for Reader<R> {
-    ghost faults = { λ s. s.faults };
+    ghost told = { λ s. counted s.faults };
 
-    ghost left = { λ _. None };
-
-    fn read(&mut self, buf: &mut [u8]) -> Result<usize, Failed> {
+    /// A fault raises the count by one, and nothing else raises it.
+    fn read(&mut self, buf: &mut [u8]) -> Result<usize, Failed>
+        requires { 0 < length buf.old }
+        ensures reads { Reads (counted self.old.faults) (counted self.new.faults) buf.new result }
+        ensures fault { OnErr result (self.new.faults ≡ next self.old.faults) }
+        ensures no_fault { OnOk result (self.new.faults ≡ self.old.faults) }
+    {
         match self.stream.read(buf) {
             Ok(n) => Ok(n),
             Err(_) => {
-                self.faults = self.faults.saturating_add(1);
+                self.faults = next(self.faults);
                 Err(Failed)
             }
         }
@@ -56,15 +62,13 @@ impl<W: Write + Drop> Writer<W> {
 }
 
 impl<W: Write + Drop> Sink for Writer<W> {
-    ghost faults = { λ s. s.faults };
-
-    ghost held = { λ _. None };
+    ghost told = { λ s. record { faults = s.faults; held = None } };
 
     fn write(&mut self, bytes: &[u8]) -> Result<usize, Failed> {
         match self.stream.write(bytes) {
             Ok(n) if n > 0 => Ok(n),
             _ => {
-                self.faults = self.faults.saturating_add(1);
+                self.faults = next(self.faults);
                 Err(Failed)
             }
         }

@@ -1,58 +1,57 @@
 ghost use Rattle.std.specs.Prelude.{◌≡◌};
-ghost use Rattle.act_desk.specs.Telling.{Output, Tells, report_in, line_on, status_of};
+ghost use Rattle.act_desk.specs.Telling.{status_of, writing_of, Tells};
 
 use crate::found::Found;
 use crate::sink::Sink;
 use crate::status::Status;
 use crate::write_all::write_all;
 
-/// Writes what a run has found: the report on `out`, or the line on `err`. Gives the status, which is
+/// Writes what a run has found: its output on `out`, and its line on `err`. Gives the status, which is
 /// `WriteFault` where a sink failed; then a line says so on `err`, unless that is the sink that failed.
 pub fn tell<O: Sink, E: Sink>(out: &mut O, err: &mut E, found: &Found) -> Status
-    ensures { Tells found.now
-        (record { faults = O.faults out.old; held = O.held out.old })
-        (record { faults = O.faults out.new; held = O.held out.new })
-        (record { faults = E.faults err.old; held = E.held err.old })
-        (record { faults = E.faults err.new; held = E.held err.new }) result }
+    ensures { Tells (status_of found.now) (writing_of found.now)
+        (O.told out.old) (O.told out.new) (E.told err.old) (E.told err.new) result }
 {
-    if write_all(out, report_in(found)).is_err() {
+    if write_all(out, output_of(found)).is_err() {
         let _ = write_all(err, Status::WriteFault.line().as_bytes());
         return Status::WriteFault;
     }
-    if write_all(err, line_on(found)).is_err() {
+    if write_all(err, line_of(found)).is_err() {
         return Status::WriteFault;
     }
     status_of(found)
 }
 
-fn report_in(found: &Found) -> &[u8]
-    ensures { result.now ≡ report_in found.now }
+fn output_of(found: &Found) -> &[u8]
+    ensures { result.now ≡ (writing_of found.now).output }
 {
     match found {
-        Found::Audited { report, .. } => report.as_slice(),
+        Found::Finished { output, .. } => output.as_slice(),
         _ => &[],
     }
 }
 
-fn line_on(found: &Found) -> &[u8]
-    ensures { result.now ≡ line_on found.now }
+fn line_of(found: &Found) -> &[u8]
+    ensures { result.now ≡ (writing_of found.now).line }
 {
     match found {
+        Found::Finished { .. } => &[],
         Found::NotSnapshot { line } => line.as_str().as_bytes(),
         _ => status_of(found).line().as_bytes(),
     }
 }
 
-// The status where all can be written.
-fn status_of(found: &Found) -> Status
+/// The status where all can be written.
+pub fn status_of(found: &Found) -> Status
     ensures { result ≡ status_of found.now }
 {
     match found {
-        Found::Audited { failed: true, .. } => Status::SomeFailed,
-        Found::Audited { failed: false, .. } => Status::NoneFailed,
+        Found::Finished { failed: true, .. } => Status::SomeFailed,
+        Found::Finished { failed: false, .. } => Status::Done,
         Found::Usage => Status::UsageFault,
         Found::ReadFault => Status::ReadFault,
         Found::NotSnapshot { .. } => Status::SnapshotFault,
+        Found::StoreFault => Status::StoreFault,
         Found::NoMemory => Status::NoMemory,
     }
 }

@@ -1,7 +1,5 @@
-ghost use Rattle.std.specs.Prelude.{OnOk, OnErr};
-ghost use Rattle.std.specs.Io.KnownBytes.{Appends};
-ghost use Rattle.act_desk.specs.Counts.{Counts};
-ghost use Rattle.act_desk.specs.Streams.{AppendsFront};
+ghost use Rattle.std.specs.Prelude.{◌≤◌, OnOk, OnErr};
+ghost use Rattle.act_desk.specs.Streams.{Took, BrokeOff};
 
 use crate::failed::Failed;
 use crate::sink::Sink;
@@ -9,9 +7,9 @@ use crate::sink::Sink;
 /// Writes all the bytes, or a front of them where the sink fails. A sink that failed isn't written
 /// again: its count rises by at most one.
 pub fn write_all<O: Sink>(out: &mut O, bytes: &[u8]) -> Result<(), Failed>
-    ensures written { OnOk result (Appends (O.held out.old) (O.held out.new) bytes.now) }
-    ensures cut { OnErr result (AppendsFront (O.held out.old) (O.held out.new) bytes.now) }
-    ensures counts { Counts (O.faults out.old) (O.faults out.new) result }
+    ensures took { OnOk result (Took (O.told out.old) (O.told out.new) bytes.now) }
+    ensures broke_off { OnErr result (BrokeOff (O.told out.old) (O.told out.new) bytes.now) }
+    ensures never_falls { (O.told out.old).faults ≤ (O.told out.new).faults }
 {
     let mut at = 0;
     while at < bytes.len() {

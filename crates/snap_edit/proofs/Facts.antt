@@ -6,7 +6,7 @@ use Rattle.snap_tree.specs.Trees.{Trees}
 use Rattle.snap_tree.specs.Grown.{grown}
 use Rattle.snap_tree.specs.Spots.{Spot, spot}
 use Rattle.snap_tree.specs.Well.{IsWell}
-use Rattle.snap_tree.proofs.Wellness.{well_from_sound}
+use Rattle.snap_tree.proofs.Wellness.{light_well, well_from_sound}
 use Rattle.snap_tree.proofs.Soundness.{shaped_well, sound_from_well}
 use Rattle.snap_edit.specs.declared.edit.Edit.TheVariants.{SetFacts}
 use Rattle.snap_edit.specs.declared.fault.EditKind.{EditKind}
@@ -26,14 +26,7 @@ facts_set facts = record { id = λ r. refl; parent = λ r. refl; text = λ r. re
 well_set : (n : NodeId) (facts : Facts) (t : Trees) (s : Spot) → IsWell t → spot t n ≡ Some s → IsWell (changed n (with_facts facts) t)
 well_set n facts t s w e =
     let new = shaped_changed n (with_facts facts) t s (facts_set facts) (shaped_well t w) e in
-    record {
-      rooted = new.rooted;
-      placed = new.placed;
-      few = new.few;
-      apart = new.apart;
-      rows_well = new.rows_well;
-      light = subst (λ weight. weight ≤ MOST_WEIGHT) (sym (same_weight n facts t)) w.light;
-    }
+    light_well (changed n (with_facts facts) t) new (subst (λ weight. weight ≤ MOST_WEIGHT) (sym (same_weight n facts t)) w.light)
 
 facts_by : (n : NodeId) (facts : Facts) (t : Trees) (k : EditKind) (o : Option Spot) → spot t n ≡ o → IsWell t → edited t (SetFacts n facts) ≡ Err k → k ≡ NoNode
 facts_by n facts t k None e w h = let is : Err NoNode ≡ Err k = rw e at h in cc

@@ -1,5 +1,6 @@
 -- Subtrees removed, inserted and moved.
 use Rattle.std.proofs.Common.{◌≡◌, ℕ, List, ◌∷◌, ◌++◌, get_or, take, drop, Bool, true, false, ◌||◌, Option, Some, None, Result, Ok, Err, if◌then◌else◌, refl, sym, ◌∙◌, ap, subst}
+use Rattle.std.proofs.lemmas.List.Folds.{list_any-append}
 use Rattle.std.specs.Option.{is_none, is_some, option_map_or}
 use Rattle.std.specs.List.{list_any}
 use Rattle.snap_tree.specs.declared.row.NodeId.{NodeId}
@@ -25,7 +26,6 @@ use Rattle.snap_edit.proofs.Putting.{hung_rows_of}
 use Rattle.snap_edit.proofs.Taking.{TakenOut, taken_out, root_is, any_less}
 use Rattle.snap_edit.proofs.TakenAlone.{hung_alone}
 use Rattle.snap_edit.proofs.Numbers.{held_by}
-use Rattle.snap_tree.proofs.Climbing.{any_append}
 use Rattle.snap_tree.proofs.Entering.{place_from-any}
 use Rattle.std.proofs.lemmas.List.{append-nil}
 use Rattle.std.proofs.Math.Bool.{or-true}
@@ -106,8 +106,8 @@ any_within :
     → list_any (has_number p) ys ≡ true → list_any (has_number p) (xs ++ (ys ++ zs)) ≡ true
 any_within p xs ys zs h =
     let any = list_any (has_number p) in
-    let later : any (ys ++ zs) ≡ true = any_append p ys zs ∙ ap (λ b. b || any zs) h in
-    any_append p xs (ys ++ zs) ∙ ap (λ b. any xs || b) later ∙ or-true (any xs)
+    let later : any (ys ++ zs) ≡ true = list_any-append (has_number p) ys zs ∙ ap (λ b. b || any zs) h in
+    list_any-append (has_number p) xs (ys ++ zs) ∙ ap (λ b. any xs || b) later ∙ or-true (any xs)
 
 -- what is said of the new parent, where that isn't in the subtree
 abbrev pub moved_in : Trees → NodeId → ℕ → Spot → Result Trees EditKind

@@ -1,5 +1,6 @@
 -- The first node of a number, and the rows of trees in which others stand in its place.
 use Rattle.std.proofs.Common.{◌≡◌, ℕ, ◌+◌, ◌==◌, List, [], ◌∷◌, ◌++◌, length, Bool, true, false, ◌||◌, Option, Some, None, unwrap_or, refl, sym, ◌∙◌, ap, subst, arith, inl, inr, ◌⊎◌, append_assoc, add-zero}
+use Rattle.std.proofs.lemmas.List.Folds.{list_any-append}
 use Rattle.std.proofs.lemmas.Bool.{or_parts}
 use Rattle.std.specs.List.{list_any}
 use Rattle.snap_tree.specs.declared.row.NodeId.{NodeId}
@@ -11,7 +12,7 @@ use Rattle.snap_tree.specs.Places.{place_from}
 use Rattle.snap_tree.specs.Well.{AreApart}
 use Rattle.snap_tree.specs.Naming.{AreNamed}
 use Rattle.snap_tree.proofs.Growth.{rows_of-beside}
-use Rattle.snap_tree.proofs.Climbing.{any_append, apart_append, later_number, spot_any}
+use Rattle.snap_tree.proofs.Climbing.{apart_append, later_number, spot_any}
 use Rattle.snap_edit.specs.Trees.{replaced}
 
 -- the trees hold this spot of the number, and no other node of it
@@ -65,7 +66,7 @@ pub none_in_both :
     → list_any (has_number n) (xs ++ ys) ≡ false
     → (list_any (has_number n) xs ≡ false) × (list_any (has_number n) ys ≡ false)
 none_in_both n xs ys h =
-    or_parts (list_any (has_number n) xs) (list_any (has_number n) ys) (sym (any_append n xs ys) ∙ h)
+    or_parts (list_any (has_number n) xs) (list_any (has_number n) ys) (sym (list_any-append (has_number n) xs ys) ∙ h)
 
 -- where the trees don't hold the number, they stay
 pub absent :
@@ -133,7 +134,7 @@ parts_after n r kids after s e none p = record {
       ap (λ rs. r ∷ (rows_of kids ++ rs)) p.rows_are
       ∙ ap (λ rs. r ∷ rs) (sym (append_assoc (rows_of kids) p.before (s.row ∷ (rows_of s.below ++ p.later))));
   unlike =
-      ap (λ b. b || list_any (has_number n) (rows_of kids ++ p.before)) e ∙ any_append n (rows_of kids) p.before
+      ap (λ b. b || list_any (has_number n) (rows_of kids ++ p.before)) e ∙ list_any-append (has_number n) (rows_of kids) p.before
       ∙ ap (λ b. b || list_any (has_number n) p.before) none ∙ p.unlike;
   number = p.number;
   new_rows = λ f.

@@ -99,10 +99,3 @@ pub hung_alone : (p : NodeId) (rows : List Row) → alone_fault rows ≡ None �
 unfolding alone_fault
 hung_alone p [] h = tt
 hung_alone p (r ∷ rows) h = hung_by p r rows (is_text r) refl h
-
-pub differ : (a b : ℕ) → (a ≡ b → ⊥) → (a == b) ≡ false
-differ a b h = by_test (a == b) refl
-  where
-    by_test : (c : Bool) → (a == b) ≡ c → (a == b) ≡ false
-    by_test false e = e
-    by_test true e = absurd (h (grind (arith, nat_tests, e)))

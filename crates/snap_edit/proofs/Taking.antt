@@ -1,5 +1,6 @@
 -- A subtree taken out, and the rows that this leaves.
 use Rattle.std.proofs.Common.{◌≡◌, ℕ, List, [], ◌∷◌, ◌++◌, length, take, drop, false, ◌||◌, None, sym, ◌∙◌, ap, subst, arith}
+use Rattle.std.proofs.lemmas.List.Folds.{list_any-append}
 use Rattle.std.proofs.lemmas.List.{take_at, drop_at}
 use Rattle.std.specs.Option.{is_none}
 use Rattle.std.specs.List.{list_any}
@@ -13,7 +14,7 @@ use Rattle.snap_tree.specs.Well.{AreApart}
 use Rattle.snap_tree.specs.Naming.{AreNamed}
 use Rattle.snap_tree.proofs.Cuts.{length-rows_of}
 use Rattle.snap_tree.proofs.Naming.{regrown}
-use Rattle.snap_tree.proofs.Climbing.{any_append, apart_append}
+use Rattle.snap_tree.proofs.Climbing.{apart_append}
 use Rattle.snap_edit.proofs.Replacing.{none_in_both}
 use Rattle.snap_edit.specs.Trees.{without}
 use Rattle.snap_edit.specs.Edits.{is_root}
@@ -28,7 +29,7 @@ pub any_less :
 any_less n xs ys zs h =
     let outer = none_in_both n xs (ys ++ zs) h in
     let inner = none_in_both n ys zs outer.1 in
-    any_append n xs zs ∙ ap (λ b. b || list_any (has_number n) zs) outer.0 ∙ inner.1
+    list_any-append (has_number n) xs zs ∙ ap (λ b. b || list_any (has_number n) zs) outer.0 ∙ inner.1
 
 pub apart_less : (xs ys zs : List Row) → AreApart (xs ++ (ys ++ zs)) → AreApart (xs ++ zs)
 apart_less [] ys zs a = (apart_append ys zs a).1

@@ -27,7 +27,8 @@ use Rattle.snap_edit.specs.declared.fault.EditKind.TheVariants.{NoNode, NotEleme
 use Rattle.snap_edit.specs.declared.fault.EditFault.{EditFault}
 use Rattle.snap_edit.specs.Attrs.{attrs_with, attrs_without, body_with, with_attrs}
 use Rattle.snap_edit.specs.Trees.{changed}
-use Rattle.snap_edit.specs.Edits.{most_edits, at, then_settled, edited, followed, edited_from, edited_all, continued}
+use Rattle.snap_edit.specs.declared.edit.TheConstants.{MOST_EDITS}
+use Rattle.snap_edit.specs.Edits.{at, then_settled, edited, followed, edited_from, edited_all, continued}
 use Rattle.snap_edit.specs.Laws.{after_others, then_edits}
 use Rattle.snap_edit.proofs.Replacing.{Finds, absent}
 use Rattle.snap_edit.proofs.Standing.{page_of_sound, found_in, at_none, text_found, with_body}
@@ -50,14 +51,14 @@ edited_later n index (e ∷ edits) t =
     later_by n index (edited t e) (edited_from (n + index + 1) edits) (edited_from (index + 1) edits)
     (λ t'. ap (λ i. edited_from i edits t') sums ∙ edited_later n (index + 1) edits t')
 
-few : (t : Trees) (edits : List Edit) → length edits ≤ most_edits → edited_all t edits ≡ edited_from 0 edits t
+few : (t : Trees) (edits : List Edit) → length edits ≤ MOST_EDITS → edited_all t edits ≡ edited_from 0 edits t
 few t edits h =
-    let fits : nat_lt most_edits (length edits) ≡ false = grind (arith, nat_tests, h) in
+    let fits : nat_lt MOST_EDITS (length edits) ≡ false = grind (arith, nat_tests, h) in
     rw fits refl
 
 parts_by :
     (xs ys : List Edit) (r : Result Trees EditFault)
-    → length ys ≤ most_edits → continued (0 + length xs) ys r ≡ then_edits (length xs) ys r
+    → length ys ≤ MOST_EDITS → continued (0 + length xs) ys r ≡ then_edits (length xs) ys r
 parts_by xs ys (Err fault) h = refl
 parts_by xs ys (Ok t) h =
     let sums : 0 + length xs ≡ length xs + 0 = omega arith in
@@ -66,11 +67,11 @@ parts_by xs ys (Ok t) h =
 
 pub goes_in_parts :
     (t : Trees) (xs ys : List Edit)
-    → length (xs ++ ys) ≤ most_edits → edited_all t (xs ++ ys) ≡ then_edits (length xs) ys (edited_all t xs)
+    → length (xs ++ ys) ≤ MOST_EDITS → edited_all t (xs ++ ys) ≡ then_edits (length xs) ys (edited_all t xs)
 goes_in_parts t xs ys h =
     let all = length-append xs ys in
-    let first : length xs ≤ most_edits = omega (arith, h, all) in
-    let second : length ys ≤ most_edits = omega (arith, h, all) in
+    let first : length xs ≤ MOST_EDITS = omega (arith, h, all) in
+    let second : length ys ≤ MOST_EDITS = omega (arith, h, all) in
     few t (xs ++ ys) h ∙ edited_append 0 xs ys t ∙ parts_by xs ys (edited_from 0 xs t) second
     ∙ ap (then_edits (length xs) ys) (sym (few t xs first))
 

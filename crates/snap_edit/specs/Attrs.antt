@@ -1,5 +1,5 @@
 -- An element's attributes with one set, and with one taken out.
-use Rattle.std.specs.Prelude.{ℕ, List, [], ◌∷◌, if◌then◌else◌}
+use Rattle.std.specs.Prelude.{ℕ, List, [], ◌∷◌, if◌then◌else◌, Option, Some, None}
 use Rattle.snap_tree.specs.declared.row.Attr.{Attr}
 use Rattle.snap_tree.specs.declared.row.Body.{Body}
 use Rattle.snap_tree.specs.declared.row.Body.TheVariants.{Element, Words}
@@ -19,6 +19,11 @@ attrs_with name value (a ∷ attrs) =
 abbrev pub attrs_without : List ℕ → List Attr → List Attr
 attrs_without name [] = []
 attrs_without name (a ∷ attrs) = if same_folded a.name name then attrs else a ∷ attrs_without name attrs
+
+-- with a value the attribute of this name is set, and without one it is taken out
+abbrev pub attrs_after : List ℕ → Option (List ℕ) → List Attr → List Attr
+attrs_after name None = attrs_without name
+attrs_after name (Some value) = attrs_with name value
 
 abbrev pub body_with : (List Attr → List Attr) → Body → Body
 body_with f (Element space tag attrs) = Element space tag (f attrs)

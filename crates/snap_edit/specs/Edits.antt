@@ -3,6 +3,7 @@ use Rattle.std.specs.Prelude.{◌≡◌, ◌+◌, ℕ, List, [], ◌∷◌, leng
 use Rattle.std.specs.Option.{option_map_or, option_or}
 use Rattle.std.specs.List.{list_any}
 use Rattle.snap_tree.specs.declared.row.NodeId.{NodeId}
+use Rattle.snap_tree.specs.declared.row.Attr.{Attr}
 use Rattle.snap_tree.specs.declared.row.Row.{Row}
 use Rattle.snap_tree.specs.declared.fault.TreeFault.{TreeFault}
 use Rattle.snap_tree.specs.declared.fault.TreeFault.TheVariants.{TooMany, ParentUnknownOrNotOpen}
@@ -11,6 +12,7 @@ use Rattle.snap_tree.specs.Grown.{grown}
 use Rattle.snap_tree.specs.Rows.{has_number, is_text, own_fault}
 use Rattle.snap_tree.specs.Spots.{Spot, spot, number_of, kids}
 use Rattle.snap_tree.specs.Faults.{rows_fault, tree_fault}
+use Rattle.snap_edit.specs.declared.edit.TheConstants.{MOST_EDITS}
 use Rattle.snap_edit.specs.declared.edit.Edit.{Edit}
 use Rattle.snap_edit.specs.declared.edit.Edit.TheVariants.{SetAttr, DropAttr, SetText, SetFacts, Insert, Remove, Move}
 use Rattle.snap_edit.specs.declared.fault.EditKind.{EditKind}
@@ -20,10 +22,6 @@ use Rattle.snap_edit.specs.declared.fault.EditFault.TheVariants.{At, OutOfMemory
 use Rattle.snap_edit.specs.Attrs.{attrs_with, attrs_without, with_attrs, with_text, with_facts}
 use Rattle.snap_edit.specs.Trees.{changed, without, inserted, hung}
 use Rattle.snap_tree.specs.declared.build.TheConstants.{MOST_NODES}
-
--- how many edits one list has at the most
-abbrev pub most_edits : ℕ
-most_edits = 200
 
 -- what a node's spot gives, where the trees hold the number
 abbrev pub at : Trees → NodeId → (Spot → Result Trees EditKind) → Result Trees EditKind
@@ -64,12 +62,14 @@ alone_fault (r ∷ rows) = if is_text r then text_fault r rows else tree_fault (
 abbrev pub taken_alone : List Row → (Trees → Result Trees EditKind) → Result Trees EditKind
 taken_alone rows f = option_map_or (λ fault. Err (Tree fault)) (alone_fault rows) (f (grown rows))
 
+-- the trees with an element's attributes changed so
+abbrev pub attrs_changed : Trees → NodeId → (List Attr → List Attr) → Result Trees EditKind
+attrs_changed t n f = at t n (λ s. if is_text s.row then Err NotElement else Ok (changed n (with_attrs f) t))
+
 -- an edit's trees, before they are tried, or the first of its other faults
 abbrev pub effect : Trees → Edit → Result Trees EditKind
-effect t (SetAttr n name value) =
-    at t n (λ s. if is_text s.row then Err NotElement else Ok (changed n (with_attrs (attrs_with name value)) t))
-effect t (DropAttr n name) =
-    at t n (λ s. if is_text s.row then Err NotElement else Ok (changed n (with_attrs (attrs_without name)) t))
+effect t (SetAttr n name value) = attrs_changed t n (attrs_with name value)
+effect t (DropAttr n name) = attrs_changed t n (attrs_without name)
 effect t (SetText n text) = at t n (λ s. if is_text s.row then Ok (changed n (with_text text) t) else Err NotText)
 effect t (SetFacts n facts) = at t n (λ s. Ok (changed n (with_facts facts) t))
 effect t (Insert p place rows) =
@@ -113,7 +113,7 @@ continued index edits (Ok t) = edited_from index edits t
 
 -- the trees after a list of edits, or the first fault with its index
 abbrev pub edited_all : Trees → List Edit → Result Trees EditFault
-edited_all t edits = if nat_lt most_edits (length edits) then Err (At most_edits TooManyEdits) else edited_from 0 edits t
+edited_all t edits = if nat_lt MOST_EDITS (length edits) then Err (At MOST_EDITS TooManyEdits) else edited_from 0 edits t
 
 -- a refusal names this fault, unless memory ran out
 abbrev pub Refuses : EditFault → Result Trees EditFault → Type 0

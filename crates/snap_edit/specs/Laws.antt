@@ -18,7 +18,8 @@ use Rattle.snap_edit.specs.declared.fault.EditKind.TheVariants.{NoNode, Tree}
 use Rattle.snap_edit.specs.declared.fault.EditFault.{EditFault}
 use Rattle.snap_edit.specs.declared.fault.EditFault.TheVariants.{At}
 use Rattle.snap_edit.specs.declared.fault.EditFault.TheVariants as fault
-use Rattle.snap_edit.specs.Edits.{most_edits, edited, edited_all}
+use Rattle.snap_edit.specs.declared.edit.TheConstants.{MOST_EDITS}
+use Rattle.snap_edit.specs.Edits.{edited, edited_all}
 
 -- an answer of edits that come after so many others
 abbrev pub after_others : ℕ → Result Trees EditFault → Result Trees EditFault
@@ -35,7 +36,7 @@ then_edits n edits (Ok t) = after_others n (edited_all t edits)
 abbrev pub GoesInParts : Type 0
 GoesInParts =
     (t : Trees) (xs ys : List Edit)
-    → length (xs ++ ys) ≤ most_edits → edited_all t (xs ++ ys) ≡ then_edits (length xs) ys (edited_all t xs)
+    → length (xs ++ ys) ≤ MOST_EDITS → edited_all t (xs ++ ys) ≡ then_edits (length xs) ys (edited_all t xs)
 
 -- an attribute that a page's element doesn't have is set, and dropped: the page is as before
 abbrev pub DropUndoesSet : Type 0

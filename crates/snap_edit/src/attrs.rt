@@ -1,5 +1,6 @@
 ghost use Rattle.std.specs.Prelude.{◌≡◌, IfOk};
-ghost use Rattle.snap_edit.specs.Attrs.{attrs_with, attrs_without};
+ghost use Rattle.std.specs.Option.{option_copied};
+ghost use Rattle.snap_edit.specs.Attrs.{attrs_with, attrs_without, attrs_after};
 ghost use Rattle.snap_edit.specs.AttrPlaces.{attr_place};
 
 use snap_tree::{Attr, OutOfMemory, Text, copies_of, same_folded};
@@ -21,8 +22,8 @@ fn attr_place(attrs: &[Attr], name: &Text) -> Option<usize>
     None
 }
 
-/// The attributes with this value for the name.
-pub(crate) fn attrs_with(
+// The attributes with this value for the name.
+fn attrs_with(
     alloc: Global,
     attrs: &[Attr],
     name: &Text,
@@ -45,12 +46,8 @@ pub(crate) fn attrs_with(
     }
 }
 
-/// The attributes without the name.
-pub(crate) fn attrs_without(
-    alloc: Global,
-    attrs: &[Attr],
-    name: &Text,
-) -> Result<Vec<Attr>, OutOfMemory>
+// The attributes without the name.
+fn attrs_without(alloc: Global, attrs: &[Attr], name: &Text) -> Result<Vec<Attr>, OutOfMemory>
     ensures { IfOk result (λ new. new.items ≡ attrs_without name.now attrs.now) }
 {
     let mut copies = copies_of(alloc, attrs)?;
@@ -59,4 +56,19 @@ pub(crate) fn attrs_without(
     };
     copies.remove(place);
     Ok(copies)
+}
+
+/// The attributes with this value for the name, or without the name where there is no value.
+pub(crate) fn attrs_after(
+    alloc: Global,
+    attrs: &[Attr],
+    name: &Text,
+    value: Option<&Text>,
+) -> Result<Vec<Attr>, OutOfMemory>
+    ensures { IfOk result (λ new. new.items ≡ attrs_after name.now (option_copied value.entry) attrs.now) }
+{
+    match value {
+        Some(value) => attrs_with(alloc, attrs, name, value),
+        None => attrs_without(alloc, attrs, name),
+    }
 }

@@ -1,13 +1,14 @@
 ghost use Rattle.std.specs.Prelude.{◌≡◌, ◌<◌, None, IfOk, IfErr, vec_len, slice_set, slice_index_or};
+ghost use Rattle.std.specs.Option.{option_copied};
 ghost use Rattle.snap_tree.specs.Grown.{grown};
 ghost use Rattle.snap_tree.specs.Faults.{tree_fault};
 ghost use Rattle.snap_tree.specs.declared.row.Row.{Row};
-ghost use Rattle.snap_edit.specs.declared.edit.Edit.TheVariants.{SetAttr, DropAttr, SetText, SetFacts};
-ghost use Rattle.snap_edit.specs.Attrs.{with_attrs, with_text, with_facts};
-ghost use Rattle.snap_edit.specs.Edits.{effect};
+ghost use Rattle.snap_edit.specs.declared.edit.Edit.TheVariants.{SetText, SetFacts};
+ghost use Rattle.snap_edit.specs.Attrs.{attrs_after, with_attrs, with_text, with_facts};
+ghost use Rattle.snap_edit.specs.Edits.{attrs_changed, effect};
 ghost use Rattle.snap_edit.specs.Made.{Makes, Declines};
 
-use crate::attrs::{attrs_with, attrs_without};
+use crate::attrs::attrs_after;
 use crate::fault::{EditKind, Refusal};
 use crate::place::{element_at, node_at};
 use snap_tree::{Attr, Body, Facts, List, NodeId, Row, Text};
@@ -23,37 +24,20 @@ fn put_attrs(rows: &mut Vec<Row>, place: usize, attrs: Vec<Attr>)
     }
 }
 
-/// Sets an attribute of an element.
-pub(crate) fn set_attr(
+/// Sets an attribute of an element, or takes it out where there is no value.
+pub(crate) fn change_attr(
     alloc: Global,
     mut rows: Vec<Row>,
     node: NodeId,
     name: &Text,
-    value: &Text,
+    value: Option<&Text>,
 ) -> Result<Vec<Row>, Refusal>
     requires { tree_fault rows.items ≡ None }
-    ensures made { IfOk result (λ new. Makes new.items (effect (grown rows.items) (SetAttr node name.now value.now))) }
-    ensures refused { IfErr result (λ f. Declines f (effect (grown rows.items) (SetAttr node name.now value.now))) }
+    ensures made { IfOk result (λ new. Makes new.items (attrs_changed (grown rows.items) node (attrs_after name.now (option_copied value.entry)))) }
+    ensures refused { IfErr result (λ f. Declines f (attrs_changed (grown rows.items) node (attrs_after name.now (option_copied value.entry)))) }
 {
     let place = element_at(rows.as_slice(), node)?;
-    let attrs = attrs_with(alloc, rows[place].attrs(), name, value)?;
-    put_attrs(&mut rows, place, attrs);
-    Ok(rows)
-}
-
-/// Takes an attribute of an element out.
-pub(crate) fn drop_attr(
-    alloc: Global,
-    mut rows: Vec<Row>,
-    node: NodeId,
-    name: &Text,
-) -> Result<Vec<Row>, Refusal>
-    requires { tree_fault rows.items ≡ None }
-    ensures made { IfOk result (λ new. Makes new.items (effect (grown rows.items) (DropAttr node name.now))) }
-    ensures refused { IfErr result (λ f. Declines f (effect (grown rows.items) (DropAttr node name.now))) }
-{
-    let place = element_at(rows.as_slice(), node)?;
-    let attrs = attrs_without(alloc, rows[place].attrs(), name)?;
+    let attrs = attrs_after(alloc, rows[place].attrs(), name, value)?;
     put_attrs(&mut rows, place, attrs);
     Ok(rows)
 }

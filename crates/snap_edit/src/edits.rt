@@ -1,14 +1,15 @@
 ghost use Rattle.std.specs.Prelude.{◌≡◌, ◌≤◌, [], ◌∷◌, ◌++◌, length, None, Ok, IfOk, IfErr};
+ghost use Rattle.snap_tree.specs.Trees.{with_trees};
 ghost use Rattle.snap_tree.specs.Grown.{grown};
 ghost use Rattle.snap_tree.specs.Faults.{tree_fault};
-ghost use Rattle.snap_edit.specs.Edits.{most_edits, effect, edited, edited_from, edited_all, Refuses};
+ghost use Rattle.snap_edit.specs.Edits.{effect, edited, edited_from, edited_all, Refuses};
 ghost use Rattle.snap_edit.specs.Made.{Makes, Declines, fault_at, BreaksAt};
 
-use crate::changes::{drop_attr, set_attr, set_facts, set_text};
+use crate::changes::{change_attr, set_facts, set_text};
 use crate::edit::{Edit, MOST_EDITS};
 use crate::fault::{EditFault, EditKind, Refusal};
 use crate::moves::{insert, move_to, remove};
-use snap_tree::{BuildFault, List, Raw, Row, Text, Tree, copies_of, tree_fault};
+use snap_tree::{BuildFault, List, Raw, Row, Tree, copies_of, tree_fault};
 use std::alloc::Global;
 
 // Carries one edit out on a page's rows. The new rows aren't tried.
@@ -18,8 +19,8 @@ fn carry_out(alloc: Global, rows: Vec<Row>, edit: &Edit) -> Result<Vec<Row>, Ref
     ensures refused { IfErr result (λ f. Declines f (effect (grown rows.items) edit.now)) }
 {
     match edit {
-        Edit::SetAttr { node, name, value } => set_attr(alloc, rows, *node, name, value),
-        Edit::DropAttr { node, name } => drop_attr(alloc, rows, *node, name),
+        Edit::SetAttr { node, name, value } => change_attr(alloc, rows, *node, name, Some(value)),
+        Edit::DropAttr { node, name } => change_attr(alloc, rows, *node, name, None),
         Edit::SetText { node, text } => set_text(alloc, rows, *node, text),
         Edit::SetFacts { node, facts } => set_facts(rows, *node, *facts),
         Edit::Insert {
@@ -66,7 +67,7 @@ fn fault_at(index: u32, refusal: Refusal) -> EditFault
 // Carries edits out one after another, and tries the rows after each.
 fn steps(alloc: Global, rows: Vec<Row>, edits: &[Edit]) -> Result<Vec<Row>, EditFault>
     requires sound { tree_fault rows.items ≡ None }
-    requires few { length edits.now ≤ most_edits }
+    requires few { length edits.now ≤ MOST_EDITS }
     ensures sound { IfOk result (λ new. tree_fault new.items ≡ None) }
     ensures edited { IfOk result (λ new. edited_from 0 edits.now (grown rows.items) ≡ Ok (grown new.items)) }
     ensures refused { IfErr result (λ f. Refuses f (edited_from 0 edits.now (grown rows.items))) }
@@ -85,12 +86,13 @@ fn steps(alloc: Global, rows: Vec<Row>, edits: &[Edit]) -> Result<Vec<Row>, Edit
     Ok(rows)
 }
 
-// The page of an edit's rows, unless they have a fault.
-fn built(alloc: Global, address: Text, rows: Vec<Row>, index: u32) -> Result<Tree, EditFault>
-    ensures tree { IfOk result (λ t. t ≡ record { address = address; trees = grown rows.items }) }
+// The same page, but with an edit's rows, unless they have a fault.
+fn rebuilt(alloc: Global, tree: &Tree, rows: Vec<Row>, index: u32) -> Result<Tree, EditFault>
+    ensures tree { IfOk result (λ t. t ≡ with_trees tree.now (grown rows.items)) }
     ensures sound { IfOk result (λ t. tree_fault rows.items ≡ None) }
     ensures refused { IfErr result (λ f. BreaksAt index f (tree_fault rows.items)) }
 {
+    let address = tree.address().copy(alloc)?;
     let rows = List::from_vec(rows);
     match Tree::build(alloc, Raw { address, rows }) {
         Ok(tree) => Ok(tree),
@@ -104,9 +106,9 @@ fn built(alloc: Global, address: Text, rows: Vec<Row>, index: u32) -> Result<Tre
 
 // The page after at least one edit. The rows of the last are tried as the page is built.
 fn apply_some(alloc: Global, tree: &Tree, earlier: &[Edit], last: &Edit) -> Result<Tree, EditFault>
-    requires { length earlier.now ≤ most_edits }
+    requires { length earlier.now ≤ MOST_EDITS }
     ensures edited { IfOk result (λ t. edited_from 0 (earlier.now ++ last.now ∷ []) tree.now.trees ≡ Ok t.trees) }
-    ensures address { IfOk result (λ t. t.address ≡ tree.now.address) }
+    ensures kept { IfOk result (λ t. t ≡ with_trees tree.now t.trees) }
     ensures refused { IfErr result (λ f. Refuses f (edited_from 0 (earlier.now ++ last.now ∷ []) tree.now.trees)) }
 {
     let rows = copies_of(alloc, tree.rows())?;
@@ -119,19 +121,18 @@ fn apply_some(alloc: Global, tree: &Tree, earlier: &[Edit], last: &Edit) -> Resu
         Ok(new) => new,
         Err(refusal) => return Err(fault_at(index, refusal)),
     };
-    let address = tree.address().copy(alloc)?;
-    built(alloc, address, new, index)
+    rebuilt(alloc, tree, new, index)
 }
 
-/// The page after a list of edits, carried out one after another. The given page stays, and so does its
-/// address; an empty list gives an equal page.
+/// The page after a list of edits, carried out one after another. The given page stays, and the new one
+/// has its address; an empty list gives an equal page.
 ///
 /// It is refused with the index, counted from 0, and the kind of the first edit that can't be carried
 /// out; a list of more than 200 edits with index 200 and TooManyEdits before anything else. Want of
 /// memory is OutOfMemory.
 pub fn apply(alloc: Global, tree: &Tree, edits: &[Edit]) -> Result<Tree, EditFault>
     ensures edited { IfOk result (λ t. edited_all tree.now.trees edits.now ≡ Ok t.trees) }
-    ensures address { IfOk result (λ t. t.address ≡ tree.now.address) }
+    ensures kept { IfOk result (λ t. t ≡ with_trees tree.now t.trees) }
     ensures refused { IfErr result (λ f. Refuses f (edited_all tree.now.trees edits.now)) }
 {
     if edits.len() > MOST_EDITS {

@@ -11,7 +11,7 @@ ghost use Rattle.snap_edit.specs.Laws.{GoesInParts, DropUndoesSet, IsHeavyAtMost
 /// gives, where both together are at most 200. An attribute that an element of a page doesn't have is set
 /// and then dropped: the page is as before. A page from which an attribute or a subtree is taken has one
 /// fault at the most: what references find is too heavy. Other facts for a page's node are never refused.
-#[tactic(auto, using(crate::proofs::Undoing::goes_in_parts, crate::proofs::Undoing::drop_undoes_set, crate::proofs::Shaping::dropped_in_shape, crate::proofs::Shaping::removed_in_shape, crate::proofs::Facts::facts_break_nothing))]
+#[tactic(auto, using(crate::proofs::Undoing::goes_in_parts, crate::proofs::Shaping::removed_in_shape, crate::proofs::Facts::facts_break_nothing))]
 pub fn laws_of_edits()
     ensures none { (t : Trees) → edited_all t [] ≡ Ok t }
     ensures parts { GoesInParts }

@@ -1,4 +1,4 @@
-pub mod WebAddress
+pub mod Answering
 pub mod FieldCases
 pub mod AttrLoop
 pub mod RowLoop

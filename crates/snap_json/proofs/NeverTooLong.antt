@@ -10,10 +10,11 @@ use Rattle.snap_json.specs.declared.fault.Field.{Field}
 use Rattle.snap_json.specs.declared.fault.Field.TheVariants as field
 use Rattle.snap_json.specs.declared.fault.SnapFault.{SnapFault}
 use Rattle.snap_json.specs.declared.fault.SnapFault.TheVariants.{TooLong}
+use Rattle.snap_json.specs.declared.limits.TheConstants.{KEPT}
 use Rattle.snap_json.specs.Faults.{◌>>=◌, in_shape}
 use Rattle.snap_json.specs.Fields.{number_of, parent_of, text_of, name_of, space_of, attrs_of, facts_of}
-use Rattle.snap_json.specs.Address.{address_of}
-use Rattle.snap_json.specs.Pages.{body_from, body_of, row_of, next_place, rows_of, web, page_of, in_json, json_of, page_in, built_unless, tree_in, kept, kept_tree}
+use Rattle.web_address.specs.Address.{address_of}
+use Rattle.snap_json.specs.Pages.{body_from, body_of, row_of, next_place, rows_of, web, page_of, in_json, json_of, page_in, built_unless, tree_in, kept_tree}
 
 -- it isn't refused as too long
 pub record IsNoTooLong {A : Type 0} (given : Result A SnapFault) : Type 0 where
@@ -57,7 +58,7 @@ of_web : (address : Option (List ℕ)) → IsNoTooLong (web address)
 of_web (Some address) = of_ok address
 of_web None = record { differs = λ e. cc }
 
-of_page : (page : Data) → IsNoTooLong (page_of kept page)
+of_page : (page : Data) → IsNoTooLong (page_of KEPT page)
 unfolding page_of
 of_page page =
     of_bind _ _ (of_shape 0 field.Top (as_object page))

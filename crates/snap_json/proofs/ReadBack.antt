@@ -13,7 +13,7 @@ use Rattle.snap_tree.specs.declared.row.Body.{Body}
 use Rattle.snap_tree.specs.declared.row.Body.TheVariants.{Element, Words}
 use Rattle.snap_tree.specs.declared.row.Row.{Row}
 use Rattle.snap_json.specs.declared.limits.Limits.{Limits}
-use Rattle.snap_json.specs.Address.{address_of}
+use Rattle.web_address.specs.Address.{address_of}
 use Rattle.snap_json.specs.Fields.{whole, null_or_number, nonempty, space_named, attr, attrs, facts_named}
 use Rattle.snap_json.specs.Pages.{within, next_place, body_of, row_of, rows_of, page_of}
 use Rattle.snap_json.specs.Written.{letters, space_name, number_data, parent_data, attr_data, row_data, page_data}

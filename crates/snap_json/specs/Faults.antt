@@ -1,5 +1,5 @@
 -- How faults are printed, and what it is that a call gives what a definition does.
-use Rattle.std.specs.Prelude.{◌≡◌, ℕ, List, [], ◌++◌, codes, decimal, Option, Some, None, Result, Ok, Err}
+use Rattle.std.specs.Prelude.{◌≡◌, ◌⊎◌, ℕ, List, [], ◌++◌, codes, decimal, Option, Some, None, Result, Ok, Err}
 use Rattle.std.specs.Option.{option_map_or}
 use Rattle.snap_tree.specs.FaultText as tree
 use Rattle.snap_json.specs.declared.fault.Field.{Field}
@@ -57,16 +57,11 @@ abbrev pub in_shape : {A : Type 0} → ℕ → Field → Option A → Result A S
 in_shape place f (Some x) = Ok x
 in_shape place f None = Err (Shape place f)
 
--- the call failed as the definition does, unless memory ran out
-abbrev pub Fails : {A : Type 0} → SnapFault → Result A SnapFault → Type 0
-Fails NotJson given = given ≡ Err NotJson
-Fails (Shape place f) given = given ≡ Err (Shape place f)
-Fails BadUrl given = given ≡ Err BadUrl
-Fails (Tree f) given = given ≡ Err (Tree f)
-Fails TooLong given = given ≡ Err TooLong
-Fails OutOfMemory given = Unit {0}
-
 -- what the call answered is what the definition gives, unless memory ran out
 abbrev pub Gives : {A : Type 0} → Result A SnapFault → Result A SnapFault → Type 0
-Gives (Ok x) given = given ≡ Ok x
-Gives (Err e) given = Fails e given
+Gives (Err OutOfMemory) given = Unit {0}
+Gives answer given = given ≡ answer
+
+-- the same, as one choice
+abbrev pub Answers : {A : Type 0} → Result A SnapFault → Result A SnapFault → Type 0
+Answers answer given = (answer ≡ given) ⊎ (answer ≡ Err OutOfMemory)

@@ -1,5 +1,4 @@
 pub mod Faults
-pub mod Address
 pub mod Fields
 pub mod Seen
 pub mod Pages

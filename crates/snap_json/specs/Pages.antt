@@ -4,21 +4,22 @@ use Rattle.std.specs.Str.{is_utf8}
 use Rattle.serde_json.specs.Data.{Data, Items, no_items, item}
 use Rattle.serde_json.specs.Find.{get, as_array, as_object}
 use Rattle.serde_json.specs.Read.{read}
+use Rattle.web_address.specs.Address.{address_of}
 use Rattle.snap_tree.specs.declared.row.Row.{Row}
 use Rattle.snap_tree.specs.declared.row.Raw.{Raw}
 use Rattle.snap_tree.specs.declared.row.Body.{Body}
 use Rattle.snap_tree.specs.declared.row.Body.TheVariants.{Element, Words}
 use Rattle.snap_tree.specs.declared.fault.TreeFault.{TreeFault}
 use Rattle.snap_tree.specs.Trees.{Document}
-use Rattle.snap_tree.specs.Grown.{grown}
+use Rattle.snap_tree.specs.Grown.{page_of as document_of}
 use Rattle.snap_tree.specs.Faults.{tree_fault}
 use Rattle.snap_json.specs.declared.fault.Field.TheVariants as field
 use Rattle.snap_json.specs.declared.fault.SnapFault.{SnapFault}
 use Rattle.snap_json.specs.declared.fault.SnapFault.TheVariants.{NotJson, Shape, BadUrl, Tree, TooLong}
 use Rattle.snap_json.specs.declared.limits.Limits.{Limits}
+use Rattle.snap_json.specs.declared.limits.TheConstants.{SENT, KEPT}
 use Rattle.snap_json.specs.Faults.{◌>>=◌, in_shape}
 use Rattle.snap_json.specs.Fields.{number_of, parent_of, text_of, name_of, space_of, attrs_of, facts_of}
-use Rattle.snap_json.specs.Address.{address_of}
 
 -- an element, of a row with a tag
 abbrev pub element_from : ℕ → Data → Data → Result Body SnapFault
@@ -108,7 +109,7 @@ page_in limits bytes =
 
 -- the tree of a page, unless its rows have a fault
 abbrev pub built_unless : Option TreeFault → Raw → Result Document SnapFault
-built_unless None raw = Ok (record { address = raw.address; trees = grown raw.rows })
+built_unless None raw = Ok (document_of raw)
 built_unless (Some f) raw = Err (Tree f)
 
 abbrev pub built : Raw → Result Document SnapFault
@@ -119,17 +120,11 @@ unfoldable pub tree_in : Limits → List ℕ → Result Document SnapFault
 tree_in limits bytes = page_in limits bytes >>= built
 
 -- What is sent has at most 8,388,608 bytes, and 65,536 in its address. What is kept has no such limit.
-abbrev pub sent : Limits
-sent = record { snapshot = Some 8388608; address = Some 65536 }
-
-abbrev pub kept : Limits
-kept = record { snapshot = None; address = None }
-
 abbrev pub sent_page : List ℕ → Result Raw SnapFault
-sent_page bytes = page_in sent bytes
+sent_page bytes = page_in SENT bytes
 
 abbrev pub sent_tree : List ℕ → Result Document SnapFault
-sent_tree bytes = tree_in sent bytes
+sent_tree bytes = tree_in SENT bytes
 
 abbrev pub kept_tree : List ℕ → Result Document SnapFault
-kept_tree bytes = tree_in kept bytes
+kept_tree bytes = tree_in KEPT bytes

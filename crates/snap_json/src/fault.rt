@@ -3,7 +3,7 @@ ghost use Rattle.snap_json.specs.Faults.{fault_number, fault_name, fault_text, f
 ghost use Rattle.snap_json.specs.declared.fault.SnapFault.TheVariants.{OutOfMemory as Unread};
 
 use snap_tree::{OutOfMemory, TreeFault};
-use std::alloc::AllocFailed;
+use std::alloc::{AllocError, AllocFailed};
 use std::error::Error;
 use std::fmt;
 
@@ -121,6 +121,14 @@ impl From<OutOfMemory> for SnapFault {
     ghost from_gives = { λ _ e. e ≡ Unread };
 
     fn from(_error: OutOfMemory) -> Self {
+        SnapFault::OutOfMemory
+    }
+}
+
+impl From<AllocError> for SnapFault {
+    ghost from_gives = { λ _ e. e ≡ Unread };
+
+    fn from(_error: AllocError) -> Self {
         SnapFault::OutOfMemory
     }
 }

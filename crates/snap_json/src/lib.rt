@@ -16,7 +16,6 @@
 //! is kept as that standard writes it.
 #![tactic(auto)]
 
-mod address;
 mod fault;
 mod fields;
 mod limits;
@@ -27,5 +26,6 @@ mod tests;
 mod writing;
 
 pub use fault::{Field, SnapFault};
+pub use limits::{MOST_ADDRESS_BYTES, MOST_SNAPSHOT_BYTES};
 pub use reading::{read_kept, read_raw, read_snapshot};
 pub use writing::write_snapshot;

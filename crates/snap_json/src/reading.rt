@@ -1,12 +1,9 @@
-ghost use Rattle.std.specs.Prelude.{◌≡◌, ◌≢◌, ◌⊎◌, Ok, Err, IfOk, IfErr, option_map};
+ghost use Rattle.std.specs.Prelude.{◌≡◌, ◌≢◌, Err, IfOk, option_map};
 ghost use Rattle.serde_json.specs.View.{view};
-ghost use Rattle.snap_tree.specs.declared.row.Raw.{Raw};
-ghost use Rattle.snap_tree.specs.Trees.{Document};
-ghost use Rattle.snap_json.specs.Address.{IsWebAddress};
-ghost use Rattle.snap_json.specs.Faults.{Gives};
+ghost use Rattle.web_address.specs.Address.{IsWebAddress};
+ghost use Rattle.snap_json.specs.Faults.{Gives, Answers};
 ghost use Rattle.snap_json.specs.Pages.{address_from, json_of, page_of, page_in, built, tree_in, sent_page, sent_tree, kept_tree, within};
 
-use crate::address::read_address;
 use crate::fault::{Field, SnapFault};
 use crate::fields;
 use crate::limits::{KEPT, Limits, SENT};
@@ -14,18 +11,14 @@ use crate::rows::{in_shape, rows_of};
 use serde_json::Value;
 use snap_tree::{BuildFault, OutOfMemory, Raw, Text, Tree};
 use std::alloc::Global;
+use web_address::read_address;
 
 /// Reads a snapshot without building its tree. A snapshot has at most 8,388,608 bytes, and its address
 /// at most 65,536. Of several faults the first is answered: TooLong, NotJson, Shape with place 0,
 /// BadUrl, then Shape with the place of the first bad row and its first bad field.
+#[tactic(auto, using(crate::proofs::Answering::answers))]
 pub fn read_raw(alloc: Global, bytes: &[u8]) -> Result<Raw, SnapFault>
-    // It answers what the definition gives: the page, or the first fault.
-    ensures exact { Gives result (sent_page bytes.now) }
-    ensures accepted { IfOk result (λ raw. sent_page bytes.now ≡ Ok raw) }
-    ensures accepts { (raw : Raw) → sent_page bytes.now ≡ Ok raw
-        → (result ≡ Ok raw) ⊎ (result ≡ Err SnapFault.OutOfMemory) }
-    ensures refused { IfErr result (λ e. (sent_page bytes.now ≡ Err e)
-        ⊎ (e ≡ SnapFault.OutOfMemory)) }
+    ensures exact { Answers result (sent_page bytes.now) }
     ensures web_address { IfOk result (λ raw. IsWebAddress raw.address) }
 {
     page_in(alloc, SENT, bytes)
@@ -33,14 +26,9 @@ pub fn read_raw(alloc: Global, bytes: &[u8]) -> Result<Raw, SnapFault>
 
 /// Reads a snapshot and builds its tree. The faults are those of `read_raw`, and last the first one
 /// of the rows, which `Tree::build` names.
+#[tactic(auto, using(crate::proofs::Answering::answers))]
 pub fn read_snapshot(alloc: Global, bytes: &[u8]) -> Result<Tree, SnapFault>
-    // It answers what the definition gives: the tree, or the first fault.
-    ensures exact { Gives result (sent_tree bytes.now) }
-    ensures accepted { IfOk result (λ tree. sent_tree bytes.now ≡ Ok tree) }
-    ensures accepts { (tree : Document) → sent_tree bytes.now ≡ Ok tree
-        → (result ≡ Ok tree) ⊎ (result ≡ Err SnapFault.OutOfMemory) }
-    ensures refused { IfErr result (λ e. (sent_tree bytes.now ≡ Err e)
-        ⊎ (e ≡ SnapFault.OutOfMemory)) }
+    ensures exact { Answers result (sent_tree bytes.now) }
     ensures web_address { IfOk result (λ tree. IsWebAddress tree.address) }
 {
     tree_in(alloc, SENT, bytes)
@@ -48,14 +36,9 @@ pub fn read_snapshot(alloc: Global, bytes: &[u8]) -> Result<Tree, SnapFault>
 
 /// Reads a snapshot that was written and kept, as `read_snapshot` does but with no limit on the bytes
 /// or on the address. It never answers TooLong.
+#[tactic(auto, using(crate::proofs::Answering::answers))]
 pub fn read_kept(alloc: Global, bytes: &[u8]) -> Result<Tree, SnapFault>
-    // It answers what the definition gives: the tree, or the first fault.
-    ensures exact { Gives result (kept_tree bytes.now) }
-    ensures accepted { IfOk result (λ tree. kept_tree bytes.now ≡ Ok tree) }
-    ensures accepts { (tree : Document) → kept_tree bytes.now ≡ Ok tree
-        → (result ≡ Ok tree) ⊎ (result ≡ Err SnapFault.OutOfMemory) }
-    ensures refused { IfErr result (λ e. (kept_tree bytes.now ≡ Err e)
-        ⊎ (e ≡ SnapFault.OutOfMemory)) }
+    ensures exact { Answers result (kept_tree bytes.now) }
     ensures web_address { IfOk result (λ tree. IsWebAddress tree.address) }
     ensures never_too_long { result ≢ Err SnapFault.TooLong }
 {
@@ -131,7 +114,10 @@ fn address_from(alloc: Global, limit: Option<usize>, text: &str) -> Result<Text,
     if !within(limit, text.len()) {
         return Err(SnapFault::BadUrl);
     }
-    read_address(alloc, text)?.ok_or(SnapFault::BadUrl)
+    match read_address(alloc, text)? {
+        Some(address) => Ok(Text::from_string(address)),
+        None => Err(SnapFault::BadUrl),
+    }
 }
 
 fn within(limit: Option<usize>, len: usize) -> bool

@@ -5,10 +5,11 @@ ghost use Rattle.serde_json.specs.View.{view, items_of, items_view, members_view
 ghost use Rattle.serde_json.specs.Written.{compact_text};
 ghost use Rattle.snap_json.specs.Small.{IsSmall};
 ghost use Rattle.snap_tree.specs.Trees.{rows_of};
-ghost use Rattle.snap_json.specs.Address.{IsWebAddress};
+ghost use Rattle.web_address.specs.Address.{IsWebAddress};
 ghost use Rattle.snap_json.specs.Pages.{json_of, kept_tree, sent_tree};
-ghost use Rattle.snap_json.specs.Written.{letters, space_name, number_data, parent_data, attr_data, element_data, words_data, row_data, page_data, snapshot_text};
+ghost use Rattle.snap_json.specs.Written.{letters, space_name, number_data, parent_data, attr_data, common_data, element_data, words_data, row_data, page_data, snapshot_text};
 
+use crate::limits::{MOST_ADDRESS_BYTES, MOST_SNAPSHOT_BYTES};
 use serde_json::{Map, Value, put};
 use snap_tree::{Attr, Body, Facts, List, NodeId, OutOfMemory, Row, Space, Text, Tree};
 use std::alloc::Global;
@@ -24,8 +25,8 @@ pub fn write_snapshot(alloc: Global, tree: &Tree) -> Result<Vec<u8>, OutOfMemory
     ensures kept { IfOk result
         (λ b. IsWebAddress tree.now.address → kept_tree b.items ≡ Ok tree.now) }
     ensures sent { IfOk result
-        (λ b. IsWebAddress tree.now.address → length b.items ≤ 8388608
-        → length tree.now.address ≤ 65536 → sent_tree b.items ≡ Ok tree.now) }
+        (λ b. IsWebAddress tree.now.address → length b.items ≤ MOST_SNAPSHOT_BYTES
+        → length tree.now.address ≤ MOST_ADDRESS_BYTES → sent_tree b.items ≡ Ok tree.now) }
 {
     page_text(alloc, tree.address(), tree.rows())
 }
@@ -87,23 +88,11 @@ fn element_members(
         (λ m. members_view m.entries ≡ element_data row.now space tag.now attrs.now) }
     ensures small { OnOk result (IsSmall row.now) }
 {
-    let mut members = Map::new(alloc);
-    let attrs = attrs_value(alloc, attrs.as_slice())?;
-    put(&mut members, alloc, "attrs", Value::Array(attrs))?;
-    put(
-        &mut members,
-        alloc,
-        "f",
-        Value::String(letters(alloc, row.facts)?),
-    )?;
-    put(&mut members, alloc, "n", number_value(row.id))?;
-    put(
-        &mut members,
-        alloc,
-        "ns",
-        Value::try_from_str(alloc, space_name(space))?,
-    )?;
-    put(&mut members, alloc, "p", parent_value(row.parent))?;
+    let mut members = common_members(alloc, row)?;
+    let attrs = Value::Array(attrs_value(alloc, attrs.as_slice())?);
+    put(&mut members, alloc, "attrs", attrs)?;
+    let space = Value::try_from_str(alloc, space_name(space))?;
+    put(&mut members, alloc, "ns", space)?;
     put(&mut members, alloc, "tag", text_value(alloc, tag)?)?;
     Ok(members)
 }
@@ -112,16 +101,21 @@ fn words_members(alloc: Global, row: &Row, text: &Text) -> Result<Map<String, Va
     ensures value { IfOk result (λ m. members_view m.entries ≡ words_data row.now text.now) }
     ensures small { OnOk result (IsSmall row.now) }
 {
+    let mut members = common_members(alloc, row)?;
+    put(&mut members, alloc, "text", text_value(alloc, text)?)?;
+    Ok(members)
+}
+
+/// The members of any row: its facts, its number, and its parent's.
+fn common_members(alloc: Global, row: &Row) -> Result<Map<String, Value>, OutOfMemory>
+    ensures value { IfOk result (λ m. members_view m.entries ≡ common_data row.now) }
+    ensures small { OnOk result (IsSmall row.now) }
+{
     let mut members = Map::new(alloc);
-    put(
-        &mut members,
-        alloc,
-        "f",
-        Value::String(letters(alloc, row.facts)?),
-    )?;
+    let facts = Value::String(letters(alloc, row.facts)?);
+    put(&mut members, alloc, "f", facts)?;
     put(&mut members, alloc, "n", number_value(row.id))?;
     put(&mut members, alloc, "p", parent_value(row.parent))?;
-    put(&mut members, alloc, "text", text_value(alloc, text)?)?;
     Ok(members)
 }
 

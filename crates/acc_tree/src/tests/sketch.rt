@@ -22,7 +22,7 @@ fn row_of(alloc: Global, row: &str) -> Result<Row, Fail> {
     let (tag, attrs) = cut(row);
     let id = NodeId(number_of(number)?);
     let parent = parent_of(number_of(parent)?);
-    let facts = facts_of(attrs);
+    let facts = facts_of(letters_of(attrs));
     let body = match tag.strip_prefix('#') {
         Some(text) => words(alloc, text)?,
         None => element(alloc, tag, attrs)?,
@@ -69,13 +69,17 @@ fn attrs_of(alloc: Global, text: &str) -> Result<List<Attr>, OutOfMemory> {
     Ok(List::from_vec(attrs))
 }
 
-fn facts_of(attrs: &str) -> Facts {
-    let mut letters = "rv";
+// The letters of a row's facts, as its sketch gives them.
+fn letters_of(attrs: &str) -> &str {
     for part in attrs.split(' ') {
-        if let Some(given) = part.strip_prefix('!') {
-            letters = given;
+        if let Some(letters) = part.strip_prefix('!') {
+            return letters;
         }
     }
+    "rv"
+}
+
+fn facts_of(letters: &str) -> Facts {
     Facts {
         rendered: letters.contains('r'),
         visible: letters.contains('v'),

@@ -69,16 +69,17 @@ fn verdict_on_rows(alloc: Global, first: &str, count: u32) -> Result<String, Fai
     verdict_on(alloc, FORM, edit.as_str())
 }
 
+const INSERTED: [(&str, u32, &str); 4] = [
+    ("60 0 p", 9_996, "well"),
+    ("60 0 p", 9_997, "0: 8 2"),
+    ("60 0 #x", 9_999, "0: 8 9 2000"),
+    ("60 0 #x", 10_000, "0: 8 2"),
+];
+
 #[test]
 fn inserted_rows_are_10000_at_most(rt: HostRuntime) -> Result<(), Fail> {
     let alloc = rt.alloc();
-    let cases = [
-        ("60 0 p", 9_996, "well"),
-        ("60 0 p", 9_997, "0: 8 2"),
-        ("60 0 #x", 9_999, "0: 8 9 2000"),
-        ("60 0 #x", 10_000, "0: 8 2"),
-    ];
-    for (first, count, wanted) in cases {
+    for (first, count, wanted) in INSERTED {
         let verdict = verdict_on_rows(alloc, first, count)?;
         assert_eq!(rt; verdict.as_str(), wanted, "{first} {count}");
     }
@@ -91,21 +92,22 @@ fn verdict_is(rt: &impl Abort, alloc: Global, edits: &str, wanted: &str) -> Resu
     Ok(())
 }
 
+const TEXTS: [(&str, &str, &str); 8] = [
+    ("text 3 ", "", "well"),
+    ("text 3 ", "x", "0: 8 7 3"),
+    ("set 2 id ", "", "well"),
+    ("set 2 id ", "x", "0: 8 7 2"),
+    ("set 2 ", "", "well"),
+    ("set 2 ", "x", "0: 8 7 2"),
+    ("insert 2 0 60 0 #", "", "well"),
+    ("insert 2 0 60 0 #", "x", "0: 8 7 60"),
+];
+
 #[test]
 fn texts_have_65536_bytes_at_most(rt: HostRuntime) -> Result<(), Fail> {
     let alloc = rt.alloc();
     let text = times(alloc, "xxxxxxxxxxxxxxxx", 4_096)?;
-    let cases = [
-        ("text 3 ", "", "well"),
-        ("text 3 ", "x", "0: 8 7 3"),
-        ("set 2 id ", "", "well"),
-        ("set 2 id ", "x", "0: 8 7 2"),
-        ("set 2 ", "", "well"),
-        ("set 2 ", "x", "0: 8 7 2"),
-        ("insert 2 0 60 0 #", "", "well"),
-        ("insert 2 0 60 0 #", "x", "0: 8 7 60"),
-    ];
-    for (first, last, wanted) in cases {
+    for (first, last, wanted) in TEXTS {
         let edits = format!(in alloc; "{first}{text}{last}")?;
         verdict_is(&rt, alloc, edits.as_str(), wanted)?;
     }
@@ -122,17 +124,18 @@ fn attributes(alloc: Global, count: u32) -> Result<String, Fail> {
     Ok(edits)
 }
 
+const ATTRIBUTES: [(u32, &str, &str); 5] = [
+    (63, "", "well"),
+    (64, "", "63: 8 6 2"),
+    (63, "set 2 ID y", "well"),
+    (63, "set 2 b y", "63: 8 6 2"),
+    (63, "drop 2 id;set 2 b y", "well"),
+];
+
 #[test]
 fn elements_have_64_attributes_at_most(rt: HostRuntime) -> Result<(), Fail> {
     let alloc = rt.alloc();
-    let cases = [
-        (63, "", "well"),
-        (64, "", "63: 8 6 2"),
-        (63, "set 2 ID y", "well"),
-        (63, "set 2 b y", "63: 8 6 2"),
-        (63, "drop 2 id;set 2 b y", "well"),
-    ];
-    for (count, last, wanted) in cases {
+    for (count, last, wanted) in ATTRIBUTES {
         let attributes = attributes(alloc, count)?;
         let edits = format!(in alloc; "{attributes}{last}")?;
         verdict_is(&rt, alloc, edits.as_str(), wanted)?;

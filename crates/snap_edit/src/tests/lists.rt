@@ -1,12 +1,5 @@
-use super::listed::edits_of;
-use super::shown::shown;
-use super::sketch::{ADDRESS, built};
-use super::{Case, HEADINGS, answer, answer_to, each_answers, times};
-use crate::edit::Edit;
-use crate::edits::apply;
-use snap_tree::Tree;
+use super::{Case, HEADINGS, answer_to, each_answers, times};
 use std::alloc::Global;
-use std::process::Abort;
 use std::test::Fail;
 
 const CASES: [Case; 9] = [
@@ -42,59 +35,22 @@ fn answer_to_many(alloc: Global, first: &str, count: u32, last: &str) -> Result<
     answer_to(alloc, HEADINGS, edits.as_str())
 }
 
+const EDITED: &str = "1 0 html;2 1 body;5 2 h2 ^0;6 5 #A;7 2 div;8 7 h2;9 8 #B";
+
+const MANY: [(&str, u32, &str, &str); 6] = [
+    ("", 200, "", EDITED),
+    ("", 201, "", "200: 9"),
+    ("remove 4;", 199, "", "0: 1"),
+    ("remove 4;", 200, "", "200: 9"),
+    ("", 199, "remove 4", "199: 1"),
+    ("", 200, "remove 4", "200: 9"),
+];
+
 #[test]
 fn at_most_200_edits_are_carried_out(rt: HostRuntime) -> Result<(), Fail> {
-    let edited = "1 0 html;2 1 body;5 2 h2 ^0;6 5 #A;7 2 div;8 7 h2;9 8 #B";
-    let cases = [
-        ("", 200, "", edited),
-        ("", 201, "", "200: 9"),
-        ("remove 4;", 199, "", "0: 1"),
-        ("remove 4;", 200, "", "200: 9"),
-        ("", 199, "remove 4", "199: 1"),
-        ("", 200, "remove 4", "200: 9"),
-    ];
-    let alloc = rt.alloc();
-    for (first, count, last, wanted) in cases {
-        let answer = answer_to_many(alloc, first, count, last)?;
+    for (first, count, last, wanted) in MANY {
+        let answer = answer_to_many(rt.alloc(), first, count, last)?;
         assert_eq!(rt; answer.as_str(), wanted, "{first} {count} {last}");
     }
-    Ok(())
-}
-
-fn keeps_address(alloc: Global, tree: &Tree, edits: &str) -> Result<bool, Fail> {
-    let edits = edits_of(alloc, edits)?;
-    stays_at_address(alloc, tree, edits.as_slice())
-}
-
-fn stays_at_address(alloc: Global, tree: &Tree, edits: &[Edit]) -> Result<bool, Fail> {
-    Ok(apply(alloc, tree, edits)?.address().as_str() == ADDRESS)
-}
-
-// Whether a page is as its sketch after edits were applied to it.
-fn stays(alloc: Global, tree: &Tree, edits: &str) -> Result<bool, Fail> {
-    let edits = edits_of(alloc, edits)?;
-    let _answer = answer(alloc, tree, edits.as_slice())?;
-    Ok(shown(alloc, tree)?.as_str() == HEADINGS)
-}
-
-fn each_stays(rt: &impl Abort, alloc: Global, cases: &[Case]) -> Result<(), Fail> {
-    let tree = built(alloc, HEADINGS)?;
-    for (edits, _) in cases {
-        assert!(rt; stays(alloc, &tree, edits)?, "{edits}");
-    }
-    Ok(())
-}
-
-#[test]
-fn the_given_page_stays(rt: HostRuntime) -> Result<(), Fail> {
-    each_stays(&rt, rt.alloc(), CASES.as_slice())
-}
-
-#[test]
-fn the_address_stays(rt: HostRuntime) -> Result<(), Fail> {
-    let alloc = rt.alloc();
-    let tree = built(alloc, HEADINGS)?;
-    assert!(rt; keeps_address(alloc, &tree, "")?);
-    assert!(rt; keeps_address(alloc, &tree, "remove 5")?);
     Ok(())
 }

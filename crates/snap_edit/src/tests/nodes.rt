@@ -1,5 +1,5 @@
 use super::listed::edits_of;
-use super::sketch::{built, number_of};
+use super::sketch::built;
 use super::{Case, HEADINGS, each_answers};
 use crate::edit::Edit;
 use crate::edits::apply;
@@ -96,35 +96,30 @@ fn edited(alloc: Global, tree: &Tree, edits: &[Edit]) -> Result<Tree, Fail> {
     Ok(apply(alloc, tree, edits)?)
 }
 
-fn has_headings(alloc: Global, tree: &Tree, numbers: &str) -> Result<bool, Fail> {
-    let mut wanted = Vec::new(alloc);
-    for number in numbers.split(' ') {
-        wanted.push(NodeId(number_of(number)?))?;
-    }
+fn has_headings(alloc: Global, tree: &Tree, nodes: &[NodeId]) -> Result<bool, Fail> {
     let found = tree.tagged(alloc, &Text::from_str(alloc, "h2")?)?;
-    Ok(found.as_slice() == wanted.as_slice())
+    Ok(found.as_slice() == nodes)
 }
 
-fn gives_headings(alloc: Global, edits: &str, numbers: &str) -> Result<bool, Fail> {
+fn gives_headings(alloc: Global, edits: &str, nodes: &[NodeId]) -> Result<bool, Fail> {
     let tree = built(alloc, HEADINGS)?;
     let edits = edits_of(alloc, edits)?;
     let page = edited(alloc, &tree, edits.as_slice())?;
-    has_headings(alloc, &page, numbers)
+    has_headings(alloc, &page, nodes)
 }
+
+const HEADED: [(&str, &[NodeId]); 4] = [
+    ("move 5 7 1", &[NodeId(8), NodeId(5)]),
+    ("move 5 7 0", &[NodeId(5), NodeId(8)]),
+    ("remove 5", &[NodeId(8)]),
+    ("insert 7 0 60 0 H2", &[NodeId(5), NodeId(60), NodeId(8)]),
+];
 
 #[test]
 fn moved_headings_are_found_in_order(rt: HostRuntime) -> Result<(), Fail> {
-    let alloc = rt.alloc();
-    let cases = [
-        ("", "5 8"),
-        ("move 5 7 1", "8 5"),
-        ("move 8 2 0", "8 5"),
-        ("move 5 7 0", "5 8"),
-        ("remove 5", "8"),
-        ("insert 7 0 60 0 H2", "5 60 8"),
-    ];
-    for (edits, numbers) in cases {
-        assert!(rt; gives_headings(alloc, edits, numbers)?, "{edits}");
+    for (edits, nodes) in HEADED {
+        let is_found = gives_headings(rt.alloc(), edits, nodes)?;
+        assert!(rt; is_found, "{edits}");
     }
     Ok(())
 }

@@ -2,7 +2,7 @@ use snap_tree::{Attr, Body, Facts, List, NodeId, OutOfMemory, Raw, Row, Space, T
 use std::alloc::Global;
 use std::test::Fail;
 
-pub(super) const ADDRESS: &str = "https://example.org/";
+const ADDRESS: &str = "https://example.org/";
 
 // What a sketched row has of the browser: 1 for rendered and 2 for visible.
 pub(super) const SHOWN: u32 = 3;

@@ -31,7 +31,7 @@ returns-clause-edited c =
     let settled =
     settled_last (length c.args.earlier.now) c.in-Ok-carry_out.new.items c.args.last.now (grown c.in-Ok.rows.items)
     in
-    ok_both c.built.result _ _ _ c.built.ensures.tree c.built.ensures.sound
+    ok_both c.rebuilt.result _ _ _ c.rebuilt.ensures.tree c.rebuilt.ensures.sound
     (λ t is sound. last ∙ settled c.in-Ok-carry_out.ensures.made sound ∙ ap (λ d. Ok d.trees) (sym is))
 
 pub returns-clause-refused : goal.returns-clause-refused
@@ -43,6 +43,6 @@ returns-clause-refused c =
     let new = c.in-Ok-carry_out.new.items in
     let t = grown c.in-Ok.rows.items in
     let made = c.in-Ok-carry_out.ensures.made in
-    IfErr-weaker c.built.result _ _
+    IfErr-weaker c.rebuilt.result _ _
     (λ f broken. rw last (refused_last (length c.args.earlier.now) f new c.args.last.now t made broken))
-    c.built.ensures.refused
+    c.rebuilt.ensures.refused

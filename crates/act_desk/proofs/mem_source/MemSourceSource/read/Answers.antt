@@ -1,5 +1,5 @@
 use Rattle.std.proofs.Common.{length, drop, ◌+◌, Some, Ok, subst, arith}
-use Rattle.act_desk.specs.Memory.{Given}
+use Rattle.act_desk.specs.Memory.{Given, given_told}
 use Rattle.act_desk.specs.Streams.{Reads}
 use Rattle.act_desk.proofs.Fronts.{reads_front}
 use Rattle.act_desk.proofs.mem_source.MemSourceSource.read.Goals as goal
@@ -8,5 +8,5 @@ pub returns-clause-reads : goal.returns-clause-reads
 returns-clause-reads c =
     let s = c.self.inside in
     let n = c.copy_front-n.result in
-    let P : Given → Type 0 = λ source. Reads (Some source.left) (Some (drop (s.at + n) s.bytes)) c.copy_front-n.new.buf (Ok n) in
-    subst P c.self.view_is (reads_front s.bytes c.copy_front-n.new.buf s.at (length c.args.buf.now) s.piece n c.self.invariant c.requires (omega arith) (cc) (cc))
+    let P : Given → Type 0 = λ source. Reads (given_told source) (record { faults = s.faults; left = Some (drop (s.at + n) s.bytes) }) c.copy_front-n.new.buf (Ok n) in
+    subst P c.self.view_is (reads_front s.bytes c.copy_front-n.new.buf s.at (length c.args.buf.now) s.piece n s.faults c.self.invariant c.requires (omega arith) (cc) (cc))
