@@ -1,0 +1,4 @@
+pub mod RowFirst
+pub mod Beginning
+pub mod Joining
+pub mod Stopping

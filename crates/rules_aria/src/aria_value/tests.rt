@@ -1,0 +1,89 @@
+use super::*;
+use crate::samples::Node::{Facts, Html};
+use crate::samples::{Attrs, Told, tells};
+use rule_core::Auto::{CantTell, Failed, Passed};
+use std::test::Fail;
+
+#[test]
+fn each_value_is_of_its_kind(rt: HostRuntime) -> Result<(), Fail> {
+    let rows: [(Attrs, Told); 9] = [
+        (
+            &[("aria-checked", "yes")],
+            Some((Failed, Reason::BadValue, "aria-checked=yes")),
+        ),
+        (
+            &[("aria-checked", "Mixed")],
+            Some((Passed, Reason::Met, "aria-checked=Mixed")),
+        ),
+        (&[("aria-checked", " ")], None),
+        (&[("aria-foo", "x")], None),
+        (&[("title", "x")], None),
+        (
+            &[("aria-label", "x"), ("aria-level", "two")],
+            Some((Failed, Reason::BadValue, "aria-label=x\naria-level=two")),
+        ),
+        (
+            &[("aria-level", ""), ("aria-label", "x")],
+            Some((Passed, Reason::Met, "aria-level=\naria-label=x")),
+        ),
+        (
+            &[("aria-details", "a b")],
+            Some((Failed, Reason::BadValue, "aria-details=a b")),
+        ),
+        (
+            &[("aria-owns", "nobody"), ("aria-busy", "no")],
+            Some((Failed, Reason::BadValue, "aria-owns=nobody\naria-busy=no")),
+        ),
+    ];
+    for (row, (attrs, told)) in rows.iter().enumerate() {
+        let nodes = [Html(0, "div", *attrs)];
+        let agrees = tells(rt.alloc(), &AriaValueIsValid, &nodes, 1, *told)?;
+        assert!(rt; agrees, "row {row}");
+    }
+    Ok(())
+}
+
+#[test]
+fn a_reference_finds_an_element(rt: HostRuntime) -> Result<(), Fail> {
+    let rows: [(&str, &str, bool); 9] = [
+        ("aria-describedby", "here", true),
+        ("aria-labelledby", "gone", false),
+        ("aria-labelledby", "gone here", true),
+        ("aria-flowto", " gone\u{a0}nowhere", false),
+        ("aria-owns", "HERE", false),
+        ("aria-details", "here", true),
+        ("aria-details", "gone", false),
+        ("aria-controls", "gone", true),
+        ("aria-activedescendant", "gone", true),
+    ];
+    for (row, (name, value, alive)) in rows.iter().enumerate() {
+        let nodes = [
+            Html(0, "div", &[(*name, *value)]),
+            Html(1, "p", &[("id", "here")]),
+        ];
+        let tree = crate::samples::page(rt.alloc(), &nodes)?;
+        let verdict = AriaValueIsValid.judge(rt.alloc(), &tree, NodeId(1))?;
+        let auto = verdict.map(|verdict| (verdict.auto, verdict.reason));
+        let wanted = if *alive {
+            (Passed, Reason::Met)
+        } else {
+            (CantTell, Reason::DeadReference)
+        };
+        assert!(rt; auto == Some(wanted), "row {row}");
+    }
+    Ok(())
+}
+
+#[test]
+fn only_exposed_elements_are_targets(rt: HostRuntime) -> Result<(), Fail> {
+    let bad = ("aria-checked", "yes");
+    let nodes = [
+        Html(0, "div", &[bad, ("aria-hidden", "true")]),
+        Facts(1, "p", &[bad], "rv"),
+    ];
+    assert!(rt; tells(rt.alloc(), &AriaValueIsValid, &nodes, 1, None)?);
+    assert!(rt; tells(rt.alloc(), &AriaValueIsValid, &nodes, 2, None)?);
+    assert!(rt; tells(rt.alloc(), &AriaValueIsValid, &nodes, 3, None)?);
+    assert_eq!(rt; AriaValueIsValid.info().no.0, 20);
+    Ok(())
+}
