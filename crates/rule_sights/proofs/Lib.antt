@@ -1,0 +1,2 @@
+pub mod RowFirst
+pub mod RoleFirst
