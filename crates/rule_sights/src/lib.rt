@@ -8,7 +8,7 @@
 
 mod nodes;
 
-pub use nodes::{row_of, sight_as, sight_with};
+pub use nodes::{row_of, sight_as, sight_of_html, sight_with};
 
 #[cfg(test)]
 mod tests;

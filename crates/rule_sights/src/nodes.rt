@@ -1,5 +1,6 @@
 ghost use Rattle.std.specs.Prelude.{◌≡◌, option_map};
 ghost use Rattle.std.specs.Option.{option_copied};
+ghost use Rattle.snap_tree.specs.Rows.{is_html};
 ghost use Rattle.acc_tree.specs.Seen.{seen_row, seen, has};
 ghost use Rattle.acc_tree.specs.Sights.{seen_sight};
 ghost use Rattle.rule_sights.specs.Nodes.{sight_where, sight_as, row_of};
@@ -16,6 +17,18 @@ pub fn sight_with(tree: &Tree, n: NodeId, name: Attribute) -> Option<Sight<'_>>
 {
     match tree.node(n) {
         Some(row) if has(row, name) => sight_of(tree, n),
+        _ => None,
+    }
+}
+
+/// The sight of an HTML element of this tag, which compares ASCII case-insensitively. Of a node of
+/// another tag nothing else is looked at. None also for a number that the tree doesn't hold.
+#[tactic(auto, using(crate::proofs::RowFirst::no_node, crate::proofs::TagFirst::is_other, crate::proofs::TagFirst::is_that))]
+pub fn sight_of_html<'a>(tree: &'a Tree, n: NodeId, tag: &str) -> Option<Sight<'a>>
+    ensures { option_map seen_sight result ≡ sight_where (is_html tag.now) (seen tree.now.trees) n }
+{
+    match tree.node(n) {
+        Some(row) if row.is_html(tag) => sight_of(tree, n),
         _ => None,
     }
 }

@@ -1,4 +1,4 @@
-use crate::nodes::{row_of, sight_as, sight_with};
+use crate::nodes::{row_of, sight_as, sight_of_html, sight_with};
 use acc_tree::Attribute;
 use aria_tables::Role;
 use snap_tree::{Attr, Body, Facts, List, NodeId, Raw, Row, Space, Text, Tree};
@@ -54,6 +54,7 @@ fn nodes_are_found_by_what_they_are(rt: HostRuntime) -> Result<(), Fail> {
     for (n, is_there, has_role, is_list) in &NODES {
         let n = NodeId(*n);
         assert!(rt; row_of(&tree, n).is_some() == *is_there);
+        assert!(rt; sight_of_html(&tree, n, "ul").is_some() == (n == NodeId(1)));
         assert!(rt; sight_with(&tree, n, Attribute::RoleAttr).is_some() == *has_role);
         let listed = sight_as(&tree, n, &[Role::ListRole, Role::Listitem]);
         assert!(rt; listed.is_some() == *is_list);
