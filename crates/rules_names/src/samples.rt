@@ -15,19 +15,14 @@ pub type Case = (&'static str, u32, Told);
 /// What is looked at of a verdict.
 pub type Told = Option<(Auto, Reason, &'static str)>;
 
-/// The rows of a page, or of a part of it.
-pub fn rows(alloc: Global, page: &str) -> Result<List<Row>, Fail> {
+/// A page that is written as rows.
+pub fn page(alloc: Global, page: &str) -> Result<Tree, Fail> {
     let mut rows = Vec::new(alloc);
     for row in page.split(';') {
         rows.push(row_of(alloc, row)?)?;
     }
-    Ok(List::from_vec(rows))
-}
-
-/// The page of some rows.
-pub fn page(alloc: Global, page: &str) -> Result<Tree, Fail> {
     let address = Text::from_str(alloc, "https://example.org/")?;
-    let rows = rows(alloc, page)?;
+    let rows = List::from_vec(rows);
     Ok(Tree::build(alloc, Raw { address, rows })?)
 }
 

@@ -3,12 +3,11 @@ use crate::form_field::FormFieldHasName;
 use crate::heading::HeadingHasName;
 use crate::image::ImageHasName;
 use crate::link::LinkHasName;
-use crate::samples::{Case, each_is_told, page, rows, tells};
+use crate::samples::{Case, each_is_told, page, tells};
 use rule_core::Auto::{Failed, Passed};
 use rule_core::Reason::{Met, NoName};
 use rule_core::Rule;
-use snap_edit::{Edit, apply};
-use snap_tree::{NodeId, Text, Tree};
+use snap_tree::{Text, Tree};
 use std::alloc::Global;
 use std::fmt::Write;
 use std::test::Fail;
@@ -73,33 +72,27 @@ fn long_names_stand_by_their_digests(rt: HostRuntime) -> Result<(), Fail> {
     Ok(())
 }
 
-fn edited(alloc: Global, tree: &Tree, edit: Edit) -> Result<Tree, Fail> {
-    match apply(alloc, tree, &[edit]) {
-        Ok(tree) => Ok(tree),
-        Err(_) => Err(Fail::from("an edit")),
-    }
-}
+// A link that refers to a text, and the same page with an empty element of that id before it.
+static REFERENCES: [Case; 2] = [
+    (
+        "1 0 html;2 1 body;10 2 a href=/ aria-labelledby=t;40 2 p id=t;41 40 #Old",
+        10,
+        Some((Passed, Met, "link\nOld")),
+    ),
+    (
+        "1 0 html;2 1 body;50 2 span id=t;10 2 a href=/ aria-labelledby=t;40 2 p id=t;41 40 #Old",
+        10,
+        Some((Failed, NoName, "link\n")),
+    ),
+];
 
 #[test]
-fn an_edit_moves_what_a_reference_finds(rt: HostRuntime) -> Result<(), Fail> {
-    let alloc = rt.alloc();
-    let nodes = "1 0 html;2 1 body;10 2 a href=/ aria-labelledby=t;40 2 p id=t;41 40 #Old";
-    let tree = page(alloc, nodes)?;
-    let named = Some((Passed, Met, "link\nOld"));
-    assert!(rt; tells(alloc, &LinkHasName, &tree, 10, named)?);
-    let edit = Edit::Insert {
-        parent: NodeId(2),
-        place: 0,
-        rows: rows(alloc, "50 0 span id=t")?,
-    };
-    let tree = edited(alloc, &tree, edit)?;
-    let nameless = Some((Failed, NoName, "link\n"));
-    assert!(rt; tells(alloc, &LinkHasName, &tree, 10, nameless)?);
-    Ok(())
+fn a_reference_finds_the_first_of_an_id(rt: HostRuntime) -> Result<(), Fail> {
+    each_is_told(&rt, rt.alloc(), &LinkHasName, &REFERENCES)
 }
 
-// The targets of a rule in document order, each with a space before it.
-fn targets<R: Rule>(alloc: Global, rule: &R, tree: &Tree) -> Result<Text, Fail> {
+// The nodes that pass a rule in document order, each behind a space.
+fn passing<R: Rule>(alloc: Global, rule: &R, tree: &Tree) -> Result<Text, Fail> {
     let mut numbers = String::new(alloc);
     for row in tree.rows() {
         if let Some(verdict) = rule.judge(alloc, tree, row.id)? {
@@ -111,28 +104,28 @@ fn targets<R: Rule>(alloc: Global, rule: &R, tree: &Tree) -> Result<Text, Fail> 
     Ok(Text::from_string(numbers))
 }
 
-// Which heading is moved below which node, at which place, and the headings in their order then.
-static MOVES: [(u32, u32, u32, &str); 2] = [(5, 7, 1, " 8 5"), (8, 2, 0, " 8 5")];
+// Two headings; the first moved behind the second, and the second before the first.
+static ORDERS: [(&str, &str); 3] = [
+    (
+        "1 0 html;2 1 body;5 2 h2;6 5 #A;7 2 div;8 7 h2;9 8 #B",
+        " 5 8",
+    ),
+    (
+        "1 0 html;2 1 body;7 2 div;8 7 h2;9 8 #B;5 7 h2;6 5 #A",
+        " 8 5",
+    ),
+    (
+        "1 0 html;2 1 body;8 2 h2;9 8 #B;5 2 h2;6 5 #A;7 2 div",
+        " 8 5",
+    ),
+];
 
 #[test]
 fn headings_follow_the_order_of_the_page(rt: HostRuntime) -> Result<(), Fail> {
-    let alloc = rt.alloc();
-    let tree = page(
-        alloc,
-        "1 0 html;2 1 body;5 2 h2;6 5 #A;7 2 div;8 7 h2;9 8 #B",
-    )?;
-    assert_eq!(rt; targets(alloc, &HeadingHasName, &tree)?.as_str(), " 5 8");
-    for (node, parent, place, headings) in &MOVES {
-        let edit = Edit::Move {
-            node: NodeId(*node),
-            parent: NodeId(*parent),
-            place: *place,
-        };
-        let moved = edited(alloc, &tree, edit)?;
-        assert_eq!(rt;
-            targets(alloc, &HeadingHasName, &moved)?.as_str(),
-            *headings
-        );
+    for (nodes, headings) in &ORDERS {
+        let tree = page(rt.alloc(), nodes)?;
+        let passing = passing(rt.alloc(), &HeadingHasName, &tree)?;
+        assert_eq!(rt; passing.as_str(), *headings);
     }
     Ok(())
 }
