@@ -1,6 +1,5 @@
 -- The nodes at which the Tab key stops, among rows and among what is seen of them.
 use Rattle.std.proofs.Common.{◌≡◌, Bool, true, false, cond, List, [], ◌∷◌, map, filter, refl, ap, ◌∙◌}
-use Rattle.snap_tree.specs.declared.row.NodeId.{NodeId}
 use Rattle.snap_tree.specs.declared.row.Row.{Row}
 use Rattle.snap_tree.specs.Trees.{Trees, rows_of}
 use Rattle.acc_tree.specs.Seen.{seen_row, seen}

@@ -1,5 +1,5 @@
 -- Which ARIA attributes are defined.
-use Rattle.std.specs.Prelude.{◌&&◌, not, List, [], ◌∷◌, codes, Bool, false, true, if◌then◌else◌, Option, Some, None}
+use Rattle.std.specs.Prelude.{◌&&◌, not, List, [], ◌∷◌, codes, Bool, if◌then◌else◌, Option, Some, None}
 use Rattle.std.specs.Option.{is_none}
 use Rattle.std.specs.List.{list_any}
 use Rattle.snap_tree.specs.declared.row.NodeId.{NodeId}

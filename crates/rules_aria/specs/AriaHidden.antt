@@ -1,9 +1,9 @@
 -- What stands inside an element with aria-hidden.
-use Rattle.std.specs.Prelude.{ℕ, List, [], ◌∷◌, map, filter, codes, decimal, Bool, if◌then◌else◌, Option, Some, None}
+use Rattle.std.specs.Prelude.{ℕ, List, [], ◌∷◌, map, filter, codes, decimal, if◌then◌else◌, Option, Some, None}
 use Rattle.std.specs.List.{join_with_byte}
 use Rattle.snap_tree.specs.declared.row.NodeId.{NodeId}
 use Rattle.snap_tree.specs.declared.row.Row.{Row}
-use Rattle.snap_tree.specs.Trees.{Trees, Document, rows_of}
+use Rattle.snap_tree.specs.Trees.{Document, rows_of}
 use Rattle.aria_tables.specs.declared.attr.AriaAttr.TheVariants as aria
 use Rattle.acc_tree.specs.declared.attributes.Attribute.TheVariants as attribute
 use Rattle.acc_tree.specs.Inclusion.{is_hidden}

@@ -2,40 +2,42 @@ use super::*;
 use crate::samples::Node::{Facts, Html};
 use crate::samples::{Attrs, Told, tells};
 use rule_core::Auto::{CantTell, Failed, Passed};
+use rule_core::Reason::{BadValue, DeadReference, Met};
 use std::test::Fail;
+
+static ELEMENTS: [(Attrs, Told); 9] = [
+    (
+        &[("aria-checked", "yes")],
+        Some((Failed, BadValue, "aria-checked=yes")),
+    ),
+    (
+        &[("aria-checked", "Mixed")],
+        Some((Passed, Met, "aria-checked=Mixed")),
+    ),
+    (&[("aria-checked", " ")], None),
+    (&[("aria-foo", "x")], None),
+    (&[("title", "x")], None),
+    (
+        &[("aria-label", "x"), ("aria-level", "two")],
+        Some((Failed, BadValue, "aria-label=x\naria-level=two")),
+    ),
+    (
+        &[("aria-level", ""), ("aria-label", "x")],
+        Some((Passed, Met, "aria-level=\naria-label=x")),
+    ),
+    (
+        &[("aria-details", "a b")],
+        Some((Failed, BadValue, "aria-details=a b")),
+    ),
+    (
+        &[("aria-owns", "nobody"), ("aria-busy", "no")],
+        Some((Failed, BadValue, "aria-owns=nobody\naria-busy=no")),
+    ),
+];
 
 #[test]
 fn each_value_is_of_its_kind(rt: HostRuntime) -> Result<(), Fail> {
-    let rows: [(Attrs, Told); 9] = [
-        (
-            &[("aria-checked", "yes")],
-            Some((Failed, Reason::BadValue, "aria-checked=yes")),
-        ),
-        (
-            &[("aria-checked", "Mixed")],
-            Some((Passed, Reason::Met, "aria-checked=Mixed")),
-        ),
-        (&[("aria-checked", " ")], None),
-        (&[("aria-foo", "x")], None),
-        (&[("title", "x")], None),
-        (
-            &[("aria-label", "x"), ("aria-level", "two")],
-            Some((Failed, Reason::BadValue, "aria-label=x\naria-level=two")),
-        ),
-        (
-            &[("aria-level", ""), ("aria-label", "x")],
-            Some((Passed, Reason::Met, "aria-level=\naria-label=x")),
-        ),
-        (
-            &[("aria-details", "a b")],
-            Some((Failed, Reason::BadValue, "aria-details=a b")),
-        ),
-        (
-            &[("aria-owns", "nobody"), ("aria-busy", "no")],
-            Some((Failed, Reason::BadValue, "aria-owns=nobody\naria-busy=no")),
-        ),
-    ];
-    for (row, (attrs, told)) in rows.iter().enumerate() {
+    for (row, (attrs, told)) in ELEMENTS.iter().enumerate() {
         let nodes = [Html(0, "div", *attrs)];
         let agrees = tells(rt.alloc(), &AriaValueIsValid, &nodes, 1, *told)?;
         assert!(rt; agrees, "row {row}");
@@ -43,20 +45,21 @@ fn each_value_is_of_its_kind(rt: HostRuntime) -> Result<(), Fail> {
     Ok(())
 }
 
+static REFERENCES: [(&str, &str, bool); 9] = [
+    ("aria-describedby", "here", true),
+    ("aria-labelledby", "gone", false),
+    ("aria-labelledby", "gone here", true),
+    ("aria-flowto", " gone\u{a0}nowhere", false),
+    ("aria-owns", "HERE", false),
+    ("aria-details", "here", true),
+    ("aria-details", "gone", false),
+    ("aria-controls", "gone", true),
+    ("aria-activedescendant", "gone", true),
+];
+
 #[test]
 fn a_reference_finds_an_element(rt: HostRuntime) -> Result<(), Fail> {
-    let rows: [(&str, &str, bool); 9] = [
-        ("aria-describedby", "here", true),
-        ("aria-labelledby", "gone", false),
-        ("aria-labelledby", "gone here", true),
-        ("aria-flowto", " gone\u{a0}nowhere", false),
-        ("aria-owns", "HERE", false),
-        ("aria-details", "here", true),
-        ("aria-details", "gone", false),
-        ("aria-controls", "gone", true),
-        ("aria-activedescendant", "gone", true),
-    ];
-    for (row, (name, value, alive)) in rows.iter().enumerate() {
+    for (row, (name, value, alive)) in REFERENCES.iter().enumerate() {
         let nodes = [
             Html(0, "div", &[(*name, *value)]),
             Html(1, "p", &[("id", "here")]),
@@ -65,9 +68,9 @@ fn a_reference_finds_an_element(rt: HostRuntime) -> Result<(), Fail> {
         let verdict = AriaValueIsValid.judge(rt.alloc(), &tree, NodeId(1))?;
         let auto = verdict.map(|verdict| (verdict.auto, verdict.reason));
         let wanted = if *alive {
-            (Passed, Reason::Met)
+            (Passed, Met)
         } else {
-            (CantTell, Reason::DeadReference)
+            (CantTell, DeadReference)
         };
         assert!(rt; auto == Some(wanted), "row {row}");
     }

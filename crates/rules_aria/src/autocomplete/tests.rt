@@ -46,53 +46,55 @@ fn the_tokens_stand_in_their_order(rt: HostRuntime) {
     }
 }
 
+const NAME: (&str, &str) = ("autocomplete", "name");
+
+static FORM_FIELDS: [(&[Node], u32, bool); 18] = [
+    (&[Html(0, "input", &[NAME])], 1, true),
+    (&[Html(0, "INPUT", &[("type", "image"), NAME])], 1, true),
+    (&[Html(0, "select", &[NAME])], 1, true),
+    (&[Html(0, "textarea", &[NAME])], 1, true),
+    (&[Html(0, "input", &[("type", "hidden"), NAME])], 1, false),
+    (&[Html(0, "input", &[("type", "Submit"), NAME])], 1, false),
+    (&[Html(0, "input", &[("type", " submit"), NAME])], 1, true),
+    (&[Html(0, "button", &[NAME])], 1, false),
+    (&[Svg(0, "input", &[NAME])], 1, false),
+    (&[Html(0, "input", &[("autocomplete", " ")])], 1, false),
+    (&[Html(0, "input", &[("autocomplete", " OFF ")])], 1, false),
+    (&[Html(0, "input", &[NAME, ("disabled", "")])], 1, false),
+    (
+        &[Html(0, "input", &[NAME, ("aria-disabled", "True")])],
+        1,
+        false,
+    ),
+    (
+        &[Html(0, "input", &[NAME, ("aria-disabled", "false")])],
+        1,
+        true,
+    ),
+    (
+        &[
+            Html(0, "fieldset", &[("disabled", "")]),
+            Html(1, "p", &[]),
+            Html(2, "input", &[NAME]),
+        ],
+        3,
+        false,
+    ),
+    (
+        &[
+            Html(0, "div", &[("disabled", "")]),
+            Html(1, "input", &[NAME]),
+        ],
+        2,
+        true,
+    ),
+    (&[Facts(0, "input", &[NAME], "r")], 1, false),
+    (&[Html(0, "input", &[NAME])], 2, false),
+];
+
 #[test]
 fn fields_that_ask_for_data_are_targets(rt: HostRuntime) -> Result<(), Fail> {
-    let name = ("autocomplete", "name");
-    let rows: [(&[Node], u32, bool); 18] = [
-        (&[Html(0, "input", &[name])], 1, true),
-        (&[Html(0, "INPUT", &[("type", "image"), name])], 1, true),
-        (&[Html(0, "select", &[name])], 1, true),
-        (&[Html(0, "textarea", &[name])], 1, true),
-        (&[Html(0, "input", &[("type", "hidden"), name])], 1, false),
-        (&[Html(0, "input", &[("type", "Submit"), name])], 1, false),
-        (&[Html(0, "input", &[("type", " submit"), name])], 1, true),
-        (&[Html(0, "button", &[name])], 1, false),
-        (&[Svg(0, "input", &[name])], 1, false),
-        (&[Html(0, "input", &[("autocomplete", " ")])], 1, false),
-        (&[Html(0, "input", &[("autocomplete", " OFF ")])], 1, false),
-        (&[Html(0, "input", &[name, ("disabled", "")])], 1, false),
-        (
-            &[Html(0, "input", &[name, ("aria-disabled", "True")])],
-            1,
-            false,
-        ),
-        (
-            &[Html(0, "input", &[name, ("aria-disabled", "false")])],
-            1,
-            true,
-        ),
-        (
-            &[
-                Html(0, "fieldset", &[("disabled", "")]),
-                Html(1, "p", &[]),
-                Html(2, "input", &[name]),
-            ],
-            3,
-            false,
-        ),
-        (
-            &[
-                Html(0, "div", &[("disabled", "")]),
-                Html(1, "input", &[name]),
-            ],
-            2,
-            true,
-        ),
-        (&[Facts(0, "input", &[name], "r")], 1, false),
-        (&[Html(0, "input", &[name])], 2, false),
-    ];
-    for (row, (nodes, n, is_target)) in rows.iter().enumerate() {
+    for (row, (nodes, n, is_target)) in FORM_FIELDS.iter().enumerate() {
         let told = is_target.then_some((Passed, Reason::Met, "name"));
         let agrees = tells(rt.alloc(), &AutocompleteIsValid, nodes, *n, told)?;
         assert!(rt; agrees, "row {row}");
