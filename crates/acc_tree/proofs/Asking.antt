@@ -1,5 +1,5 @@
 -- Most implicit roles don't depend on what is above.
-use Rattle.std.proofs.Common.{◌≡◌, Bool, true, false, refl}
+use Rattle.std.proofs.Common.{◌≡◌, false, refl}
 use Rattle.snap_tree.specs.declared.row.Row.{Row}
 use Rattle.acc_tree.specs.declared.above.Above.{Above}
 use Rattle.acc_tree.specs.declared.tags.Tag.{Tag}

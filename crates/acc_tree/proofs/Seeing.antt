@@ -1,7 +1,7 @@
 -- What is looked at isn't lost: a seen row says of the looked-at attributes what the row itself says.
-use Rattle.std.proofs.Common.{◌≡◌, ℕ, List, [], ◌∷◌, map, filter, take, Bool, true, false, Option, Some, None, option_map, ◌||◌, codes, refl, sym, ◌∙◌, ap}
+use Rattle.std.proofs.Common.{◌≡◌, List, [], ◌∷◌, filter, Bool, true, false, option_map, refl, sym, ◌∙◌, ap}
 use Rattle.std.proofs.lemmas.Slice.Eq.{bytes_eq-Decides}
-use Rattle.std.specs.List.{find, list_any}
+use Rattle.std.specs.List.{find}
 use Rattle.aria_tables.specs.declared.attr.AriaAttr.{AriaAttr}
 use Rattle.aria_tables.specs.declared.attr.AriaAttr.TheVariants as aria
 use Rattle.aria_tables.specs.Attributes.{name_of}
@@ -9,11 +9,11 @@ use Rattle.snap_tree.specs.declared.row.Attr.{Attr}
 use Rattle.snap_tree.specs.declared.row.Body.{Body}
 use Rattle.snap_tree.specs.declared.row.Body.TheVariants.{Element, Words}
 use Rattle.snap_tree.specs.declared.row.Row.{Row}
-use Rattle.snap_tree.specs.Rows.{attrs_in, attrs_of, attribute, same_folded, value_of}
+use Rattle.snap_tree.specs.Rows.{attrs_in, attribute, same_folded, value_of}
 use Rattle.snap_tree.specs.Words.{folded}
 use Rattle.acc_tree.specs.declared.attributes.Attribute.{Attribute}
 use Rattle.acc_tree.specs.declared.attributes.Attribute.TheVariants as attribute
-use Rattle.acc_tree.specs.Attributes.{attribute_name, begins_aria, is_aria, is_among, is_looked_at}
+use Rattle.acc_tree.specs.Attributes.{attribute_name, is_aria, is_among, is_looked_at}
 use Rattle.acc_tree.specs.Seen.{seen_body, seen_row, attr, aria_attrs}
 
 -- ---- lists

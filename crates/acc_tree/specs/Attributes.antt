@@ -1,5 +1,5 @@
 -- The attributes that roles, names and rules look at. Names compare with ASCII letters in lower case.
-use Rattle.std.specs.Prelude.{◌||◌, ℕ, List, [], ◌∷◌, filter, take, codes, Bool}
+use Rattle.std.specs.Prelude.{◌||◌, ℕ, List, [], ◌∷◌, take, codes, Bool}
 use Rattle.std.specs.List.{list_any}
 use Rattle.std.specs.Str.{bytes_eq}
 use Rattle.snap_tree.specs.Words.{folded}

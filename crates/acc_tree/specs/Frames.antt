@@ -1,13 +1,12 @@
 -- What a node says of those below it, and what all those above a node say of it.
 use Rattle.std.specs.Prelude.{◌&&◌, ◌||◌, ℕ, List, [], ◌∷◌, codes, Bool, true, false, if◌then◌else◌, Option, Some, None, option_and_then}
-use Rattle.std.specs.Option.{is_some, option_map_or}
+use Rattle.std.specs.Option.{is_some}
 use Rattle.aria_tables.specs.declared.attr.AriaAttr.TheVariants as aria
 use Rattle.aria_tables.specs.declared.role.Role.{Role}
 use Rattle.snap_tree.specs.declared.row.NodeId.{NodeId}
 use Rattle.snap_tree.specs.declared.row.Space.{Space}
 use Rattle.snap_tree.specs.declared.row.Row.{Row}
 use Rattle.acc_tree.specs.declared.above.Above.{Above}
-use Rattle.acc_tree.specs.declared.above.TableAbove.{TableAbove}
 use Rattle.acc_tree.specs.declared.attributes.Attribute.TheVariants as attribute
 use Rattle.acc_tree.specs.declared.tags.Tag.{Tag}
 use Rattle.acc_tree.specs.declared.tags.Tag.TheVariants as tag

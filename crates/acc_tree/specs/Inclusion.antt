@@ -1,5 +1,5 @@
 -- Which nodes are exposed, and which are in the accessibility tree.
-use Rattle.std.specs.Prelude.{◌&&◌, ◌||◌, not, codes, Bool, Option}
+use Rattle.std.specs.Prelude.{◌&&◌, ◌||◌, not, codes, Bool}
 use Rattle.aria_tables.specs.declared.attr.AriaAttr.TheVariants as aria
 use Rattle.snap_tree.specs.declared.row.Row.{Row}
 use Rattle.acc_tree.specs.declared.above.Above.{Above}

@@ -11,7 +11,6 @@ use Rattle.snap_tree.specs.declared.row.Facts.{Facts}
 use Rattle.snap_tree.specs.declared.row.Row.{Row}
 use Rattle.snap_tree.specs.Words.{words}
 use Rattle.acc_tree.specs.declared.above.Above.{Above}
-use Rattle.acc_tree.specs.declared.above.TableAbove.{TableAbove}
 use Rattle.acc_tree.specs.declared.attributes.Attribute.TheVariants as attribute
 use Rattle.acc_tree.specs.declared.inputs.InputType.{InputType}
 use Rattle.acc_tree.specs.declared.inputs.InputType.TheVariants as type

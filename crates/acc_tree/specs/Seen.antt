@@ -1,5 +1,5 @@
 -- What is looked at. Nothing that is said of a page's nodes depends on anything else.
-use Rattle.std.specs.Prelude.{◌&&◌, ◌==◌, not, ℕ, List, [], ◌∷◌, filter, Bool, true, false, length, Option, Some, None, unwrap_or}
+use Rattle.std.specs.Prelude.{ℕ, List, [], filter, Bool, true, false, Option, unwrap_or}
 use Rattle.std.specs.Option.{is_some, option_map_or}
 use Rattle.snap_tree.specs.declared.row.Attr.{Attr}
 use Rattle.snap_tree.specs.declared.row.Body.{Body}

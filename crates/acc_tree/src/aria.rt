@@ -21,7 +21,8 @@ fn is_aria(name: &str) -> bool
 // The first attribute whose name begins `aria-`, and those after it.
 fn first_aria(attrs: &[Attr]) -> Option<(&Attr, &[Attr])>
     ensures { MatchOption result (filter (λ a. is_aria a.name) attrs.now ≡ [])
-        (λ found. filter (λ a. is_aria a.name) attrs.now ≡ found.0.now ∷ filter (λ a. is_aria a.name) found.1.now) }
+        (λ found. filter (λ a. is_aria a.name) attrs.now
+        ≡ found.0.now ∷ filter (λ a. is_aria a.name) found.1.now) }
 {
     let mut rest = attrs;
     while let Some((attr, later)) = rest.split_first() {

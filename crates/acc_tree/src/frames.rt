@@ -61,7 +61,9 @@ fn is_fieldset(tag: Option<Tag>) -> bool
 }
 
 fn table_above(above: &Above, row: &Row, tag: Option<Tag>) -> Option<TableAbove>
-    ensures { result ≡ (if is_table tag then Some (record { node = row.now.id; role = role_at above.now (seen_row row.now) }) else above.now.table) }
+    ensures { result ≡ (if is_table tag
+        then Some (record { node = row.now.id; role = role_at above.now (seen_row row.now) })
+        else above.now.table) }
 {
     if is_table(tag) {
         Some(TableAbove {
@@ -84,7 +86,8 @@ fn label_above(above: &Above, row: &Row, tag: Option<Tag>) -> Option<NodeId>
 }
 
 fn is_disabled(above: &Above, row: &Row, tag: Option<Tag>) -> bool
-    ensures { result ≡ (above.now.disabled || (is_fieldset tag && has attribute.Disabled (seen_row row.now))) }
+    ensures { result ≡ (above.now.disabled
+        || (is_fieldset tag && has attribute.Disabled (seen_row row.now))) }
 {
     above.disabled || (is_fieldset(tag) && has(row, Attribute::Disabled))
 }

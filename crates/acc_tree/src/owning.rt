@@ -54,7 +54,8 @@ fn by_role(through: &[Role], role: Option<Role>) -> Standing
 }
 
 fn is_left(row: &Row) -> bool
-    ensures { result ≡ (is_text (seen_row row.now) || not row.now.facts.rendered || is_hidden (seen_row row.now)) }
+    ensures { result ≡ (is_text (seen_row row.now) || not row.now.facts.rendered
+        || is_hidden (seen_row row.now)) }
 {
     row.is_text() || !row.facts.rendered || is_hidden(row)
 }
@@ -78,7 +79,8 @@ fn add_owned(
     above: &Above,
     trees: Branches<'_>,
 ) -> Result<(), OutOfMemory>
-    ensures { OnOk result (list.new.items ≡ list.old.items ++ owned_in through.now above.now (seen trees.entry)) }
+    ensures { OnOk result
+        (list.new.items ≡ list.old.items ++ owned_in through.now above.now (seen trees.entry)) }
 {
     let mut rest = trees;
     while let Some(Branch { row, kids, after }) = rest.first() {

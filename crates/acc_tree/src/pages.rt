@@ -35,7 +35,8 @@ fn asks_above(tag: Tag) -> bool
 
 #[tactic(auto, using(crate::proofs::Asking::not_asked))]
 fn tag_role_in(tree: &Tree, row: &Row, tag: Tag) -> Option<aria_tables::Role>
-    ensures { result ≡ tag_role (above_children (seen tree.now.trees) row.now.parent) (seen_row row.now) tag }
+    ensures { result ≡ tag_role (above_children (seen tree.now.trees) row.now.parent)
+        (seen_row row.now) tag }
 {
     if asks_above(tag) {
         tag_role(&above_children(tree, row.parent), row, tag)
@@ -45,7 +46,8 @@ fn tag_role_in(tree: &Tree, row: &Row, tag: Tag) -> Option<aria_tables::Role>
 }
 
 fn implicit_in(tree: &Tree, row: &Row) -> Option<aria_tables::Role>
-    ensures { result ≡ implicit (above_children (seen tree.now.trees) row.now.parent) (seen_row row.now) }
+    ensures { result ≡ implicit (above_children (seen tree.now.trees) row.now.parent)
+        (seen_row row.now) }
 {
     match html_tag(row) {
         Some(tag) => tag_role_in(tree, row, tag),
@@ -54,7 +56,8 @@ fn implicit_in(tree: &Tree, row: &Row) -> Option<aria_tables::Role>
 }
 
 fn role_in(tree: &Tree, row: &Row) -> Option<aria_tables::Role>
-    ensures { result ≡ role_at (above_children (seen tree.now.trees) row.now.parent) (seen_row row.now) }
+    ensures { result ≡ role_at (above_children (seen tree.now.trees) row.now.parent)
+        (seen_row row.now) }
 {
     match explicit_at(row) {
         Some(role) => Some(role),
@@ -63,7 +66,8 @@ fn role_in(tree: &Tree, row: &Row) -> Option<aria_tables::Role>
 }
 
 fn decorative_in(tree: &Tree, row: &Row) -> bool
-    ensures { result ≡ decorative (above_children (seen tree.now.trees) row.now.parent) (seen_row row.now) }
+    ensures { result ≡ decorative (above_children (seen tree.now.trees) row.now.parent)
+        (seen_row row.now) }
 {
     match role_in(tree, row) {
         Some(role) => is_presentational(role),
@@ -72,13 +76,15 @@ fn decorative_in(tree: &Tree, row: &Row) -> bool
 }
 
 fn exposed_in(tree: &Tree, row: &Row) -> bool
-    ensures { result ≡ exposed (above_children (seen tree.now.trees) row.now.parent) (seen_row row.now) }
+    ensures { result ≡ exposed (above_children (seen tree.now.trees) row.now.parent)
+        (seen_row row.now) }
 {
     row.facts.rendered && row.facts.visible && !is_hidden(row) && !is_hidden_above(tree, row.parent)
 }
 
 fn included_in(tree: &Tree, row: &Row) -> bool
-    ensures { result ≡ included (above_children (seen tree.now.trees) row.now.parent) (seen_row row.now) }
+    ensures { result ≡ included (above_children (seen tree.now.trees) row.now.parent)
+        (seen_row row.now) }
 {
     exposed_in(tree, row) && !decorative_in(tree, row)
 }

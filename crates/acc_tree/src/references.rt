@@ -22,7 +22,8 @@ pub fn element_of(tree: &Tree, id: &str) -> Option<NodeId>
 /// `while let Some((node, later)) = first_found(tree, rest) { .. rest = later; }`.
 pub fn first_found<'a>(tree: &Tree, text: &'a str) -> Option<(NodeId, &'a str)>
     ensures found { MatchOption result (found (seen tree.now.trees) (words text.now) ≡ [])
-        (λ first. found (seen tree.now.trees) (words text.now) ≡ first.0 ∷ found (seen tree.now.trees) (words first.1.now)) }
+        (λ first. found (seen tree.now.trees) (words text.now)
+        ≡ first.0 ∷ found (seen tree.now.trees) (words first.1.now)) }
     ensures shorter { IfSome result (λ first. length first.1.now < length text.now) }
 {
     let mut rest = text;

@@ -3,7 +3,12 @@ ghost use Rattle.std.specs.Option.{option_copied};
 ghost use Rattle.aria_tables.specs.Roles.{role_of};
 ghost use Rattle.snap_tree.specs.Words.{words};
 ghost use Rattle.acc_tree.specs.Seen.{seen_row};
-ghost use Rattle.acc_tree.specs.Roles.{first_known, named_role, is_presentational, is_focusable, is_global_name, has_global, conflicts, unless_conflicting, explicit, is_labelled, is_empty_text, is_above_one, shows_several, shows_list, with_suggestions, input_role, is_grid, in_grid, heads_rows, link_role, of_page, form_role, section_role, image_role, item_role, select_role, cell_role, header_role, tag_role, implicit, role_at, is_decoration, decorative};
+ghost use Rattle.acc_tree.specs.Roles.{first_known, named_role, is_presentational, is_focusable, is_global_name};
+ghost use Rattle.acc_tree.specs.Roles.{has_global, conflicts, unless_conflicting, explicit, is_labelled};
+ghost use Rattle.acc_tree.specs.Roles.{is_empty_text, is_above_one, shows_several, shows_list, with_suggestions};
+ghost use Rattle.acc_tree.specs.Roles.{input_role, is_grid, in_grid, heads_rows, link_role, of_page, form_role};
+ghost use Rattle.acc_tree.specs.Roles.{section_role, image_role, item_role, select_role, cell_role, header_role};
+ghost use Rattle.acc_tree.specs.Roles.{tag_role, implicit, role_at, is_decoration, decorative};
 
 use crate::above::Above;
 use crate::aria::aria_attrs;

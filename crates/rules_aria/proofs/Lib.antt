@@ -1,4 +1,3 @@
-pub mod RowFirst
 pub mod Beginning
 pub mod Joining
 pub mod Stopping

@@ -16,7 +16,7 @@ use Rattle.rule_core.specs.declared.verdict.Verdict.{Verdict}
 use Rattle.rule_core.specs.Infos.{atomic}
 use Rattle.rule_core.specs.Findings.{met, failed, cant_tell, verdict_of}
 use Rattle.rules_aria.specs.AriaLines.{aria_lines}
-use Rattle.rules_aria.specs.Nodes.{said_alone}
+use Rattle.rule_sights.specs.Nodes.{said_alone}
 
 -- in neither list: not known, and not of a later edition
 abbrev pub is_unknown : Attr → Bool

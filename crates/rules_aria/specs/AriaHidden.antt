@@ -16,7 +16,7 @@ use Rattle.rule_core.specs.declared.finding.Finding.{Finding}
 use Rattle.rule_core.specs.declared.verdict.Verdict.{Verdict}
 use Rattle.rule_core.specs.Infos.{atomic}
 use Rattle.rule_core.specs.Findings.{met, failed, verdict_of}
-use Rattle.rules_aria.specs.Nodes.{said_below}
+use Rattle.rule_sights.specs.Nodes.{said_below}
 
 -- the node and those below it at which the Tab key stops, in document order
 abbrev pub stops_among : List Row → List NodeId

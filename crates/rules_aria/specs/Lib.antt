@@ -1,4 +1,3 @@
-pub mod Nodes
 pub mod Token
 pub mod Joined
 pub mod AriaLines

@@ -23,7 +23,7 @@ use Rattle.rule_core.specs.declared.finding.Finding.{Finding}
 use Rattle.rule_core.specs.declared.verdict.Verdict.{Verdict}
 use Rattle.rule_core.specs.Infos.{atomic}
 use Rattle.rule_core.specs.Findings.{met, failed, cant_tell, verdict_of}
-use Rattle.rules_aria.specs.Nodes.{said_below}
+use Rattle.rule_sights.specs.Nodes.{said_below}
 
 abbrev pub are_allowed : List Role → List OwnedElement → Bool
 are_allowed allowed elements = list_all (λ o. is_one_of allowed o.role) elements

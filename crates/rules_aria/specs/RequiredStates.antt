@@ -28,7 +28,7 @@ use Rattle.rule_core.specs.declared.verdict.Verdict.{Verdict}
 use Rattle.rule_core.specs.Infos.{atomic}
 use Rattle.rule_core.specs.Findings.{met, failed, verdict_of}
 use Rattle.rules_aria.specs.AriaLines.{aria_lines}
-use Rattle.rules_aria.specs.Nodes.{said_where}
+use Rattle.rule_sights.specs.Nodes.{said_where}
 
 -- an `input` that the browser checks by itself
 abbrev pub is_checked_by_type : InputType → Bool

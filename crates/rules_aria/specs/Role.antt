@@ -18,7 +18,7 @@ use Rattle.rule_core.specs.declared.finding.Finding.{Finding}
 use Rattle.rule_core.specs.declared.verdict.Verdict.{Verdict}
 use Rattle.rule_core.specs.Infos.{atomic}
 use Rattle.rule_core.specs.Findings.{met, failed, cant_tell, verdict_of}
-use Rattle.rules_aria.specs.Nodes.{said_where}
+use Rattle.rule_sights.specs.Nodes.{said_where}
 use Rattle.rules_aria.specs.Token.{begins}
 
 -- some token is a known role

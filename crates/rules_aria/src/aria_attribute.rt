@@ -5,10 +5,10 @@ ghost use Rattle.acc_tree.specs.Seen.{seen_row, aria_attrs};
 ghost use Rattle.rules_aria.specs.AriaAttribute.{is_unknown, attribute_finding, attribute_verdict, aria_attribute_is_defined, aria_attribute_is_defined_info};
 
 use crate::aria_lines::aria_lines;
-use crate::nodes::row_of;
 use acc_tree::aria_attrs;
 use aria_tables::{attr_of, is_later};
 use rule_core::{Class, Finding, Reason, Rule, RuleInfo, Verdict};
+use rule_sights::row_of;
 use snap_tree::{Attr, NodeId, OutOfMemory, Row, Tree};
 use std::alloc::Global;
 

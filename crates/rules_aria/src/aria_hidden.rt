@@ -3,10 +3,10 @@ ghost use Rattle.acc_tree.specs.Sights.{seen_sight};
 ghost use Rattle.rules_aria.specs.AriaHidden.{stops_among, stops, hidden_finding, number_words, hidden_verdict, hidden_holds_no_focus, hidden_holds_no_focus_info};
 
 use crate::joined::add_word;
-use crate::nodes::sight_with;
 use acc_tree::{Attribute, Sight, is_hidden};
 use aria_tables::AriaAttr;
 use rule_core::{Class, Finding, Reason, Rule, RuleInfo, Verdict};
+use rule_sights::sight_with;
 use snap_tree::{NodeId, OutOfMemory, Row, Text, Tree};
 use std::alloc::Global;
 

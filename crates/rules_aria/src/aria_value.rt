@@ -4,7 +4,7 @@ ghost use Rattle.acc_tree.specs.References.{found};
 ghost use Rattle.acc_tree.specs.Seen.{seen_row, seen, aria_attrs};
 ghost use Rattle.acc_tree.specs.Sights.{seen_sight};
 ghost use Rattle.rules_aria.specs.AriaValue.{filled_attr, is_bad, is_dead, has_filled, value_finding, value_verdict, aria_value_is_valid, aria_value_is_valid_info};
-ghost use Rattle.rules_aria.specs.Nodes.{sight_where};
+ghost use Rattle.rule_sights.specs.Nodes.{sight_where};
 
 use crate::aria_lines::aria_lines;
 use acc_tree::{Above, Sight, aria_attrs, exposed_at, first_found, sight_of};
@@ -96,7 +96,7 @@ fn verdict(
 
 // The sight of a node with a known attribute that isn't blank. Where it has none, nothing else of the
 // page is looked at.
-#[tactic(auto, using(crate::proofs::RowFirst::no_node, crate::proofs::RowFirst::has_not, crate::proofs::RowFirst::has_it))]
+#[tactic(auto, using(rule_sights::proofs::RowFirst::no_node, rule_sights::proofs::RowFirst::has_not, rule_sights::proofs::RowFirst::has_it))]
 fn filled_sight(tree: &Tree, n: NodeId) -> Option<Sight<'_>>
     ensures { option_map seen_sight result ≡ sight_where has_filled (seen tree.now.trees) n }
 {

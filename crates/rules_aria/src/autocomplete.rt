@@ -5,13 +5,13 @@ ghost use Rattle.acc_tree.specs.Seen.{seen_row};
 ghost use Rattle.acc_tree.specs.Tags.{html_tag};
 ghost use Rattle.rules_aria.specs.Autocomplete.{begins_section, is_address_kind, is_contact_kind, is_webauthn, is_on_or_off, fields, contact_fields, one, optionally, nothing_more, ending, a_field, a_contact_field, either_field, a_detail, is_accepted, takes_data, is_form_field, is_disabled, asks_for_data, is_autocomplete_target, autocomplete_finding, autocomplete_verdict, autocomplete_is_valid, autocomplete_is_valid_info};
 
-use crate::nodes::sight_with;
 use crate::token::begins;
 use acc_tree::{
     Above, Attribute, InputType, Tag, attr, has, html_tag, included_at, input_type, is_word_at,
 };
 use aria_tables::{AriaAttr, is_among};
 use rule_core::{Class, Finding, Reason, Rule, RuleInfo, Verdict};
+use rule_sights::sight_with;
 use snap_tree::{NodeId, OutOfMemory, Row, Text, Tree, blank, next_word, same_folded};
 use std::alloc::Global;
 

@@ -9,7 +9,6 @@ mod aria_lines;
 mod aria_value;
 mod autocomplete;
 mod joined;
-mod nodes;
 mod owned_elements;
 mod required_states;
 mod role;

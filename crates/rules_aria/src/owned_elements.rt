@@ -4,12 +4,12 @@ ghost use Rattle.acc_tree.specs.Sights.{seen_sight};
 ghost use Rattle.rules_aria.specs.OwnedElements.{are_allowed, owned_finding, role_words, verdict_on, is_owner_target, owned_verdict, owns_required_elements, owns_required_elements_info};
 
 use crate::joined::add_word;
-use crate::nodes::sight_with;
 use acc_tree::{
     Above, Attribute, OwnedElement, Sight, explicit_at, included_at, is_word_at, owned_by,
 };
 use aria_tables::{AriaAttr, Role, allowed_owned, looks_through};
 use rule_core::{Class, Finding, Reason, Rule, RuleInfo, Verdict};
+use rule_sights::sight_with;
 use snap_tree::{NodeId, OutOfMemory, Row, Text, Tree};
 use std::alloc::Global;
 

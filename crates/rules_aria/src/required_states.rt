@@ -4,13 +4,13 @@ ghost use Rattle.acc_tree.specs.Tags.{html_tag};
 ghost use Rattle.rules_aria.specs.RequiredStates.{is_checked_by_type, is_check_input, is_exempt, lacks_one, states_finding, is_states_target, states_verdict, has_required_states, has_required_states_info};
 
 use crate::aria_lines::aria_lines;
-use crate::nodes::sight_with;
 use acc_tree::{
     Above, Attribute, InputType, Tag, explicit_at, html_tag, implicit_at, included_at, input_type,
     is_blank_at,
 };
 use aria_tables::{AriaAttr, Role, required_states, same_role};
 use rule_core::{Class, Finding, Reason, Rule, RuleInfo, Verdict};
+use rule_sights::sight_with;
 use snap_tree::{NodeId, OutOfMemory, Row, Tree};
 use std::alloc::Global;
 

@@ -2,11 +2,11 @@ ghost use Rattle.std.specs.Prelude.{◌≡◌, IfOk};
 ghost use Rattle.acc_tree.specs.Seen.{seen_row};
 ghost use Rattle.rules_aria.specs.Role.{names_known, is_outside, names_outside, role_finding, is_role_target, role_verdict, role_is_valid, role_is_valid_info};
 
-use crate::nodes::sight_with;
 use crate::token::begins;
 use acc_tree::{Above, Attribute, attr, exposed_at};
 use aria_tables::role_of;
 use rule_core::{Class, Finding, Reason, Rule, RuleInfo, Verdict};
+use rule_sights::sight_with;
 use snap_tree::{NodeId, OutOfMemory, Row, Text, Tree, blank, next_word};
 use std::alloc::Global;
 

@@ -1,6 +1,5 @@
 use Rattle.std.proofs.Common.{◌||◌, sym, ◌∙◌, ap, arith}
-use Rattle.acc_tree.specs.Inclusion.{is_hidden}
-use Rattle.acc_tree.specs.Seen.{seen_row, seen}
+use Rattle.acc_tree.specs.Seen.{seen}
 use Rattle.acc_tree.specs.Sights.{above_children}
 use Rattle.acc_tree.proofs.Sighting.{above_step, above_none, height, height_step}
 use Rattle.acc_tree.proofs.pages.+is_hidden_above.Goals as goal

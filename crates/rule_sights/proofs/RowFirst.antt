@@ -8,7 +8,7 @@ use Rattle.snap_tree.specs.Trees.{Trees}
 use Rattle.acc_tree.specs.Seen.{seen_row, seen}
 use Rattle.acc_tree.specs.Sights.{Sight, sight_of, summed, seen_spot}
 use Rattle.acc_tree.proofs.Sighting.{sight_is_spot, seen_spot_is}
-use Rattle.rules_aria.specs.Nodes.{if_row, sight_where, row_of}
+use Rattle.rule_sights.specs.Nodes.{if_row, sight_where, row_of}
 
 abbrev row_at : Option Spot → Option Row
 row_at o = option_map (λ s. s.row) o
