@@ -38,13 +38,13 @@ def test_moved(browser: Any, base: str) -> None:
     """With --url a page that moved on is refused, and both addresses are in the line."""
     for path, target, words in (
             ("/moved", "/home.html?from=moved", ()), ("/refresh", "/good.html", ()), ("/script", "/good.html", ()),
-            ("/renamed", "/renamed?by=script", ()), ("/refresh-later", "/good.html", ("--settle", "1800"))):
+            ("/renamed", "/renamed?by=script", ()), ("/refresh-later", "/good.html", ("--settle", "4000"))):
         refused_here(browser, f"{path} moved on", End.MOVED, f"{base}{path} moved on to {base}{target}", f"{base}{path}", *WRITTEN, *words)
     expect("--follow takes the page that it moved on to", '"good"' in collect_here(browser, f"{base}/script", *WRITTEN, "--follow").text)
     same("without --url the last address is written", json.loads(collect_here(browser, f"{base}/moved").text)["url"],
          f"{base}/home.html?from=moved")
     expect("a fragment is no move", collect_here(browser, f"{base}/fragment", *WRITTEN).text.startswith('{"url":"https://kinds.example/"'))
-    expect("a refresh that comes later than the snapshot is none", '"old"' in collect_here(browser, f"{base}/refresh-later", *WRITTEN).text)
+    expect("a refresh that comes later than the snapshot is none", '"old"' in collect_here(browser, f"{base}/refresh-much-later", *WRITTEN).text)
     with page("<script>location.href = 'about:blank'</script>") as path:
         refused_here(browser, "a file that moved on to no page", End.LOAD, "shows no page", path, *WRITTEN)
 

@@ -35,6 +35,8 @@ LATE = """<p id=first>now<script>
 setTimeout(() => fetch('/slow-data').then((answer) => answer.text()).then((text) => {
   const late = document.createElement('p'); late.id = 'late'; late.textContent = text; document.body.append(late); }), 50);
 </script>"""
+# Long after its snapshot is taken, however slow the machine.
+LATER = LATE.replace("/slow-data", "/hangs")
 BOXES = """<script>
 for (let i = 0; i < 20; i += 1) { alert(i); confirm(i); prompt(i); }
 addEventListener('load', () => { for (let i = 0; i < 20; i += 1) alert(i); });
@@ -62,6 +64,8 @@ ANSWERS = {
     "/renamed": Answer(HTML, html("<p>x<script>history.replaceState(null, '', '/renamed?by=script')</script>")),
     "/fragment": Answer(HTML, html("<p id=a>x<script>location.hash = '#a'</script>")),
     "/late": Answer(HTML, html(LATE)),
+    "/later": Answer(HTML, html(LATER)),
+    "/refresh-much-later": Answer(HTML, html("<meta http-equiv=refresh content='60; url=/good.html'><p>old")),
     "/boxes": Answer(HTML, html(BOXES)),
     "/never": Answer(HTML, html("<p>x<img src=/hangs>")),
     "/busy": Answer(HTML, html("<p>x<script>setInterval(() => fetch('/good.html'), 100)</script>")),
@@ -93,7 +97,7 @@ class Handler(http.server.SimpleHTTPRequestHandler):
         elif path == "/size":
             self.answer(Answer(HTML, html("<p id=size>x<script>size.textContent = innerWidth + ' by ' + innerHeight</script>")))
         elif path == "/slow-data":
-            time.sleep(1.2)
+            time.sleep(0.8)
             self.answer(Answer("text/plain", b"come late"))
         elif path == "/hangs":
             time.sleep(8)

@@ -103,6 +103,14 @@ def children(number: int) -> list[int]:
     return found
 
 
+def is_alive(number: int) -> bool:
+    """Whether a process is there, and hasn't ended."""
+    try:
+        return pathlib.Path(f"/proc/{number}/stat").read_text().rpartition(")")[2].split()[0] != "Z"
+    except OSError:
+        return False
+
+
 def test_interrupt(base: str) -> None:
     """A command that is ended closes its browser, and says one line."""
     for sent in (signal.SIGTERM, signal.SIGINT):
@@ -113,10 +121,10 @@ def test_interrupt(base: str) -> None:
         command.send_signal(sent)
         out, err = command.communicate()
         same(f"{sent.name}: the status and the line", (command.returncode, out, err), (End.INTERRUPTED, b"", b"collect: interrupted\n"))
-        time.sleep(0.5)
-        alive = [child for child in started if os.path.exists(f"/proc/{child}/exe") and os.path.exists(f"/proc/{child}/cwd")
-                 and "Z" not in pathlib.Path(f"/proc/{child}/stat").read_text().rpartition(")")[2].split()[0]]
-        same(f"{sent.name}: processes that are left", alive, [])
+        end = time.monotonic() + 20
+        while any(map(is_alive, started)) and time.monotonic() < end:
+            time.sleep(0.2)
+        same(f"{sent.name}: processes that are left", list(filter(is_alive, started)), [])
 
 
 def test_streams(base: str) -> None:

@@ -13,21 +13,21 @@ from .support import COLLECT, collect_here, expect, refused, refused_here, run
 
 def test_waiting(browser: Any, base: str) -> None:
     """--wait, --timeout and --settle."""
-    late = f"{base}/late"
-    expect("without --wait what comes later isn't there", "come late" not in collect_here(browser, late).text)
-    expect("--wait load is the same", "come late" not in collect_here(browser, late, "--wait", "load").text)
+    late, later = f"{base}/late", f"{base}/later"
+    expect("without --wait what comes later isn't there", "come late" not in collect_here(browser, later).text)
+    expect("--wait load is the same", "come late" not in collect_here(browser, later, "--wait", "load").text)
     expect("--wait network-idle waits for it", "come late" in collect_here(browser, late, "--wait", "network-idle").text)
     expect("--wait SELECTOR waits for it", "come late" in collect_here(browser, late, "--wait", "p#late").text)
-    expect("--settle waits for it", "come late" in collect_here(browser, late, "--settle", "1600").text)
-    refused_here(browser, "what never comes", End.TIME, "nothing matches #never after 1 seconds", late, "--wait", "#never", "--timeout", "1")
-    refused_here(browser, "a network that is never idle", End.TIME, "isn't idle", f"{base}/busy", "--wait", "network-idle", "--timeout", "2")
+    expect("--settle waits for it", "come late" in collect_here(browser, late, "--settle", "4000").text)
+    refused_here(browser, "what never comes", End.TIME, "nothing matches #never after 4 seconds", late, "--wait", "#never", "--timeout", "4")
+    refused_here(browser, "a network that is never idle", End.TIME, "isn't idle", f"{base}/busy", "--wait", "network-idle", "--timeout", "4")
     refused_here(browser, "a page that never loads", End.TIME, "took more than 1.5 seconds", f"{base}/never", "--timeout", "1.5")
 
 
 def test_dialogs(browser: Any, base: str) -> None:
     """Any number of dialogs is closed, while the page loads and later."""
     expect("a page that opens dialogs", '"after"' in collect_here(browser, f"{base}/boxes").text)
-    expect("dialogs that open later", '"after all"' in collect_here(browser, f"{base}/boxes", "--settle", "400").text)
+    expect("dialogs that open later", '"after all"' in collect_here(browser, f"{base}/boxes", "--settle", "2000").text)
 
 
 def test_requests(browser: Any, base: str) -> None:
@@ -46,7 +46,7 @@ def test_requests(browser: Any, base: str) -> None:
 
 def test_patience(base: str) -> None:
     """A terminal is told what is waited for, and nothing else is."""
-    words = [str(COLLECT), f"{base}/late", "--wait", "#never", "--timeout", "3"]
+    words = [str(COLLECT), f"{base}/late", "--wait", "#never", "--timeout", "6"]
     here, there = pty.openpty()
     done = subprocess.Popen(words, stdin=subprocess.DEVNULL, stdout=subprocess.DEVNULL, stderr=there)
     os.close(there)
@@ -58,4 +58,4 @@ def test_patience(base: str) -> None:
         pass  # the other end is closed
     os.close(here)
     expect("a terminal is told of the waiting", done.wait() == End.TIME and b"still waiting" in told and b"#never" in told, told)
-    refused("no terminal is told nothing", End.TIME, "nothing matches", *words[1:])
+    refused("no terminal is told nothing", End.TIME, "", f"{base}/never", "--timeout", "3")
