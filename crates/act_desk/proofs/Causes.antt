@@ -1,5 +1,5 @@
 -- Why an audit ends, from what it read and what it found in that, and which statuses can come of it.
-use Rattle.std.proofs.Common.{◌≡◌, ℕ, ◌<◌, ◌≤◌, ◌⊎◌, inl, inr, Bool, true, false, if◌then◌else◌, List, [], ◌∷◌, ◌++◌, length, Option, Some, None, IfSome, Ok, Err, refl, sym, ap, ◌∙◌, subst, append-nil, length-append, arith}
+use Rattle.std.proofs.Common.{◌≡◌, ℕ, ◌<◌, ◌≤◌, inl, inr, Bool, true, false, List, [], ◌∷◌, ◌++◌, length, Option, Some, None, IfSome, Ok, Err, refl, sym, ap, ◌∙◌, subst, append-nil, length-append, arith}
 use Rattle.std.proofs.lemmas.Bool.{cases_lt, lt-leb}
 use Rattle.std.specs.Io.KnownBytes.{Consumes, IsAtEnd}
 use Rattle.snap_tree.specs.Trees.{Document}
@@ -16,7 +16,7 @@ use Rattle.act_desk.specs.Status.{OneOf}
 use Rattle.act_desk.specs.Told.{Input}
 use Rattle.act_desk.specs.Streams.{IsReadTo}
 use Rattle.act_desk.specs.Telling.{Writing, output_alone, line_alone, status_of, writing_of}
-use Rattle.act_desk.specs.Audit.{Book, report_of, fails, IsFoundIn, GaveAll, Reports, AuditCause, TellsPage, TellsFault}
+use Rattle.act_desk.specs.Audit.{Book, IsFoundIn, GaveAll, Reports, AuditCause, TellsPage, TellsFault}
 
 -- ---- bytes that are a snapshot are within the limit
 
