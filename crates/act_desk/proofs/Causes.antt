@@ -5,6 +5,7 @@ use Rattle.std.specs.Io.KnownBytes.{Consumes, IsAtEnd}
 use Rattle.snap_tree.specs.Trees.{Document}
 use Rattle.snap_json.specs.declared.fault.SnapFault.{SnapFault}
 use Rattle.snap_json.specs.declared.fault.SnapFault.TheVariants.{TooLong}
+use Rattle.snap_json.specs.declared.limits.TheConstants.{MOST_SNAPSHOT_BYTES}
 use Rattle.snap_json.specs.Pages.{sent_tree, tree_in, page_in}
 use Rattle.act_desk.specs.declared.audit.TheConstants.{MOST_READ}
 use Rattle.act_desk.specs.declared.found.Found.{Found}
@@ -19,9 +20,9 @@ use Rattle.act_desk.specs.Audit.{Book, report_of, fails, IsFoundIn, GaveAll, Rep
 
 -- ---- bytes that are a snapshot are within the limit
 
-too_long : (bytes : List ℕ) → 8388608 < length bytes → sent_tree bytes ≡ Err TooLong
+too_long : (bytes : List ℕ) → MOST_SNAPSHOT_BYTES < length bytes → sent_tree bytes ≡ Err TooLong
 unfolding tree_in page_in
-too_long bytes h = rw (lt-leb (length bytes) 8388608 h) refl
+too_long bytes h = rw (lt-leb (length bytes) MOST_SNAPSHOT_BYTES h) refl
 
 not_both : (bytes : List ℕ) (page : Document) (fault : SnapFault) → sent_tree bytes ≡ Ok page → sent_tree bytes ≡ Err fault → ⊥
 not_both bytes page fault is not = cc
