@@ -2,20 +2,20 @@
 use Rattle.std.specs.Prelude.{◌≡◌, ℕ, ◌<◌, List, ◌∷◌, length, Result, Ok, Err}
 use Rattle.std.specs.declared.io.ErrorKind.{ErrorKind}
 use Rattle.std.specs.declared.io.ErrorKind.TheVariants.{OutOfMemory}
-use Rattle.act_desk.specs.declared.start.Refusal.{Refusal}
-use Rattle.act_desk.specs.declared.start.Refusal.TheVariants.{Usage, Store, NoMemory}
 use Rattle.act_desk.specs.declared.found.Found.{Found}
-use Rattle.act_desk.specs.declared.found.Found.TheVariants as found
+use Rattle.act_desk.specs.declared.found.Found.TheVariants.{Usage, StoreFault, NoMemory}
 
-abbrev pub found_by : Refusal → Found
-found_by Usage = found.Usage
-found_by Store = found.StoreFault
-found_by NoMemory = found.NoMemory
+-- what is found where the arguments can't be had: want of memory, or a word is no text
+abbrev pub found_by : ErrorKind → Found
+found_by OutOfMemory = NoMemory
+found_by kind = Usage
 
--- the refusal where the arguments can't be had: want of memory, or a word is no text
-abbrev pub refusal_of : ErrorKind → Refusal
-refusal_of OutOfMemory = NoMemory
-refusal_of kind = Usage
+-- what the program may find before it runs a command
+abbrev pub IsRefusal : Found → Type 0
+IsRefusal Usage = Unit {0}
+IsRefusal StoreFault = Unit {0}
+IsRefusal NoMemory = Unit {0}
+IsRefusal other = ⊥
 
 -- the arguments name the program and the store, and then one word or more
 pub record NamesWords (args words : List (List ℕ)) : Type 0 where
@@ -25,8 +25,8 @@ pub record NamesWords (args words : List (List ℕ)) : Type 0 where
   pub some : 0 < length words
 
 -- the words that stand after the store's name, or why there are none
-abbrev pub Starts : List (List ℕ) → Result (List (List ℕ)) Refusal → Type 0
+abbrev pub Starts : List (List ℕ) → Result (List (List ℕ)) Found → Type 0
 Starts args (Ok words) = NamesWords args words
 Starts args (Err Usage) = length args < 3
-Starts args (Err Store) = ⊥
 Starts args (Err NoMemory) = Unit {0}
+Starts args (Err other) = ⊥

@@ -4,7 +4,7 @@ ghost use Rattle.act_desk.specs.Commands.{IsCommand, IsNoCommand};
 use snap_tree::Text;
 
 /// What the program can do.
-#[derive(Clone, Copy, Debug, PartialEq, Eq, Hash)]
+#[derive(Clone, Copy)]
 pub enum Command {
     /// Reads one snapshot to its end, judges it, and writes its text report. Its words are `audit` alone.
     Audit,

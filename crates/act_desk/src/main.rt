@@ -39,10 +39,7 @@ fn main(rt: HostRuntime) -> ExitCode {
     let mut err = Writer::new(rt.stderr());
     let words = match command_words(&rt) {
         Ok(words) => words,
-        Err(refusal) => {
-            let ended = tell(&mut out, &mut err, &refusal.found());
-            return ExitCode::from(ended.number());
-        }
+        Err(found) => return ExitCode::from(tell(&mut out, &mut err, &found).number()),
     };
     let mut input = Reader::new(rt.stdin());
     let mut book = Early::new();

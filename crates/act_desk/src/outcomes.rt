@@ -2,7 +2,7 @@ use rule_core::{Auto, Reason, RuleNo};
 use snap_tree::{List, NodeId, Text};
 
 /// The outcome of a rule on a node.
-#[derive(Debug, Drop)]
+#[derive(Drop)]
 pub struct OutRow {
     pub rule: RuleNo,
     pub node: NodeId,
@@ -17,7 +17,7 @@ pub struct OutRow {
 }
 
 /// The outcomes of a page: the rows of each rule of a book, in document order.
-#[derive(Debug, Drop)]
+#[derive(Drop)]
 pub struct Outcomes {
     pub rows: List<OutRow>,
 }

@@ -10,7 +10,7 @@ use std::alloc::{AllocError, Global};
 const PIECE: usize = 65_536;
 
 /// Why a source couldn't be read to its end.
-#[derive(Clone, Copy, Debug, PartialEq, Eq, Hash)]
+#[derive(Clone, Copy)]
 pub enum ReadFault {
     Failed,
     OutOfMemory,

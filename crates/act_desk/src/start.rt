@@ -1,8 +1,8 @@
-ghost use Rattle.std.specs.Prelude.{◌≡◌, ◌<◌, ◌↔◌, length, map, codes, IfOk, IsTrue};
+ghost use Rattle.std.specs.Prelude.{◌≡◌, ◌<◌, ◌↔◌, length, map, codes, IfOk, IfErr, IsTrue};
 ghost use Rattle.std.specs.String.{string_bytes};
 ghost use Rattle.std.specs.IoError.{error_kind};
 ghost use Rattle.std.specs.Vec.Iter.{into_iter_items};
-ghost use Rattle.act_desk.specs.Start.{found_by, refusal_of, Starts};
+ghost use Rattle.act_desk.specs.Start.{found_by, IsRefusal, Starts};
 
 use crate::found::Found;
 use snap_tree::{List, OutOfMemory, Text};
@@ -12,56 +12,36 @@ use std::io::ErrorKind;
 use std::rt::Env;
 use std::{env, io};
 
-/// Why the program ends before it runs a command.
-#[derive(Clone, Copy, Debug, PartialEq, Eq, Hash)]
-pub enum Refusal {
-    /// The store's name or the command is missing, or a word is no text.
-    Usage,
-    /// The store can't be opened.
-    Store,
-    NoMemory,
-}
-
-impl Refusal {
-    /// What the program tells then.
-    pub fn found(self) -> Found
-        ensures { result ≡ found_by self }
-    {
-        match self {
-            Refusal::Usage => Found::Usage,
-            Refusal::Store => Found::StoreFault,
-            Refusal::NoMemory => Found::NoMemory,
-        }
-    }
-}
-
-impl From<io::Error> for Refusal {
-    ghost from_gives = { λ error refusal. refusal ≡ refusal_of (error_kind error) };
+impl From<io::Error> for Found {
+    ghost from_gives = { λ error found. found ≡ found_by (error_kind error) };
 
     fn from(error: io::Error) -> Self {
         match error.kind() {
-            ErrorKind::OutOfMemory => Refusal::NoMemory,
-            _ => Refusal::Usage,
+            ErrorKind::OutOfMemory => Found::NoMemory,
+            _ => Found::Usage,
         }
     }
 }
 
 /// The words of a command, which stand after the program's name and the store's. The store is looked at
 /// first: where it can't be opened, no word behind it matters.
-pub fn command_words<R: Env + AllocGlobal>(rt: &R) -> Result<List<Text>, Refusal>
-    ensures { IfOk result (λ words. 0 < length words) }
+pub fn command_words<R: Env + AllocGlobal>(rt: &R) -> Result<List<Text>, Found>
+    ensures some { IfOk result (λ words. 0 < length words) }
+    ensures refused { IfErr result IsRefusal }
 {
     open_store(rt)?;
     words_in(rt.alloc(), env::args(rt)?)
 }
 
 // Opens the store that the second argument names: `-` is the one in memory, and no other opens yet.
-fn open_store(rt: &impl Env) -> Result<(), Refusal> {
+fn open_store(rt: &impl Env) -> Result<(), Found>
+    ensures { IfErr result IsRefusal }
+{
     let mut name = [0; 2];
     match rt.arg(1, &mut name) {
         Ok(size) if is_memory(&name[..size]) => Ok(()),
-        Ok(_) | Err(FillError::TooLong) => Err(Refusal::Store),
-        Err(FillError::NotPresent) => Err(Refusal::Usage),
+        Ok(_) | Err(FillError::TooLong) => Err(Found::StoreFault),
+        Err(FillError::NotPresent) => Err(Found::Usage),
     }
 }
 
@@ -73,17 +53,17 @@ fn is_memory(name: &[u8]) -> bool
 }
 
 // The words of a command among a program's arguments, or why they give none.
-fn words_in(alloc: Global, mut args: Args) -> Result<List<Text>, Refusal>
+fn words_in(alloc: Global, mut args: Args) -> Result<List<Text>, Found>
     ensures { Starts (map string_bytes (into_iter_items args)) result }
 {
     let (Some(_program), Some(_store)) = (args.next(), args.next()) else {
-        return Err(Refusal::Usage);
+        return Err(Found::Usage);
     };
     let Ok(words) = texts_of(alloc, args) else {
-        return Err(Refusal::NoMemory);
+        return Err(Found::NoMemory);
     };
     if words.is_empty() {
-        return Err(Refusal::Usage);
+        return Err(Found::Usage);
     }
     Ok(List::from_vec(words))
 }
@@ -148,8 +128,8 @@ mod tests {
     fn status_by(alloc: Global, arguments: &Arguments) -> Result<Option<Status>, Fail> {
         match command_words(&(arguments, alloc)) {
             Ok(_) => Ok(None),
-            Err(Refusal::NoMemory) => Err(Fail::from(OutOfMemory)),
-            Err(refusal) => Ok(Some(status_of(&refusal.found()))),
+            Err(Found::NoMemory) => Err(Fail::from(OutOfMemory)),
+            Err(found) => Ok(Some(status_of(&found))),
         }
     }
 
