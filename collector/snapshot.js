@@ -10,6 +10,10 @@
  *
  * address   optional: the page's address to write, http or https. Without it
  *           the document's own address is written.
+ * options   optional, with optional members:
+ *   exact   true refuses a page that passes a limit. Otherwise texts and values
+ *           that no rule looks at are cut where they pass one.
+ *   told    is called with a line for each cut; without it console.warn is.
  *
  * Where the page cannot be written in the snapshot form, nothing is returned:
  * an error with a message of one line is thrown. Its name says what kind it is:
@@ -20,10 +24,12 @@
  *
  * docs/collecting.md says what each letter means and what is left out.
  */
-function silvervoleSnapshot(address) {
+function silvervoleSnapshot(address, options) {
   'use strict';
 
   const LIMITS = { nodes: 10000, depth: 128, attrs: 64, textBytes: 65536, snapshotBytes: 8388608 };
+  const exact = Boolean(options && options.exact);
+  const told = (options && options.told) || ((line) => console.warn(line));
 
   const stop = (name, message) => {
     const error = new Error(message);
@@ -91,12 +97,11 @@ function silvervoleSnapshot(address) {
     return bytes;
   };
   const grouped = (number) => String(number).replace(/\B(?=(\d{3})+$)/g, ',');
+  const refuseLong = (what, bytes) => limit(`${what} has ${grouped(bytes)} bytes; the form allows ${grouped(LIMITS.textBytes)}`);
   const bounded = (text, what) => {
     const good = wellFormed(text);
     const bytes = utf8Length(good);
-    if (bytes > LIMITS.textBytes) {
-      limit(`${what()} has ${grouped(bytes)} bytes; the form allows ${grouped(LIMITS.textBytes)}`);
-    }
+    if (bytes > LIMITS.textBytes) refuseLong(what(), bytes);
     return good;
   };
   const asciiLower = (text) => text.replace(/[A-Z]/g, (letter) => letter.toLowerCase());
@@ -109,6 +114,41 @@ function silvervoleSnapshot(address) {
     const found = /^[\t\n\f\r ]*([+-]?[0-9]+)/.exec(getAttribute(element, 'tabindex') || '');
     const number = found ? Number(found[1]) : NaN;
     return Math.abs(number) <= 0x7FFFFFFF ? number : null;
+  };
+
+  // --- Cuts --------------------------------------------------------------
+
+  // The attributes that rules look at, besides all whose name begins with "aria-".
+  const LOOKED_AT = new Set(['alt', 'autocomplete', 'colspan', 'content', 'disabled', 'for', 'headers', 'href',
+    'http-equiv', 'id', 'label', 'lang', 'list', 'multiple', 'name', 'placeholder', 'role', 'rowspan', 'scope',
+    'selected', 'size', 'title', 'type', 'value']);
+  // Elements whose text is for programs. No rule looks at it where it isn't
+  // rendered, unless it stands in what names another element.
+  const UNREAD = new Set(['script', 'style', 'noscript', 'template']);
+  // What is left of a text that is cut: enough to tell what it was.
+  const FRONT_BYTES = 256;
+
+  // A text or an attribute's value. What no rule looks at is loose, and may be cut.
+  const valueOf = (text, loose, what) => {
+    const good = wellFormed(text);
+    const value = { text: good, bytes: utf8Length(good), loose, what };
+    if (value.bytes > LIMITS.textBytes) {
+      if (exact || !loose()) refuseLong(what(), value.bytes);
+      cut(value);
+    }
+    return value;
+  };
+  const cut = (value) => {
+    let kept = 0;
+    let front = '';
+    for (const character of value.text) {
+      kept += utf8Length(character);
+      if (kept > FRONT_BYTES) break;
+      front += character;
+    }
+    told(`cut: ${value.what()} has ${grouped(value.bytes)} bytes, of which the first ${utf8Length(front)} are kept`);
+    value.text = front;
+    value.bytes = utf8Length(front);
   };
 
   // --- The address -------------------------------------------------------
@@ -221,10 +261,35 @@ function silvervoleSnapshot(address) {
         limit(`node ${n} (${tag}) has two attributes named ${quote(folded.slice(0, 200))} when letter case is left aside; the form allows one`);
       }
       seen.add(folded);
-      const value = bounded(list[i].value, () => `the attribute ${quote(name.slice(0, 200))} of node ${n} (${tag})`);
-      pairs.push(`[${quote(name)},${quote(value)}]`);
+      const value = valueOf(list[i].value, () => !folded.startsWith('aria-') && !LOOKED_AT.has(folded),
+        () => `the attribute ${quote(name.slice(0, 200))} of node ${n} (${tag})`);
+      pairs.push({ name, value });
     }
-    return `[${pairs.join(',')}]`;
+    return pairs;
+  };
+
+  // The ids by which elements are named, gathered where they are first wanted.
+  let references = null;
+  const isReferredTo = (element) => {
+    if (references === null) {
+      references = new Set();
+      for (const other of queryAll('*')) {
+        for (const { name, value } of attributes(other)) {
+          if (/^aria-(labelledby|owns)$/i.test(name)) {
+            value.split(/[\t-\r \x85\xa0\u1680\u2000-\u200a\u2028\u2029\u202f\u205f\u3000]+/).forEach((id) => references.add(id));
+          }
+        }
+      }
+      references.delete('');
+    }
+    return references.has(getAttribute(element, 'id')) || localName(element) === 'label';
+  };
+  // Whether no rule looks at a text: it is a program's, isn't rendered, and
+  // stands in nothing that names an element, since a name may come from hidden parts.
+  const isUnread = (text, tag, rendered) => {
+    if (rendered || !UNREAD.has(tag)) return false;
+    for (let up = parentElement(text); up; up = parentElement(up)) if (isReferredTo(up)) return false;
+    return true;
   };
 
   const visit = (node, parent, depth, within) => {
@@ -239,9 +304,10 @@ function silvervoleSnapshot(address) {
     }
     const row = `{"n":${n},"p":${parent === 0 ? 'null' : parent}`;
     if (type !== 1) {
-      const text = bounded(characters(node), () => `the text of node ${n}, in node ${parent} (${within.tag}),`);
       const rendered = within.drawn && (within.host === null || slotShown(slotOfText(node), within.host));
-      records.push({ row: `${row},"text":${quote(text)}`, node, n, parent, element: false,
+      const text = valueOf(characters(node), () => isUnread(node, within.tag, rendered),
+        () => `the text of node ${n}, in node ${parent} (${within.tag}),`);
+      records.push({ row, text, node, n, parent, element: false,
         rendered, visible: rendered && within.visible, focusable: false, tabbable: false });
       return;
     }
@@ -251,7 +317,7 @@ function silvervoleSnapshot(address) {
     const rendered = isRendered(node, ns, tag, css, within);
     const written = bounded(tag, () => `the tag of node ${n}`);
     const attrs = attrsOf(node, n, written.slice(0, 200));
-    records.push({ row: `${row},"ns":"${ns}","tag":${quote(written)},"attrs":${attrs}`, node, n, parent, element: true,
+    records.push({ row: `${row},"ns":"${ns}","tag":${quote(written)}`, attrs, node, n, parent, element: true,
       ns, tag, rendered, visible: rendered && css.visibility === 'visible', ownVisible: css.visibility === 'visible',
       inCanvas: within.inCanvas, focusable: false, tabbable: false });
     const place = childrenOf(node, ns, tag, rendered, css, within);
@@ -412,13 +478,38 @@ function silvervoleSnapshot(address) {
   placeAreas();
   probeFocus();
   markStops();
-  const lines = records.map((record) => `${record.row},"f":"${record.rendered ? 'r' : ''}${record.visible ? 'v' : ''}${
-    record.focusable ? 'f' : ''}${record.tabbable ? 't' : ''}"}`);
+  const line = (record) => {
+    const held = record.element
+      ? `"attrs":[${record.attrs.map(({ name, value }) => `[${quote(name)},${quote(value.text)}]`).join(',')}]`
+      : `"text":${quote(record.text.text)}`;
+    return `${record.row},${held},"f":"${record.rendered ? 'r' : ''}${record.visible ? 'v' : ''}${
+      record.focusable ? 'f' : ''}${record.tabbable ? 't' : ''}"}`;
+  };
   // One row a line: the row of node n stands on line n + 1.
-  const text = `{"url":${quote(url)},"nodes":[\n${lines.join(',\n')}\n]}\n`;
+  const whole = () => `{"url":${quote(url)},"nodes":[\n${records.map(line).join(',\n')}\n]}\n`;
+  const text = whole();
   const bytes = utf8Length(text);
-  if (bytes > LIMITS.snapshotBytes) {
-    limit(`the snapshot has ${grouped(bytes)} bytes; the form allows ${grouped(LIMITS.snapshotBytes)}`);
+  if (bytes <= LIMITS.snapshotBytes) return text;
+
+  // --- The whole is too long ----------------------------------------------
+
+  const values = records.flatMap((record) => (record.element ? record.attrs.map((pair) => pair.value) : [record.text]));
+  // Of equal length the earlier comes first.
+  values.sort((one, other) => other.bytes - one.bytes);
+  const written = (value) => utf8Length(quote(value.text));
+  let left = bytes;
+  for (const value of exact ? [] : values) {
+    if (left <= LIMITS.snapshotBytes || value.bytes <= FRONT_BYTES) break;
+    if (value.loose()) {
+      left -= written(value);
+      cut(value);
+      left += written(value);
+    }
   }
-  return text;
+  if (left > LIMITS.snapshotBytes) {
+    const longest = values.find((value) => !value.loose());
+    limit(`the snapshot has ${grouped(left)} bytes${left < bytes ? ' after all cuts' : ''}; the form allows ${
+      grouped(LIMITS.snapshotBytes)}${longest ? `; the longest that a rule looks at: ${longest.what()} with ${grouped(longest.bytes)}` : ''}`);
+  }
+  return whole();
 }

@@ -1,11 +1,43 @@
--- The book of the rules that are built so far.
+-- The book of the rules that are built so far, in the order of their numbers.
 use Rattle.std.specs.Prelude.{List, [], ◌∷◌}
 use Rattle.rule_core.specs.Books.{Entry}
 use Rattle.rules_page.specs.PageTitle.{page_has_title, page_has_title_info}
 use Rattle.rules_page.specs.Language.{page_has_lang, page_has_lang_info}
+use Rattle.rules_names.specs.Button.{button_has_name, button_has_name_info}
+use Rattle.rules_names.specs.Link.{link_has_name, link_has_name_info}
+use Rattle.rules_names.specs.Image.{image_has_name, image_has_name_info}
+use Rattle.rules_names.specs.ImageButton.{image_button_has_name, image_button_has_name_info}
+use Rattle.rules_names.specs.FormField.{form_field_has_name, form_field_has_name_info}
+use Rattle.rules_names.specs.Iframe.{iframe_has_name, iframe_has_name_info}
+use Rattle.rules_names.specs.Heading.{heading_has_name, heading_has_name_info}
+use Rattle.rules_names.specs.SvgImage.{svg_image_has_name, svg_image_has_name_info}
+use Rattle.rules_names.specs.HeadingDescriptive.{heading_is_descriptive, heading_is_descriptive_info}
+use Rattle.rules_aria.specs.Autocomplete.{autocomplete_is_valid, autocomplete_is_valid_info}
+use Rattle.rules_aria.specs.Role.{role_is_valid, role_is_valid_info}
+use Rattle.rules_aria.specs.AriaAttribute.{aria_attribute_is_defined, aria_attribute_is_defined_info}
+use Rattle.rules_aria.specs.AriaValue.{aria_value_is_valid, aria_value_is_valid_info}
+use Rattle.rules_aria.specs.RequiredStates.{has_required_states, has_required_states_info}
+use Rattle.rules_aria.specs.OwnedElements.{owns_required_elements, owns_required_elements_info}
+use Rattle.rules_aria.specs.AriaHidden.{hidden_holds_no_focus, hidden_holds_no_focus_info}
 
 abbrev pub early : List Entry
 early =
     record { info = page_has_title_info; says = page_has_title }
     ∷ record { info = page_has_lang_info; says = page_has_lang }
+    ∷ record { info = button_has_name_info; says = button_has_name }
+    ∷ record { info = link_has_name_info; says = link_has_name }
+    ∷ record { info = image_has_name_info; says = image_has_name }
+    ∷ record { info = image_button_has_name_info; says = image_button_has_name }
+    ∷ record { info = form_field_has_name_info; says = form_field_has_name }
+    ∷ record { info = iframe_has_name_info; says = iframe_has_name }
+    ∷ record { info = heading_has_name_info; says = heading_has_name }
+    ∷ record { info = svg_image_has_name_info; says = svg_image_has_name }
+    ∷ record { info = heading_is_descriptive_info; says = heading_is_descriptive }
+    ∷ record { info = autocomplete_is_valid_info; says = autocomplete_is_valid }
+    ∷ record { info = role_is_valid_info; says = role_is_valid }
+    ∷ record { info = aria_attribute_is_defined_info; says = aria_attribute_is_defined }
+    ∷ record { info = aria_value_is_valid_info; says = aria_value_is_valid }
+    ∷ record { info = has_required_states_info; says = has_required_states }
+    ∷ record { info = owns_required_elements_info; says = owns_required_elements }
+    ∷ record { info = hidden_holds_no_focus_info; says = hidden_holds_no_focus }
     ∷ []

@@ -2,6 +2,14 @@ ghost use Rattle.std.specs.Prelude.{◌≡◌};
 
 use counts::next;
 use rule_core::{Rule, RuleBook, RuleInfo, RuleNo, Verdict};
+use rules_aria::{
+    AriaAttributeIsDefined, AriaValueIsValid, AutocompleteIsValid, HasRequiredStates,
+    HiddenHoldsNoFocus, OwnsRequiredElements, RoleIsValid,
+};
+use rules_names::{
+    ButtonHasName, FormFieldHasName, HeadingHasName, HeadingIsDescriptive, IframeHasName,
+    ImageButtonHasName, ImageHasName, LinkHasName, SvgImageHasName,
+};
 use rules_page::{PageHasLang, PageHasTitle};
 use snap_tree::{NodeId, OutOfMemory, Tree};
 use std::alloc::Global;
@@ -38,6 +46,22 @@ impl RuleBook for Early {
         match place {
             0 => Some(PageHasTitle.info()),
             1 => Some(PageHasLang.info()),
+            2 => Some(ButtonHasName.info()),
+            3 => Some(LinkHasName.info()),
+            4 => Some(ImageHasName.info()),
+            5 => Some(ImageButtonHasName.info()),
+            6 => Some(FormFieldHasName.info()),
+            7 => Some(IframeHasName.info()),
+            8 => Some(HeadingHasName.info()),
+            9 => Some(SvgImageHasName.info()),
+            10 => Some(HeadingIsDescriptive.info()),
+            11 => Some(AutocompleteIsValid.info()),
+            12 => Some(RoleIsValid.info()),
+            13 => Some(AriaAttributeIsDefined.info()),
+            14 => Some(AriaValueIsValid.info()),
+            15 => Some(HasRequiredStates.info()),
+            16 => Some(OwnsRequiredElements.info()),
+            17 => Some(HiddenHoldsNoFocus.info()),
             _ => None,
         }
     }
@@ -53,6 +77,22 @@ impl RuleBook for Early {
         match rule.0 {
             1 => PageHasTitle.judge(alloc, tree, n),
             3 => PageHasLang.judge(alloc, tree, n),
+            8 => ButtonHasName.judge(alloc, tree, n),
+            9 => LinkHasName.judge(alloc, tree, n),
+            10 => ImageHasName.judge(alloc, tree, n),
+            11 => ImageButtonHasName.judge(alloc, tree, n),
+            12 => FormFieldHasName.judge(alloc, tree, n),
+            13 => IframeHasName.judge(alloc, tree, n),
+            14 => HeadingHasName.judge(alloc, tree, n),
+            15 => SvgImageHasName.judge(alloc, tree, n),
+            16 => HeadingIsDescriptive.judge(alloc, tree, n),
+            17 => AutocompleteIsValid.judge(alloc, tree, n),
+            18 => RoleIsValid.judge(alloc, tree, n),
+            19 => AriaAttributeIsDefined.judge(alloc, tree, n),
+            20 => AriaValueIsValid.judge(alloc, tree, n),
+            21 => HasRequiredStates.judge(alloc, tree, n),
+            22 => OwnsRequiredElements.judge(alloc, tree, n),
+            23 => HiddenHoldsNoFocus.judge(alloc, tree, n),
             _ => Ok(None),
         }
     }

@@ -65,7 +65,8 @@ pub(crate) fn attrs_after(
     name: &Text,
     value: Option<&Text>,
 ) -> Result<Vec<Attr>, OutOfMemory>
-    ensures { IfOk result (λ new. new.items ≡ attrs_after name.now (option_copied value.entry) attrs.now) }
+    ensures { IfOk result
+        (λ new. new.items ≡ attrs_after name.now (option_copied value.entry) attrs.now) }
 {
     match value {
         Some(value) => attrs_with(alloc, attrs, name, value),

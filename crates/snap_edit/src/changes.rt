@@ -33,8 +33,10 @@ pub(crate) fn change_attr(
     value: Option<&Text>,
 ) -> Result<Vec<Row>, Refusal>
     requires { tree_fault rows.items ≡ None }
-    ensures made { IfOk result (λ new. Makes new.items (attrs_changed (grown rows.items) node (attrs_after name.now (option_copied value.entry)))) }
-    ensures refused { IfErr result (λ f. Declines f (attrs_changed (grown rows.items) node (attrs_after name.now (option_copied value.entry)))) }
+    ensures made { IfOk result (λ new. Makes new.items
+        (attrs_changed (grown rows.items) node (attrs_after name.now (option_copied value.entry)))) }
+    ensures refused { IfErr result (λ f. Declines f
+        (attrs_changed (grown rows.items) node (attrs_after name.now (option_copied value.entry)))) }
 {
     let place = element_at(rows.as_slice(), node)?;
     let attrs = attrs_after(alloc, rows[place].attrs(), name, value)?;

@@ -1,0 +1,119 @@
+"""How a command ends: its statuses, and the one line that says why."""
+from __future__ import annotations
+
+import enum
+import logging
+import os
+import signal
+import sys
+import threading
+import warnings
+
+
+class End(enum.IntEnum):
+    """The statuses of collector/collect and collector/view. Of many pages' the greatest is the worst.
+
+    They begin at 10, above those of the desk, so that a pipeline's status tells who refused.
+    """
+
+    WRITTEN = 0
+    NOT_HTML = 10
+    MOVED = 11
+    LIMIT = 12
+    DOCUMENT = 13
+    LOAD = 14
+    TIME = 15
+    OUTPUT = 16
+    BROWSER = 17
+    USAGE = 18
+    INPUT = 19
+    INTERRUPTED = 130
+
+
+class Stop(Exception):
+    """Ends a page, or the command, with a status and one line."""
+
+    def __init__(self, end: End, line: str) -> None:
+        super().__init__(line)
+        self.end = end
+        self.line = one_line(line)
+
+
+def one_line(text: str) -> str:
+    """The text with each run of white space as one space, and control characters spelt out.
+
+    What a page names, and an address too, may hold characters that steer a terminal.
+    """
+    return "".join(c if c.isprintable() else f"\\u{ord(c):04x}" for c in " ".join(text.split()))
+
+
+def first_line(error: Exception) -> str:
+    """What a driver's error says, without its stack."""
+    text = (getattr(error, "msg", None) or str(error)).strip()
+    return text.splitlines()[0] if text else type(error).__name__
+
+
+_said = threading.Lock()
+
+
+def say(program: str, line: str) -> None:
+    """Writes one line on standard error, where there is one."""
+    with _said:
+        try:
+            if sys.stderr is not None:
+                sys.stderr.write(f"{program}: {one_line(line)}\n")
+                sys.stderr.flush()
+        except OSError:
+            pass  # nothing is left to say it on
+
+
+def need_output() -> None:
+    """Refuses a standard output that was closed before the command began."""
+    if sys.stdout is None:
+        raise Stop(End.OUTPUT, "standard output is closed")
+
+
+def write_out(data: bytes) -> None:
+    """Writes bytes on standard output, all of them or a Stop."""
+    try:
+        sys.stdout.buffer.write(data)
+        sys.stdout.buffer.flush()
+    except OSError as error:
+        # What is left in the buffer must not be tried again at exit.
+        os.dup2(os.open(os.devnull, os.O_WRONLY), sys.stdout.fileno())
+        raise Stop(End.OUTPUT, f"standard output can't be written: {error.strerror}") from None
+
+
+def write_file(path: str | os.PathLike[str], data: bytes) -> None:
+    """Writes a file whole: it is there under its name when it is complete, or not at all."""
+    part = f"{os.fspath(path)}.part"
+    try:
+        with open(part, "wb") as file:
+            file.write(data)
+        os.replace(part, path)
+    except OSError as error:
+        remove(part)
+        raise Stop(End.OUTPUT, f"{os.fspath(path)} can't be written: {error.strerror}") from None
+
+
+def remove(path: str | os.PathLike[str]) -> None:
+    """Takes a file away, where it is there."""
+    try:
+        os.unlink(path)
+    except OSError:
+        pass
+
+
+def quiet_libraries() -> None:
+    """Keeps the libraries from writing lines of their own, such as of a driver that dies."""
+    logging.disable(logging.CRITICAL)
+    warnings.simplefilter("ignore")
+
+
+def stop_on_signals() -> None:
+    """Makes a termination an interruption, so that browsers are closed then too."""
+    def interrupt(number: int, frame: object) -> None:
+        raise KeyboardInterrupt
+
+    for number in (signal.SIGTERM, signal.SIGHUP):
+        signal.signal(number, interrupt)

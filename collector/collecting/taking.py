@@ -1,0 +1,51 @@
+"""Takes the snapshot of the page that a browser shows."""
+from __future__ import annotations
+
+import pathlib
+from dataclasses import dataclass, field
+from typing import Any
+
+from .ends import End, Stop, first_line
+
+HERE = pathlib.Path(__file__).resolve().parent.parent
+SNAPSHOT = HERE / "snapshot.js"
+BOXES = HERE / "boxes.js"
+
+# The wrapped call tells a fault of the page from one of the driver. The boxes are
+# measured in the same turn, so that no node comes or goes in between.
+CALL = """
+const cuts = [];
+try {
+  const text = (%s)(arguments[0], { exact: arguments[1], told: (line) => cuts.push(line) });
+  return { text, cuts, page: arguments[2] ? (%s)() : null };
+} catch (error) { return { name: String(error && error.name), message: String(error && error.message), cuts }; }
+"""
+FAULTS = {"SnapshotLimit": (End.LIMIT, "a limit is passed"), "SnapshotAddress": (End.USAGE, "wrong address")}
+
+
+@dataclass
+class Taken:
+    """A snapshot's text, a line for each cut, and where boxes are wanted the page's size and boxes."""
+
+    text: str
+    cuts: list[str] = field(default_factory=list)
+    page: dict[str, Any] | None = None
+
+
+def take(browser: Any, address: str | None = None, exact: bool = False, boxes: bool = False) -> Taken:
+    """The snapshot of the page that the browser shows, written under the address."""
+    from selenium.common.exceptions import InvalidSessionIdException, TimeoutException, WebDriverException
+
+    source = CALL % (SNAPSHOT.read_text(encoding="utf-8"), BOXES.read_text(encoding="utf-8"))
+    try:
+        answer = browser.execute_script(source, address, exact, boxes)
+    except TimeoutException:
+        raise Stop(End.TIME, "the page leaves its browser no time in which it can be read") from None
+    except InvalidSessionIdException:
+        raise  # the browser ended
+    except WebDriverException as error:
+        raise Stop(End.DOCUMENT, f"the page can't be read: {first_line(error)}") from None
+    if "text" in answer:
+        return Taken(answer["text"], answer["cuts"], answer["page"])
+    end, what = FAULTS.get(answer["name"], (End.DOCUMENT, "the page can't be read"))
+    raise Stop(end, f"{what}: {answer['message']}")

@@ -1,0 +1,45 @@
+"""What the browser tells of its network: the page's own response, and when all is quiet."""
+from __future__ import annotations
+
+import json
+from typing import Any, Iterator
+
+
+class Traffic:
+    """The events of one page's main frame, read from the driver's log as they come."""
+
+    def __init__(self, browser: Any) -> None:
+        self.browser = browser
+        self.frame = browser.execute_cdp_cmd("Page.getFrameTree", {})["frameTree"]["frame"]["id"]
+        self.idle = False
+        # Of the last response that was to be the page.
+        self.type = ""
+        self.status = 0
+        self.fault = ""
+        for _ in self.events():
+            pass  # what an earlier page left
+
+    def events(self) -> Iterator[tuple[str, dict[str, Any]]]:
+        """The name and the parameters of each event since the last call."""
+        for entry in self.browser.get_log("performance"):
+            message = json.loads(entry["message"])["message"]
+            yield message["method"], message["params"]
+
+    def is_page(self, given: dict[str, Any]) -> bool:
+        """Whether a request or a response is that of the page itself."""
+        return given.get("type") == "Document" and given.get("frameId") == self.frame
+
+    def listen(self) -> None:
+        """Takes in what came since the last call."""
+        documents = set()
+        for name, given in self.events():
+            if name == "Network.responseReceived" and self.is_page(given):
+                self.type = given["response"]["mimeType"]
+                self.status = int(given["response"]["status"])
+            elif name == "Network.requestWillBeSent" and self.is_page(given):
+                documents.add(given["requestId"])
+            elif name == "Network.loadingFailed" and given["requestId"] in documents:
+                self.fault = given["errorText"]
+            elif name == "Page.lifecycleEvent" and given["frameId"] == self.frame:
+                # "init" begins a new document, in which nothing is quiet yet.
+                self.idle = given["name"] == "networkIdle" or (self.idle and given["name"] != "init")

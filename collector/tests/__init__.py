@@ -1,0 +1,1 @@
+"""Tests of the collector and the view, with a real Chromium."""

@@ -1,0 +1,73 @@
+"""The command collector/view."""
+from __future__ import annotations
+
+import argparse
+import sys
+from typing import NoReturn, Sequence
+
+from collecting.ends import End, Stop, need_output, quiet_libraries, say, stop_on_signals, write_out
+
+from .findings import bring_together
+from .page import read_page
+from .pictures import read_picture
+from .report import read_report
+from .rules import read_rules
+
+USAGE = "view SNAPSHOT REPORT [--shot PICTURE]"
+
+
+class Parser(argparse.ArgumentParser):
+    """A parser whose refusal is a Stop of one line."""
+
+    def error(self, message: str) -> NoReturn:
+        raise Stop(End.USAGE, f"{message}; usage: {USAGE}")
+
+    def print_help(self, file: object = None) -> None:
+        """Writes the help on standard output, or is a Stop where that can't be written."""
+        write_out(self.format_help().encode("utf-8"))
+
+
+def read_words(words: Sequence[str]) -> argparse.Namespace:
+    """The words of the command."""
+    made = Parser(prog="view", allow_abbrev=False, usage=USAGE,
+                  description="Writes the findings of a report as one HTML file. docs/collecting.md says more.")
+    made.add_argument("snapshot", metavar="SNAPSHOT", help="the page's snapshot")
+    made.add_argument("report", metavar="REPORT", help="the desk's text report of it; - is standard input")
+    made.add_argument("--shot", metavar="PICTURE", help="the picture that collect --shot wrote with the snapshot")
+    return made.parse_args(words)
+
+
+def read(path: str) -> bytes:
+    """The bytes of a file, or of standard input."""
+    try:
+        if path == "-":
+            if sys.stdin is None:
+                raise Stop(End.INPUT, "standard input is closed")
+            return sys.stdin.buffer.read()
+        with open(path, "rb") as file:
+            return file.read()
+    except OSError as error:
+        raise Stop(End.INPUT, f"{path} can't be read: {error.strerror}") from None
+
+
+def main(words: Sequence[str]) -> int:
+    """The status of a run."""
+    try:
+        quiet_libraries()
+        stop_on_signals()
+        need_output()
+        given = read_words(words)
+        snapshot = read(given.snapshot)
+        page = read_page(snapshot, given.snapshot)
+        report = read_report(read(given.report), given.report)
+        picture = read_picture(given.shot, snapshot) if given.shot is not None else None
+        findings = bring_together(report, page, read_rules(), picture)
+        from .writing import write_view  # only here Jinja2 is needed
+        write_out(write_view(findings, picture).encode("utf-8"))
+        return End.WRITTEN
+    except Stop as stop:
+        say("view", stop.line)
+        return stop.end
+    except KeyboardInterrupt:
+        say("view", "interrupted")
+        return End.INTERRUPTED

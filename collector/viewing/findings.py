@@ -1,0 +1,160 @@
+"""Brings a report, its page and the rules together, in the order in which people read them."""
+from __future__ import annotations
+
+import re
+from collections import Counter
+from dataclasses import dataclass
+
+from collecting.ends import End, Stop
+
+from .page import Page, Quote, start_tag
+from .paths import css_path
+from .pictures import Crop, Picture
+from .report import OUTCOMES, Finding, Report
+from .rules import Advice, Criterion, Rule, RuleTable
+
+
+# An address that the desk prints as it stands in the snapshot; what a parser would write otherwise isn't plain.
+PLAIN = re.compile(r"https?://[a-z][a-z0-9.-]*/[A-Za-z0-9/?&=%_~+,;:@#!$*()-]*")
+
+NOTHING = Quote("", "")
+
+
+@dataclass(frozen=True)
+class Target:
+    """What is said of one node."""
+
+    number: int
+    kind: str
+    is_root: bool
+    path: str
+    tag: str
+    text: Quote
+    heading: Quote
+    heading_tag: str
+    crop: Crop | None
+
+
+@dataclass(frozen=True)
+class ReasonPart:
+    """The targets of one rule that have one outcome for one reason."""
+
+    reason: str
+    judge: str
+    advice: Advice | None
+    targets: tuple[Target, ...]
+
+
+@dataclass(frozen=True)
+class RulePart:
+    """The findings of one rule with one outcome."""
+
+    rule: Rule
+    outcome: str
+    parts: tuple[ReasonPart, ...]
+
+    @property
+    def count(self) -> int:
+        return sum(len(part.targets) for part in self.parts)
+
+
+@dataclass(frozen=True)
+class CriterionLine:
+    """How many findings count under a criterion; without one, under none."""
+
+    criterion: Criterion | None
+    counts: dict[str, int]
+    rules: tuple[RulePart, ...]
+
+
+@dataclass(frozen=True)
+class Findings:
+    """All that the view shows."""
+
+    address: str
+    title: Quote
+    nodes: int
+    counts: dict[str, int]
+    sections: dict[str, tuple[RulePart, ...]]
+    criteria: tuple[CriterionLine, ...]
+    quiet: tuple[Criterion, ...]
+    inapplicable: tuple[Rule, ...]
+    rules: tuple[tuple[Rule, dict[str, int]], ...]
+    has_picture: bool
+
+
+def bring_together(report: Report, page: Page, table: RuleTable, picture: Picture | None) -> Findings:
+    """The findings of a report on this page."""
+    if PLAIN.fullmatch(page.address) and page.address != report.address:
+        raise Stop(End.INPUT, f"the report is of {report.address}, the snapshot of {page.address}")
+    strange = next((finding for finding in report.findings if finding.node not in page.nodes), None)
+    if strange is not None:
+        raise Stop(End.INPUT, f"the report speaks of node {strange.node}, which the snapshot doesn't hold: it is of another page")
+    makers = TargetMaker(page, picture)
+    sections = {outcome: parts_of(report.findings, outcome, table, makers) for outcome in OUTCOMES}
+    by_rule: dict[str, dict[str, int]] = {}
+    for finding in report.findings:
+        counts = by_rule.setdefault(finding.rule, dict.fromkeys(OUTCOMES, 0))
+        counts[finding.outcome] += 1
+    lines, quiet = criterion_lines(sections, table)
+    totals = Counter(finding.outcome for finding in report.findings)
+    return Findings(
+        report.address, page.title, len(page.nodes), {outcome: totals[outcome] for outcome in OUTCOMES}, sections, lines, quiet,
+        tuple(table.rule(identity) for identity in report.inapplicable),
+        tuple((table.rule(identity), counts) for identity, counts in by_rule.items()), picture is not None)
+
+
+class TargetMaker:
+    """Says of a node what people need to find it, once for each node."""
+
+    def __init__(self, page: Page, picture: Picture | None) -> None:
+        self.page = page
+        self.picture = picture
+        self.made: dict[int, Target] = {}
+
+    def target(self, number: int) -> Target:
+        """What is said of the node with this number."""
+        if number not in self.made:
+            self.made[number] = self.make(number)
+        return self.made[number]
+
+    def make(self, number: int) -> Target:
+        node = self.page.nodes[number]
+        element = node if node.is_element or node.parent is None else node.parent
+        is_root = element is self.page.root
+        heading = self.page.headings_above.get(number)
+        return Target(
+            number, element.tag if node.is_element else f"text in {element.tag}", is_root, css_path(self.page, node),
+            start_tag(element), NOTHING if is_root else self.page.quote(node),
+            self.page.quote(heading) if heading else NOTHING, heading.tag if heading else "",
+            self.picture.crop(element) if self.picture else None)
+
+
+def parts_of(findings: tuple[Finding, ...], outcome: str, table: RuleTable, makers: TargetMaker) -> tuple[RulePart, ...]:
+    """The rules with findings of this outcome, in the report's order."""
+    grouped: dict[str, dict[tuple[str, str], list[Target]]] = {}
+    for finding in findings:
+        if finding.outcome == outcome:
+            reasons = grouped.setdefault(finding.rule, {})
+            reasons.setdefault((finding.reason, finding.judge), []).append(makers.target(finding.node))
+    parts = []
+    for identity, reasons in grouped.items():
+        rule = table.rule(identity)
+        parts.append(RulePart(rule, outcome, tuple(
+            ReasonPart(reason, judge, rule.advice_for(reason, outcome), tuple(targets))
+            for (reason, judge), targets in reasons.items())))
+    return tuple(parts)
+
+
+def criterion_lines(sections: dict[str, tuple[RulePart, ...]], table: RuleTable) -> tuple[tuple[CriterionLine, ...], tuple[Criterion, ...]]:
+    """A line for each criterion with findings, last one for rules under none; and the criteria without any."""
+    lines, quiet = [], []
+    for criterion in (*table.criteria, None):
+        parts = [part for outcome in OUTCOMES for part in sections[outcome]
+                 if (criterion in part.rule.criteria if criterion else not part.rule.criteria)]
+        if parts:
+            counts = {outcome: sum(part.count for part in parts if part.outcome == outcome) for outcome in OUTCOMES}
+            lines.append(CriterionLine(criterion, counts, tuple(parts)))
+        elif criterion:
+            quiet.append(criterion)
+    return tuple(lines), tuple(quiet)

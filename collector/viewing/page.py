@@ -1,0 +1,205 @@
+"""A page as its snapshot has it, and what is said of a node to a person who looks for it."""
+from __future__ import annotations
+
+import re
+from collections import Counter
+from dataclasses import dataclass, field
+from functools import cached_property
+from typing import Iterator, NamedTuple
+
+import check_form
+from collecting.ends import End, Stop
+
+from .languages import known_language
+
+HEADING = re.compile(r"h[1-6]")
+VOID = {"area", "base", "br", "col", "embed", "hr", "img", "input", "link", "meta", "source", "track", "wbr"}
+LONGEST_TEXT, LONGEST_VALUE, MOST_ATTRIBUTES = 240, 100, 20
+ENOUGH_TEXT = 4 * LONGEST_TEXT
+
+
+@dataclass(eq=False)
+class Node:
+    """An element or a text: what its row says, and its place in the tree."""
+
+    number: int
+    parent: Node | None
+    tag: str
+    space: str
+    attributes: list[tuple[str, str]]
+    words: str
+    letters: str
+    kids: list[Node] = field(default_factory=list)
+
+    @property
+    def is_element(self) -> bool:
+        return self.tag != ""
+
+    @property
+    def folded(self) -> str:
+        """The tag with ASCII letters in lower case."""
+        return check_form.folded(self.tag)
+
+    def attribute(self, name: str) -> str:
+        """The value of an attribute; the empty text where there is none."""
+        return next((value for key, value in self.attributes if check_form.folded(key) == name), "")
+
+    @cached_property
+    def elements(self) -> list[Node]:
+        """The children that are elements."""
+        return [kid for kid in self.kids if kid.is_element]
+
+    @cached_property
+    def places(self) -> dict[int, int]:
+        """The place of each child element among all of them, from 1."""
+        return {kid.number: place for place, kid in enumerate(self.elements, 1)}
+
+    @cached_property
+    def of_tag(self) -> dict[str, list[int]]:
+        """The numbers of the child elements of each tag."""
+        found: dict[str, list[int]] = {}
+        for kid in self.elements:
+            found.setdefault(kid.folded, []).append(kid.number)
+        return found
+
+    @cached_property
+    def kinds_of_tag(self) -> dict[str, set[tuple[str, str]]]:
+        """The name spaces and the spellings of each tag among the child elements."""
+        found: dict[str, set[tuple[str, str]]] = {}
+        for kid in self.elements:
+            found.setdefault(kid.folded, set()).add((kid.space, kid.tag))
+        return found
+
+    @cached_property
+    def of_tag_places(self) -> dict[int, int]:
+        """The place of each child element among those of its tag, from 1."""
+        return {number: place for numbers in self.of_tag.values() for place, number in enumerate(numbers, 1)}
+
+
+class Quote(NamedTuple):
+    """A text of the page, and the tag of its language where that is known."""
+
+    text: str
+    language: str
+
+
+@dataclass(frozen=True)
+class Page:
+    """An address and nodes by their numbers, in document order."""
+
+    address: str
+    nodes: dict[int, Node]
+
+    @cached_property
+    def root(self) -> Node:
+        return next(iter(self.nodes.values()))
+
+    @cached_property
+    def ids(self) -> Counter[str]:
+        """How many elements have an id; letter case is left aside, as selectors do in old pages."""
+        return Counter(check_form.folded(node.attribute("id")) for node in self.nodes.values() if node.attribute("id"))
+
+    @cached_property
+    def headings_above(self) -> dict[int, Node]:
+        """The last heading with a text that comes before each node."""
+        found: dict[int, Node] = {}
+        last = None
+        for node in self.nodes.values():
+            if last is not None:
+                found[node.number] = last
+            if is_heading(node) and text_of(node):
+                last = node
+        return found
+
+    @cached_property
+    def title(self) -> Quote:
+        """The text of the first title element."""
+        titles = (node for node in self.nodes.values() if node.folded == "title" and node.space == "html")
+        first = next(titles, None)
+        return Quote(tidy("".join(kid.words for kid in first.kids)), self.languages[first.number]) if first else Quote("", "")
+
+    @cached_property
+    def languages(self) -> dict[int, str]:
+        """The language of each node: its own, or that of the nearest element above it that has one."""
+        found: dict[int, str] = {}
+        for node in self.nodes.values():
+            own = node.attribute("lang").strip()
+            above = found[node.parent.number] if node.parent else ""
+            found[node.number] = known_language(own) if own else above
+        return found
+
+    def quote(self, node: Node) -> Quote:
+        """What a node holds for its readers, its front where it is long."""
+        return Quote(shortened(text_of(node), LONGEST_TEXT), self.languages[node.number])
+
+
+def read_page(data: bytes, path: str) -> Page:
+    """The page that the bytes of a snapshot hold, or a Stop."""
+    try:
+        address, rows = check_form.read(data)
+        check_form.check_tree(rows)
+    except check_form.Fault as fault:
+        raise Stop(End.INPUT, f"{path} is no snapshot: {fault}") from None
+    nodes: dict[int, Node] = {}
+    for row in rows:
+        parent = nodes.get(row["p"])
+        node = Node(row["n"], parent, row["tag"] or "", row["ns"], [tuple(pair) for pair in row["attrs"]],
+                    row["text"] or "", row["f"])
+        nodes[node.number] = node
+        if parent is not None:
+            parent.kids.append(node)
+    return Page(address, nodes)
+
+
+def tidy(text: str) -> str:
+    """The text's words with one space between them."""
+    return " ".join(part for part in check_form.WHITE.split(text) if part)
+
+
+def shortened(text: str, most: int) -> str:
+    """The text, or its front and an ellipsis."""
+    return text if len(text) <= most else f"{text[:most - 1].rstrip()}\u2026"
+
+
+def is_heading(node: Node) -> bool:
+    """Whether a person who looks at the page sees a heading there."""
+    role = node.attribute("role").strip().lower()
+    named = role == "heading" or (role == "" and node.space == "html" and HEADING.fullmatch(node.folded) is not None)
+    return node.is_element and named and "v" in node.letters
+
+
+def text_of(node: Node) -> str:
+    """The texts in a node that are drawn, and the alternative texts of its pictures; all its texts where it isn't drawn.
+
+    Of a long text it is the front.
+    """
+    parts, size = [], 0
+    for piece in pieces(node, "v" not in node.letters):
+        parts.append(piece)
+        size += len(piece.strip())
+        if size > ENOUGH_TEXT:
+            break
+    return tidy("".join(parts))
+
+
+def pieces(node: Node, whole: bool) -> Iterator[str]:
+    """The texts of a node one after another, those that aren't drawn only where the whole is wanted."""
+    if not node.is_element:
+        if whole or "v" in node.letters:
+            yield node.words
+    elif node.folded == "img":
+        yield f" {node.attribute('alt')} "
+    for kid in node.kids:
+        yield from pieces(kid, whole)
+
+
+def start_tag(node: Node) -> str:
+    """The element's start tag as HTML would write it, long values shortened."""
+    written = [node.tag]
+    for name, value in node.attributes[:MOST_ATTRIBUTES]:
+        spelt = shortened(value, LONGEST_VALUE).replace("&", "&amp;").replace('"', "&quot;")
+        written.append(f'{name}="{spelt}"' if value else name)
+    if len(node.attributes) > MOST_ATTRIBUTES:
+        written.append("\u2026")
+    closed = "/" if node.space != "html" and not node.kids else ""
+    return f"<{' '.join(written)}{closed}>"

@@ -1,0 +1,54 @@
+"""The CSS path of a node: a selector that finds its element and no other."""
+from __future__ import annotations
+
+import re
+
+import check_form
+
+from .page import Node, Page
+
+
+def css_path(page: Page, node: Node) -> str:
+    """The shortest chain of steps from an element with an id of its own, or from the root, down to the element.
+
+    A text has the path of the element that it stands in.
+    """
+    steps: list[str] = []
+    at: Node | None = node if node.is_element else node.parent
+    while at is not None:
+        identity = at.attribute("id")
+        if identity and page.ids[check_form.folded(identity)] == 1:
+            steps.append(f"#{escaped(identity)}")
+            break
+        steps.append(step(at))
+        at = at.parent
+    return " > ".join(reversed(steps))
+
+
+def step(node: Node) -> str:
+    """The selector of an element among the children of its parent."""
+    # A selector's tag is folded against elements of HTML, and exact against all others.
+    findable = node.space != "html" or node.tag == node.folded
+    if node.parent is None:
+        return escaped(node.tag) if findable else ":root"
+    alike = node.parent.of_tag[node.folded]
+    if findable and len(alike) == 1:
+        return escaped(node.tag)
+    if findable and len(node.parent.kinds_of_tag[node.folded]) == 1:
+        return f"{escaped(node.tag)}:nth-of-type({node.parent.of_tag_places[node.number]})"
+    return f"*:nth-child({node.parent.places[node.number]})"
+
+
+def escaped(name: str) -> str:
+    """The name as an identifier of CSS, by the rules of CSS.escape."""
+    def spelt(found: re.Match[str]) -> str:
+        character = found.group()
+        if character == "\0":
+            return "\ufffd"
+        if re.fullmatch(r"[\x01-\x1f\x7f0-9]", character):
+            return f"\\{ord(character):x} "
+        return f"\\{character}"
+
+    if name == "-":
+        return "\\-"
+    return re.sub(r"\0|[\x01-\x1f\x7f]|(?<=^)[0-9]|(?<=^-)[0-9]|[^\x80-\U0010ffff\w-]", spelt, name)

@@ -1,0 +1,152 @@
+ghost use Rattle.std.specs.Prelude.{◌≡◌, [], Some, IfOk, unwrap_or};
+ghost use Rattle.aria_tables.specs.declared.attr.AriaAttr.TheVariants as aria;
+ghost use Rattle.snap_tree.specs.Labels.{labels_for};
+ghost use Rattle.snap_tree.specs.Words.{words};
+ghost use Rattle.acc_tree.specs.References.{found, named_by};
+ghost use Rattle.acc_tree.specs.Seen.{seen_row, seen};
+ghost use Rattle.acc_name.specs.Names.{joined, referred, all_referred, told_of, told_by};
+ghost use Rattle.acc_name.specs.Voices.{text_in};
+
+use crate::heard::joined;
+use crate::named::How;
+use crate::references::{References, Untold};
+use crate::room::Room;
+use crate::telling::spoken;
+use crate::told::{Scope, Told};
+use acc_tree::{Above, Attribute, exposed_at, first_found, labels_of, sight_of, text_at};
+use aria_tables::AriaAttr;
+use snap_tree::{Branches, NodeId, OutOfMemory, Row, Text, Tree, tidy};
+use std::alloc::Global;
+
+// What a node says where it is referred to in the name of another. Hidden nodes count if it is hidden
+// itself.
+fn referred(
+    alloc: Global,
+    room: Room,
+    tree: &Tree,
+    node: NodeId,
+    m: NodeId,
+) -> Result<Text, OutOfMemory>
+    ensures { IfOk result (λ t. t ≡ referred (seen tree.now.trees) node m) }
+{
+    let Some(sight) = sight_of(tree, m) else {
+        return Ok(Text::new(alloc));
+    };
+    let hidden = !exposed_at(&sight.above, sight.row);
+    let scope = Scope { node, hidden };
+    let name = spoken(alloc, &Untold, scope, room, How::Referred, sight)?;
+    tidy(alloc, &name.text)
+}
+
+fn text_of(alloc: Global, joined: Option<String>) -> Text
+    ensures { result ≡ unwrap_or (text_in joined) [] }
+{
+    match joined {
+        Some(text) => Text::from_string(text),
+        None => Text::new(alloc),
+    }
+}
+
+// What some elements say where they are referred to, and then a further one, with a space between.
+fn with_referred(
+    alloc: Global,
+    room: Room,
+    tree: &Tree,
+    node: NodeId,
+    so_far: Option<String>,
+    m: NodeId,
+) -> Result<Option<String>, OutOfMemory>
+    ensures { IfOk result (λ t. text_in t ≡ joined (text_in so_far) (Some (referred (seen tree.now.trees) node m))) }
+{
+    let text = referred(alloc, room, tree, node, m)?;
+    joined(so_far, Some(String::from_str(alloc, text.as_str())?))
+}
+
+// What the elements say that the words of a text find.
+fn all_named(
+    alloc: Global,
+    room: Room,
+    tree: &Tree,
+    node: NodeId,
+    text: &str,
+) -> Result<Text, OutOfMemory>
+    ensures { IfOk result (λ t. t ≡ all_referred (seen tree.now.trees) node (found (seen tree.now.trees) (words text.now))) }
+{
+    let mut so_far = None;
+    let mut rest = text;
+    while let Some((m, later)) = first_found(tree, rest) {
+        so_far = with_referred(alloc, room, tree, node, so_far, m)?;
+        rest = later;
+    }
+    Ok(text_of(alloc, so_far))
+}
+
+// What the elements say that aria-labelledby finds.
+fn labelled_by(
+    alloc: Global,
+    room: Room,
+    tree: &Tree,
+    node: NodeId,
+    row: &Row,
+) -> Result<Text, OutOfMemory>
+    ensures { IfOk result (λ t. t ≡ all_referred (seen tree.now.trees) node (found (seen tree.now.trees) (named_by aria.Labelledby (seen_row row.now)))) }
+{
+    let words = text_at(row, Attribute::Aria(AriaAttr::Labelledby));
+    all_named(alloc, room, tree, node, words)
+}
+
+// What the labels of a node say.
+fn labels(
+    alloc: Global,
+    room: Room,
+    tree: &Tree,
+    node: NodeId,
+    row: &Row,
+) -> Result<Text, OutOfMemory>
+    ensures { IfOk result (λ t. t ≡ all_referred (seen tree.now.trees) node (labels_for (seen tree.now.trees) row.now.id)) }
+{
+    let labels = labels_of(alloc, tree, row.id)?;
+    let mut so_far = None;
+    for label in labels.as_slice() {
+        so_far = with_referred(alloc, room, tree, node, so_far, *label)?;
+    }
+    Ok(text_of(alloc, so_far))
+}
+
+/// What references say of a row, in the name of a node.
+pub(crate) fn told_of(
+    alloc: Global,
+    room: Room,
+    tree: &Tree,
+    node: NodeId,
+    row: &Row,
+) -> Result<Told, OutOfMemory>
+    ensures { IfOk result (λ told. told ≡ told_of (seen tree.now.trees) node (seen_row row.now)) }
+{
+    Ok(Told {
+        labelled_by: labelled_by(alloc, room, tree, node, row)?,
+        labels: labels(alloc, room, tree, node, row)?,
+    })
+}
+
+/// All references of a page, for the name of one node.
+#[derive(Drop)]
+pub(crate) struct OnPage<'a> {
+    pub(crate) tree: &'a Tree,
+    pub(crate) node: NodeId,
+}
+
+impl References for OnPage<'_> {
+    ghost tells = { λ page s. told_by (seen page.tree.now.trees) page.node s };
+
+    fn told(
+        &self,
+        alloc: Global,
+        room: Room,
+        row: &Row,
+        _below: &Branches<'_>,
+        _above: &Above,
+    ) -> Result<Told, OutOfMemory> {
+        told_of(alloc, room, self.tree, self.node, row)
+    }
+}

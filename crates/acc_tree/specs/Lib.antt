@@ -1,0 +1,12 @@
+pub mod Attributes
+pub mod Tags
+pub mod Seen
+pub mod Inputs
+pub mod Numbers
+pub mod Roles
+pub mod Inclusion
+pub mod Frames
+pub mod Sights
+pub mod Pages
+pub mod References
+pub mod Owning

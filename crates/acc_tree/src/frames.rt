@@ -1,0 +1,108 @@
+ghost use Rattle.std.specs.Prelude.{◌≡◌, ◌&&◌, ◌||◌, if◌then◌else◌};
+ghost use Rattle.acc_tree.specs.declared.attributes.Attribute.TheVariants as attribute;
+ghost use Rattle.acc_tree.specs.Seen.{seen_row, has};
+ghost use Rattle.acc_tree.specs.Roles.{role_at};
+ghost use Rattle.acc_tree.specs.Frames.{is_sectioning, holds_items, is_table, is_label, is_fieldset, nothing_above, under};
+
+use crate::above::{Above, TableAbove};
+use crate::attributes::{Attribute, has};
+use crate::inclusion::is_hidden;
+use crate::roles::role_at;
+use crate::tags::{Tag, any_tag, html_tag};
+use snap_tree::{NodeId, Row};
+
+impl Above {
+    /// What is above a root: nothing.
+    pub const fn nothing() -> Self
+        ensures { result ≡ nothing_above }
+    {
+        Above {
+            in_section: false,
+            in_list: false,
+            table: None,
+            label: None,
+            hidden: false,
+            disabled: false,
+        }
+    }
+}
+
+fn is_sectioning(tag: Option<Tag>) -> bool
+    ensures { result ≡ is_sectioning tag }
+{
+    matches!(
+        tag,
+        Some(Tag::Article | Tag::Aside | Tag::Main | Tag::Nav | Tag::Section)
+    )
+}
+
+fn holds_items(tag: Option<Tag>) -> bool
+    ensures { result ≡ holds_items tag }
+{
+    matches!(tag, Some(Tag::Ul | Tag::Ol | Tag::Menu))
+}
+
+fn is_table(tag: Option<Tag>) -> bool
+    ensures { result ≡ is_table tag }
+{
+    matches!(tag, Some(Tag::Table))
+}
+
+fn is_label(tag: Option<Tag>) -> bool
+    ensures { result ≡ is_label tag }
+{
+    matches!(tag, Some(Tag::Label))
+}
+
+fn is_fieldset(tag: Option<Tag>) -> bool
+    ensures { result ≡ is_fieldset tag }
+{
+    matches!(tag, Some(Tag::Fieldset))
+}
+
+fn table_above(above: &Above, row: &Row, tag: Option<Tag>) -> Option<TableAbove>
+    ensures { result ≡ (if is_table tag
+        then Some (record { node = row.now.id; role = role_at above.now (seen_row row.now) })
+        else above.now.table) }
+{
+    if is_table(tag) {
+        Some(TableAbove {
+            node: row.id,
+            role: role_at(above, row),
+        })
+    } else {
+        above.table
+    }
+}
+
+fn label_above(above: &Above, row: &Row, tag: Option<Tag>) -> Option<NodeId>
+    ensures { result ≡ (if is_label tag then Some row.now.id else above.now.label) }
+{
+    if is_label(tag) {
+        Some(row.id)
+    } else {
+        above.label
+    }
+}
+
+fn is_disabled(above: &Above, row: &Row, tag: Option<Tag>) -> bool
+    ensures { result ≡ (above.now.disabled
+        || (is_fieldset tag && has attribute.Disabled (seen_row row.now))) }
+{
+    above.disabled || (is_fieldset(tag) && has(row, Attribute::Disabled))
+}
+
+/// What is above the children of a row, given what is above the row.
+pub fn under(above: &Above, row: &Row) -> Above
+    ensures { result ≡ under above.now (seen_row row.now) }
+{
+    let tag = html_tag(row);
+    Above {
+        in_section: above.in_section | is_sectioning(any_tag(row)),
+        in_list: holds_items(tag),
+        table: table_above(above, row, tag),
+        label: label_above(above, row, tag),
+        hidden: above.hidden | is_hidden(row),
+        disabled: is_disabled(above, row, tag),
+    }
+}

@@ -1,0 +1,4 @@
+pub mod Lengths
+pub mod Roles
+pub mod Attributes
+pub mod Utf8Tokens

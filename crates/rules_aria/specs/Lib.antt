@@ -1,0 +1,10 @@
+pub mod Token
+pub mod Joined
+pub mod AriaLines
+pub mod Autocomplete
+pub mod Role
+pub mod AriaAttribute
+pub mod AriaValue
+pub mod RequiredStates
+pub mod OwnedElements
+pub mod AriaHidden

@@ -1,0 +1,25 @@
+//! Rules on ARIA and on autocomplete, each a published ACT rule restated: whether the words that an
+//! author gives are ones that the standards know, and whether what they promise is there. One file a
+//! rule. Start with `AutocompleteIsValid`.
+#![tactic(auto)]
+
+mod aria_attribute;
+mod aria_hidden;
+mod aria_lines;
+mod aria_value;
+mod autocomplete;
+mod joined;
+mod owned_elements;
+mod required_states;
+mod role;
+#[cfg(test)]
+mod samples;
+mod token;
+
+pub use aria_attribute::AriaAttributeIsDefined;
+pub use aria_hidden::HiddenHoldsNoFocus;
+pub use aria_value::AriaValueIsValid;
+pub use autocomplete::AutocompleteIsValid;
+pub use owned_elements::OwnsRequiredElements;
+pub use required_states::HasRequiredStates;
+pub use role::RoleIsValid;
