@@ -249,24 +249,29 @@ def test_hostile(browser: Any) -> None:
             same("links of other kinds", links, [])
 
 
+def blocks(path: pathlib.Path) -> list[str]:
+    """The commands that a document shows."""
+    return re.findall(r"```sh\n(.*?)```", path.read_text(encoding="utf-8"), re.DOTALL)
+
+
 def test_commands() -> None:
     """The commands that the docs show lead from a page, and from many, to findings, where the desk is built."""
     if not DESK.is_file():
         return
-    commands = re.search(r"```sh\n(.*?)```", (SITE / "README.md").read_text(encoding="utf-8"), re.DOTALL).group(1)
+    commands = next(block for block in blocks(ROOT / "README.md") if "collector/view" in block)
+    written = re.search(r"> (\S+\.html)", commands).group(1)
     with tempfile.TemporaryDirectory() as folder:
         for name in ("collector", "crates", "examples"):
             os.symlink(ROOT / name, os.path.join(folder, name))
         done = subprocess.run(["bash", "-c", commands], cwd=folder, stdin=subprocess.DEVNULL, capture_output=True, check=False)
-        expect("the commands of examples/library/README.md", done.returncode == 0 and done.stderr == b"", done.stderr)
-        view = pathlib.Path(folder, "out", "findings.html").read_text(encoding="utf-8")
+        expect("the commands of README.md", done.returncode == 0 and done.stderr == b"", done.stderr)
+        view = pathlib.Path(folder, written).read_text(encoding="utf-8")
         expect("they lead to the findings, with a picture", "Wenbrook Public Library" in view and "data:image/png" in view)
         snapshots = pathlib.Path(folder, "snapshots")
         snapshots.mkdir()
         for name in ("home", "old"):
             shutil.copy(SITE / f"{name}.json", snapshots)
-        loop = re.findall(r"```sh\n(.*?)```", DOCS.read_text(encoding="utf-8"), re.DOTALL)
-        loop = next(block for block in loop if block.startswith("for page in snapshots"))
+        loop = next(block for block in blocks(DOCS) if block.startswith("for page in snapshots"))
         done = subprocess.run(["bash", "-c", loop], cwd=folder, stdin=subprocess.DEVNULL, capture_output=True, check=False)
         same("the loop over many pages", (done.returncode, done.stderr), (1, b""))
         same("what it writes", sorted(path.name for path in snapshots.iterdir()),
