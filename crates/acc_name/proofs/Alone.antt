@@ -6,15 +6,13 @@ use Rattle.snap_tree.specs.declared.row.Body.{Body}
 use Rattle.snap_tree.specs.declared.row.Body.TheVariants.{Element, Words}
 use Rattle.snap_tree.specs.declared.row.NodeId.{NodeId}
 use Rattle.snap_tree.specs.declared.row.Row.{Row}
-use Rattle.snap_tree.specs.Spots.{Spot, spot}
 use Rattle.snap_tree.specs.Trees.{Trees}
 use Rattle.snap_tree.specs.Words.{cut, spaced, tidy}
 use Rattle.std.proofs.lemmas.Str.{chars-nil}
 use Rattle.acc_tree.specs.Frames.{under}
 use Rattle.acc_tree.specs.Pages.{role}
 use Rattle.acc_tree.specs.Roles.{role_at}
-use Rattle.acc_tree.specs.Seen.{seen_row, seen}
-use Rattle.acc_tree.specs.Sights.{Sight, sight_of, summed, seen_spot, SightIsSpot, SeenSpot}
+use Rattle.acc_tree.specs.Sights.{Sight, sight_of, row_of}
 use Rattle.acc_name.specs.declared.hosts.CaptionKind.{CaptionKind}
 use Rattle.acc_name.specs.declared.hosts.Host.{Host}
 use Rattle.acc_name.specs.declared.hosts.Host.TheVariants as host
@@ -76,17 +74,13 @@ at_sight t n row r s is row_is role_is quiet =
     ∙ ap (λ x. said n false (told_of t n s.row) how.Own x s.row below) here
     ∙ sym (ap (λ o. option_map_or (spoken asked how.Own) o no_name) is)
 
-pub own_alone : (t : Trees) (n : NodeId) (row : Row) (r : Option Role) → SightIsSpot (seen t) n → SeenSpot t n → Some row ≡ option_map (λ s. s.row) (spot t n)
-    → r ≡ role (seen t) n → (asks_content how.Own r || is_some (caption_of (seen_row row))) ≡ false
-    → said n false (told_of (seen t) n (seen_row row)) how.Own r (seen_row row) nothing_heard ≡ own_text (seen t) n
-own_alone t n row r summed_is seen_is is role_is quiet = by_spot (spot t n) refl is
+pub own_alone : (t : Trees) (n : NodeId) (row : Row) (r : Option Role) → Some row ≡ row_of t n → r ≡ role t n
+    → (asks_content how.Own r || is_some (caption_of row)) ≡ false → said n false (told_of t n row) how.Own r row nothing_heard ≡ own_text t n
+own_alone t n row r is role_is quiet = by_sight (sight_of t n) refl is
   where
-    by_spot : (o : Option Spot) → spot t n ≡ o → Some row ≡ option_map (λ s. s.row) o
-        → said n false (told_of (seen t) n (seen_row row)) how.Own r (seen_row row) nothing_heard ≡ own_text (seen t) n
-    by_spot None e h = cc
-    by_spot (Some p) e h =
-        let same : row ≡ p.row = cc in
-        at_sight (seen t) n (seen_row row) r (summed (seen_spot p)) (summed_is ∙ ap (option_map summed) (seen_is ∙ ap (option_map seen_spot) e)) (ap seen_row same) role_is quiet
+    by_sight : (o : Option Sight) → sight_of t n ≡ o → Some row ≡ option_map (λ s. s.row) o → said n false (told_of t n row) how.Own r row nothing_heard ≡ own_text t n
+    by_sight None e h = cc
+    by_sight (Some s) e h = let same : row ≡ s.row = cc in at_sight t n row r s e same role_is quiet
 
 tidy-nil : tidy [] ≡ []
 tidy-nil = ap (λ cs. spaced (cut [] cs)) chars-nil

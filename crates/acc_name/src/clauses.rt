@@ -11,7 +11,7 @@ use crate::heard::Voice;
 use crate::hosts::host_of;
 use crate::named::{How, Name, NameSource};
 use crate::told::{Scope, Told};
-use crate::values::{content_of, host_text, placeholder_of, text_at, value_of};
+use crate::values::{content_of, copied_at, host_text, placeholder_of, value_of};
 use acc_tree::{Attribute, is_hidden};
 use aria_tables::{AriaAttr, Role};
 use snap_tree::{Body, NodeId, OutOfMemory, Row, Text, blank};
@@ -34,7 +34,7 @@ fn by_hints(alloc: Global, row: &Row) -> Result<Name, OutOfMemory>
         ∷ says source.Placeholder (placeholder_of (seen_row row.now))
         ∷ [])) }
 {
-    let title = text_at(alloc, row, Attribute::Title)?;
+    let title = copied_at(alloc, row, Attribute::Title)?;
     if !blank(&title) {
         return Ok(Name {
             text: title,
@@ -101,7 +101,7 @@ fn by_label(
         ∷ says source.Placeholder (placeholder_of (seen_row row.now))
         ∷ [])) }
 {
-    let label = text_at(alloc, row, Attribute::Aria(AriaAttr::Label))?;
+    let label = copied_at(alloc, row, Attribute::Aria(AriaAttr::Label))?;
     if !blank(&label) {
         return Ok(Name {
             text: label,

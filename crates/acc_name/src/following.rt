@@ -13,8 +13,7 @@ use crate::references::{References, Untold};
 use crate::room::Room;
 use crate::telling::spoken;
 use crate::told::{Scope, Told};
-use crate::values::value_at;
-use acc_tree::{Above, Attribute, exposed_at, first_found, laws_of_sights, sight_of};
+use acc_tree::{Above, Attribute, exposed_at, first_found, labels_of, sight_of, text_at};
 use aria_tables::AriaAttr;
 use snap_tree::{Branches, NodeId, OutOfMemory, Row, Text, Tree, tidy};
 use std::alloc::Global;
@@ -92,7 +91,7 @@ fn labelled_by(
 ) -> Result<Text, OutOfMemory>
     ensures { IfOk result (λ t. t ≡ all_referred (seen tree.now.trees) node (found (seen tree.now.trees) (named_by aria.Labelledby (seen_row row.now)))) }
 {
-    let words = value_at(row, Attribute::Aria(AriaAttr::Labelledby));
+    let words = text_at(row, Attribute::Aria(AriaAttr::Labelledby));
     all_named(alloc, room, tree, node, words)
 }
 
@@ -106,8 +105,7 @@ fn labels(
 ) -> Result<Text, OutOfMemory>
     ensures { IfOk result (λ t. t ≡ all_referred (seen tree.now.trees) node (labels_for (seen tree.now.trees) row.now.id)) }
 {
-    laws_of_sights();
-    let labels = tree.labels_for(alloc, row.id)?;
+    let labels = labels_of(alloc, tree, row.id)?;
     let mut so_far = None;
     for label in labels.as_slice() {
         so_far = with_referred(alloc, room, tree, node, so_far, *label)?;

@@ -14,7 +14,7 @@ use crate::room::Room;
 use crate::telling::spoken;
 use crate::told::Scope;
 use crate::values::asks_content;
-use acc_tree::{laws_of_sights, role, sight_of};
+use acc_tree::{role, row_of, sight_of};
 use aria_tables::Role;
 use snap_tree::{NodeId, OutOfMemory, Row, Text, Tree, tidy};
 use std::alloc::Global;
@@ -87,8 +87,7 @@ fn asks_below(role: Option<Role>, row: &Row) -> bool
 fn own_text(alloc: Global, tree: &Tree, n: NodeId) -> Result<Name, OutOfMemory>
     ensures { IfOk result (λ name. name ≡ own_text (seen tree.now.trees) n) }
 {
-    laws_of_sights();
-    let Some(row) = tree.node(n) else {
+    let Some(row) = row_of(tree, n) else {
         return Ok(no_name(alloc));
     };
     let role = role(tree, n);

@@ -8,26 +8,16 @@ use crate::heard::Voice;
 use crate::hosts::{Host, value_or};
 use crate::named::How;
 use crate::tags::{has_placeholder, is_input, is_select};
-use acc_tree::{Attribute, attr, html_tag, is_blank_at};
+use acc_tree::{Attribute, html_tag, is_blank_at, text_at};
 use aria_tables::{AriaAttr, Role, named_from_content};
 use snap_tree::{OutOfMemory, Row, Text};
 use std::alloc::Global;
 
-/// The value of an attribute; the empty text where the row hasn't got it.
-pub(crate) fn value_at(row: &Row, name: Attribute) -> &str
-    ensures { result.now ≡ text_at name (seen_row row.now) }
-{
-    match attr(row, name) {
-        Some(text) => text.as_str(),
-        None => "",
-    }
-}
-
-/// The same as a text of its own.
-pub(crate) fn text_at(alloc: Global, row: &Row, name: Attribute) -> Result<Text, OutOfMemory>
+/// The value of an attribute as a text of its own; the empty text where the row hasn't got it.
+pub(crate) fn copied_at(alloc: Global, row: &Row, name: Attribute) -> Result<Text, OutOfMemory>
     ensures { IfOk result (λ t. t ≡ text_at name (seen_row row.now)) }
 {
-    Text::from_str(alloc, value_at(row, name))
+    Text::from_str(alloc, text_at(row, name))
 }
 
 fn is_entry(role: Option<Role>) -> bool
@@ -52,9 +42,9 @@ fn range_text(alloc: Global, row: &Row) -> Result<Text, OutOfMemory>
     ensures { IfOk result (λ t. t ≡ range_text (seen_row row.now)) }
 {
     if is_blank_at(row, Attribute::Aria(AriaAttr::Valuetext)) {
-        text_at(alloc, row, Attribute::Aria(AriaAttr::Valuenow))
+        copied_at(alloc, row, Attribute::Aria(AriaAttr::Valuenow))
     } else {
-        text_at(alloc, row, Attribute::Aria(AriaAttr::Valuetext))
+        copied_at(alloc, row, Attribute::Aria(AriaAttr::Valuetext))
     }
 }
 
@@ -78,7 +68,7 @@ fn control_text(
 {
     let tag = html_tag(row);
     if is_input(tag) & is_entry(role) {
-        text_at(alloc, row, Attribute::Value)
+        copied_at(alloc, row, Attribute::Value)
     } else if is_select(tag) {
         chosen_text(alloc, inner)
     } else if is_range(role) {
@@ -114,11 +104,11 @@ pub(crate) fn host_text(
     ensures { IfOk result (λ t. t ≡ host_text host (seen_row row.now) (shown inner.now).caption) }
 {
     match host {
-        Host::Alternative => text_at(alloc, row, Attribute::Alt),
+        Host::Alternative => copied_at(alloc, row, Attribute::Alt),
         Host::Submit => Text::from_str(alloc, value_or(row, "Submit")),
         Host::Reset => Text::from_str(alloc, value_or(row, "Reset")),
-        Host::Plain => text_at(alloc, row, Attribute::Value),
-        Host::Group => text_at(alloc, row, Attribute::Label),
+        Host::Plain => copied_at(alloc, row, Attribute::Value),
+        Host::Group => copied_at(alloc, row, Attribute::Label),
         Host::Captioned(_) => match &inner.caption {
             Some(text) => text.copy(alloc),
             None => Ok(Text::new(alloc)),
@@ -161,7 +151,7 @@ pub(crate) fn placeholder_of(alloc: Global, row: &Row) -> Result<Text, OutOfMemo
     ensures { IfOk result (λ t. t ≡ placeholder_of (seen_row row.now)) }
 {
     if has_placeholder(html_tag(row)) {
-        text_at(alloc, row, Attribute::Placeholder)
+        copied_at(alloc, row, Attribute::Placeholder)
     } else {
         Ok(Text::new(alloc))
     }

@@ -3,3 +3,4 @@ pub mod Digits
 pub mod Sighting
 pub mod Asking
 pub mod Finding
+pub mod Tagging

@@ -1,9 +1,9 @@
 -- What is looked at isn't lost: a seen row says of the looked-at attributes what the row itself says.
 use Rattle.std.proofs.Common.{◌≡◌, List, [], ◌∷◌, filter, Bool, true, false, option_map, refl, sym, ◌∙◌, ap}
 use Rattle.std.proofs.lemmas.Slice.Eq.{bytes_eq-Decides}
-use Rattle.std.specs.List.{find}
 use Rattle.aria_tables.specs.declared.attr.AriaAttr.{AriaAttr}
 use Rattle.aria_tables.specs.declared.attr.AriaAttr.TheVariants as aria
+use Rattle.aria_tables.proofs.Lengths.{find-filter}
 use Rattle.aria_tables.specs.Attributes.{name_of}
 use Rattle.snap_tree.specs.declared.row.Attr.{Attr}
 use Rattle.snap_tree.specs.declared.row.Body.{Body}
@@ -17,17 +17,6 @@ use Rattle.acc_tree.specs.Attributes.{attribute_name, is_aria, is_among, is_look
 use Rattle.acc_tree.specs.Seen.{seen_body, seen_row, attr, aria_attrs}
 
 -- ---- lists
-
--- what is found is found among what is kept, if all that could be found is kept
-pub find-kept : {A : Type 0} (p q : A → Bool) → ((x : A) → p x ≡ true → q x ≡ true) → (xs : List A) → find p (filter q xs) ≡ find p xs
-find-kept p q keeps [] = refl
-find-kept {A} p q keeps (x ∷ xs) = by_tests (p x) (q x) refl refl (find-kept p q keeps xs)
-  where
-    by_tests : (a b : Bool) → p x ≡ a → q x ≡ b → find p (filter q xs) ≡ find p xs → find p (filter q (x ∷ xs)) ≡ find p (x ∷ xs)
-    by_tests true true e k h = rw (k, e) refl
-    by_tests true false e k h = let no : false ≡ true = sym k ∙ keeps x e in cc
-    by_tests false true e k h = rw (k, e) h
-    by_tests false false e k h = rw (k, e) h
 
 -- what is kept stays, if all of it was kept before
 pub filter-kept : {A : Type 0} (p q : A → Bool) → ((x : A) → p x ≡ true → q x ≡ true) → (xs : List A) → filter p (filter q xs) ≡ filter p xs
@@ -134,7 +123,7 @@ aria_seen a begins = rw begins refl
 -- ---- rows
 
 value_seen : (asked : Attribute) (body : Body) → value_of (attribute_name asked) (attrs_in (seen_body body)) ≡ value_of (attribute_name asked) (attrs_in body)
-value_seen asked (Element space tag attrs) = ap (option_map (λ a. a.value)) (find-kept (λ a. same_folded a.name (attribute_name asked)) (λ a. is_looked_at a.name) (named_seen asked) attrs)
+value_seen asked (Element space tag attrs) = ap (option_map (λ a. a.value)) (find-filter (λ a. same_folded a.name (attribute_name asked)) (λ a. is_looked_at a.name) (named_seen asked) attrs)
 value_seen asked (Words text) = refl
 
 pub attr_seen : (name : Attribute) (row : Row) → attr name (seen_row row) ≡ attribute (attribute_name name) row

@@ -1,5 +1,5 @@
-ghost use Rattle.std.specs.Prelude.{◌≡◌};
-ghost use Rattle.acc_tree.specs.Tags.{tag_word, tag_among, known_tag, any_tag, html_tag};
+ghost use Rattle.std.specs.Prelude.{◌≡◌, ◌==◌, filter, length};
+ghost use Rattle.acc_tree.specs.Tags.{tag_word, all_tags, tag_among, known_tag, any_tag, html_tag};
 ghost use Rattle.acc_tree.specs.Seen.{seen_row};
 
 use snap_tree::{Body, Row, Space, same_folded};
@@ -94,94 +94,6 @@ pub enum Tag {
     Ul,
     Var,
 }
-
-const TAGS: [Tag; 85] = [
-    Tag::A,
-    Tag::Abbr,
-    Tag::Address,
-    Tag::Area,
-    Tag::Article,
-    Tag::Aside,
-    Tag::B,
-    Tag::Bdi,
-    Tag::Bdo,
-    Tag::Blockquote,
-    Tag::BodyTag,
-    Tag::Button,
-    Tag::Caption,
-    Tag::Cite,
-    Tag::Code,
-    Tag::Datalist,
-    Tag::Dd,
-    Tag::Del,
-    Tag::Details,
-    Tag::Dfn,
-    Tag::Dialog,
-    Tag::Div,
-    Tag::Dt,
-    Tag::Em,
-    Tag::Fieldset,
-    Tag::Figcaption,
-    Tag::Figure,
-    Tag::Footer,
-    Tag::Form,
-    Tag::H1,
-    Tag::H2,
-    Tag::H3,
-    Tag::H4,
-    Tag::H5,
-    Tag::H6,
-    Tag::Header,
-    Tag::Hr,
-    Tag::Html,
-    Tag::I,
-    Tag::Iframe,
-    Tag::Img,
-    Tag::Input,
-    Tag::Ins,
-    Tag::Kbd,
-    Tag::Label,
-    Tag::Legend,
-    Tag::Li,
-    Tag::Main,
-    Tag::Mark,
-    Tag::Menu,
-    Tag::Meta,
-    Tag::Meter,
-    Tag::Nav,
-    Tag::Ol,
-    Tag::Optgroup,
-    Tag::OptionTag,
-    Tag::Output,
-    Tag::P,
-    Tag::Pre,
-    Tag::Progress,
-    Tag::Q,
-    Tag::S,
-    Tag::Samp,
-    Tag::Search,
-    Tag::Section,
-    Tag::Select,
-    Tag::Small,
-    Tag::Span,
-    Tag::Strong,
-    Tag::Sub,
-    Tag::Summary,
-    Tag::Sup,
-    Tag::Table,
-    Tag::Tbody,
-    Tag::Td,
-    Tag::Textarea,
-    Tag::Tfoot,
-    Tag::Th,
-    Tag::Thead,
-    Tag::Time,
-    Tag::Title,
-    Tag::Tr,
-    Tag::U,
-    Tag::Ul,
-    Tag::Var,
-];
 
 impl Tag {
     /// The tag in lower case.
@@ -279,6 +191,107 @@ impl Tag {
     }
 }
 
+// The tags whose words have this length.
+fn tags_of_length(len: usize) -> &'static [Tag]
+    ensures { result.now ≡ filter (λ t. length (tag_word t) == len) all_tags }
+{
+    match len {
+        1 => &[Tag::A, Tag::B, Tag::I, Tag::P, Tag::Q, Tag::S, Tag::U],
+        2 => &[
+            Tag::Dd,
+            Tag::Dt,
+            Tag::Em,
+            Tag::H1,
+            Tag::H2,
+            Tag::H3,
+            Tag::H4,
+            Tag::H5,
+            Tag::H6,
+            Tag::Hr,
+            Tag::Li,
+            Tag::Ol,
+            Tag::Td,
+            Tag::Th,
+            Tag::Tr,
+            Tag::Ul,
+        ],
+        3 => &[
+            Tag::Bdi,
+            Tag::Bdo,
+            Tag::Del,
+            Tag::Dfn,
+            Tag::Div,
+            Tag::Img,
+            Tag::Ins,
+            Tag::Kbd,
+            Tag::Nav,
+            Tag::Pre,
+            Tag::Sub,
+            Tag::Sup,
+            Tag::Var,
+        ],
+        4 => &[
+            Tag::Abbr,
+            Tag::Area,
+            Tag::BodyTag,
+            Tag::Cite,
+            Tag::Code,
+            Tag::Form,
+            Tag::Html,
+            Tag::Main,
+            Tag::Mark,
+            Tag::Menu,
+            Tag::Meta,
+            Tag::Samp,
+            Tag::Span,
+            Tag::Time,
+        ],
+        5 => &[
+            Tag::Aside,
+            Tag::Input,
+            Tag::Label,
+            Tag::Meter,
+            Tag::Small,
+            Tag::Table,
+            Tag::Tbody,
+            Tag::Tfoot,
+            Tag::Thead,
+            Tag::Title,
+        ],
+        6 => &[
+            Tag::Button,
+            Tag::Dialog,
+            Tag::Figure,
+            Tag::Footer,
+            Tag::Header,
+            Tag::Iframe,
+            Tag::Legend,
+            Tag::OptionTag,
+            Tag::Output,
+            Tag::Search,
+            Tag::Select,
+            Tag::Strong,
+        ],
+        7 => &[
+            Tag::Address,
+            Tag::Article,
+            Tag::Caption,
+            Tag::Details,
+            Tag::Section,
+            Tag::Summary,
+        ],
+        8 => &[
+            Tag::Datalist,
+            Tag::Fieldset,
+            Tag::Optgroup,
+            Tag::Progress,
+            Tag::Textarea,
+        ],
+        10 => &[Tag::Blockquote, Tag::Figcaption],
+        _ => &[],
+    }
+}
+
 fn tag_among(text: &str, tags: &[Tag]) -> Option<Tag>
     ensures { result ≡ tag_among text.now tags.now }
 {
@@ -287,11 +300,12 @@ fn tag_among(text: &str, tags: &[Tag]) -> Option<Tag>
         .find(|tag| same_folded(text, tag.word()))
 }
 
-/// The tag of a word, which compares ASCII case-insensitively; None where it isn't known.
+/// The tag of a word, which compares ASCII case-insensitively; None where it isn't known. A word is
+/// compared with the tags of its length alone.
 pub fn known_tag(text: &str) -> Option<Tag>
     ensures { result ≡ known_tag text.now }
 {
-    tag_among(text, &TAGS)
+    tag_among(text, tags_of_length(text.len()))
 }
 
 /// The known tag of an element in any name space; None for every other node.

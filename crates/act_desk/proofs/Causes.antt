@@ -1,10 +1,11 @@
 -- Why an audit ends, from what it read and what it found in that, and which statuses can come of it.
-use Rattle.std.proofs.Common.{◌≡◌, ℕ, ◌<◌, ◌≤◌, ◌⊎◌, inl, inr, Bool, true, false, if◌then◌else◌, List, [], ◌∷◌, ◌++◌, length, Option, Some, None, IfSome, Ok, Err, refl, sym, ap, ◌∙◌, subst, append-nil, length-append, arith}
+use Rattle.std.proofs.Common.{◌≡◌, ℕ, ◌<◌, ◌≤◌, inl, inr, Bool, true, false, List, [], ◌∷◌, ◌++◌, length, Option, Some, None, IfSome, Ok, Err, refl, sym, ap, ◌∙◌, subst, append-nil, length-append, arith}
 use Rattle.std.proofs.lemmas.Bool.{cases_lt, lt-leb}
 use Rattle.std.specs.Io.KnownBytes.{Consumes, IsAtEnd}
 use Rattle.snap_tree.specs.Trees.{Document}
 use Rattle.snap_json.specs.declared.fault.SnapFault.{SnapFault}
 use Rattle.snap_json.specs.declared.fault.SnapFault.TheVariants.{TooLong}
+use Rattle.snap_json.specs.declared.limits.TheConstants.{MOST_SNAPSHOT_BYTES}
 use Rattle.snap_json.specs.Pages.{sent_tree, tree_in, page_in}
 use Rattle.act_desk.specs.declared.audit.TheConstants.{MOST_READ}
 use Rattle.act_desk.specs.declared.found.Found.{Found}
@@ -15,13 +16,13 @@ use Rattle.act_desk.specs.Status.{OneOf}
 use Rattle.act_desk.specs.Told.{Input}
 use Rattle.act_desk.specs.Streams.{IsReadTo}
 use Rattle.act_desk.specs.Telling.{Writing, output_alone, line_alone, status_of, writing_of}
-use Rattle.act_desk.specs.Audit.{Book, report_of, fails, IsFoundIn, GaveAll, Reports, AuditCause, TellsPage, TellsFault}
+use Rattle.act_desk.specs.Audit.{Book, IsFoundIn, GaveAll, Reports, AuditCause, TellsPage, TellsFault}
 
 -- ---- bytes that are a snapshot are within the limit
 
-too_long : (bytes : List ℕ) → 8388608 < length bytes → sent_tree bytes ≡ Err TooLong
+too_long : (bytes : List ℕ) → MOST_SNAPSHOT_BYTES < length bytes → sent_tree bytes ≡ Err TooLong
 unfolding tree_in page_in
-too_long bytes h = rw (lt-leb (length bytes) 8388608 h) refl
+too_long bytes h = rw (lt-leb (length bytes) MOST_SNAPSHOT_BYTES h) refl
 
 not_both : (bytes : List ℕ) (page : Document) (fault : SnapFault) → sent_tree bytes ≡ Ok page → sent_tree bytes ≡ Err fault → ⊥
 not_both bytes page fault is not = cc

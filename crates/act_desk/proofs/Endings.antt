@@ -1,5 +1,5 @@
 -- What a run does, from why it was to end and what it has written.
-use Rattle.std.proofs.Common.{◌≡◌, ℕ, ◌≤◌, ◌⊎◌, inl, inr, Bool, true, false, if◌then◌else◌, List, [], ◌∷◌, refl, sym, ap, ◌∙◌, subst}
+use Rattle.std.proofs.Common.{◌≡◌, ℕ, ◌≤◌, ◌⊎◌, inl, inr, Bool, true, false, if◌then◌else◌, List, [], ◌∷◌, sym, ap, ◌∙◌, subst}
 use Rattle.counts.specs.Counts.{StoodStill, Rose}
 use Rattle.counts.proofs.CountLaws.{next_rose, still_not_risen}
 use Rattle.snap_tree.specs.Trees.{Document}
@@ -10,11 +10,11 @@ use Rattle.act_desk.specs.declared.status.Status.{Status}
 use Rattle.act_desk.specs.declared.status.Status.TheVariants.{Done, SomeFailed, UsageFault, ReadFault, WriteFault, SnapshotFault, StoreFault, NoMemory}
 use Rattle.act_desk.specs.Status.{status_number, OneOf}
 use Rattle.act_desk.specs.Told.{Output, Outside}
-use Rattle.act_desk.specs.Streams.{ReadsAtMost, Took, BrokeOff}
-use Rattle.act_desk.specs.Telling.{Writing, output_alone, IsWritten, Tells}
-use Rattle.act_desk.specs.Audit.{Book, report_of, fails, Reports, AuditCause, AuditComplete, TellsPage, TellsFault, IsReported}
+use Rattle.act_desk.specs.Streams.{ReadsAtMost, BrokeOff}
+use Rattle.act_desk.specs.Telling.{Writing, IsWritten, Tells}
+use Rattle.act_desk.specs.Audit.{Book, Reports, AuditCause, TellsPage, IsReported}
 use Rattle.act_desk.specs.Commands.{CommandCause, IsCommand, IsNoCommand, CommandBound, CommandComplete}
-use Rattle.act_desk.specs.Run.{Cause, IsBounded, NoFaults, IsComplete, Runs}
+use Rattle.act_desk.specs.Run.{Cause, NoFaults, IsComplete, Runs}
 use Rattle.act_desk.proofs.Causes.{same_page, refused, of_no_snapshot}
 
 -- ---- without faults all is written

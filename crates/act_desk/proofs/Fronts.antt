@@ -1,7 +1,6 @@
 -- A read in memory gives the front of what is left.
 use Rattle.std.proofs.Common.{◌≡◌, ℕ, ◌+◌, ◌-◌, ◌<◌, ◌≤◌, min, max, List, ◌++◌, length, take, drop, Some, Ok, sym, ap, ◌∙◌, arith, length-drop}
 use Rattle.std.proofs.lemmas.List.{take-append-drop, drop-drop, nil_from_length}
-use Rattle.act_desk.specs.Told.{Input}
 use Rattle.act_desk.specs.Streams.{Reads}
 
 pub reads_front : (bytes buf : List ℕ) (at room piece n faults : ℕ) → at ≤ length bytes → 0 < room → room ≤ length buf →

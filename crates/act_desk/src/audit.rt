@@ -10,12 +10,12 @@ use crate::read_all::{ReadFault, read_all};
 use crate::source::Source;
 use crate::text_report::{count_of, text_report};
 use rule_core::{Auto, RuleBook, RuleInfo};
-use snap_json::{SnapFault, read_snapshot};
+use snap_json::{MOST_SNAPSHOT_BYTES, SnapFault, read_snapshot};
 use snap_tree::{List, OutOfMemory, Tree};
 use std::alloc::Global;
 
 /// How many bytes an audit reads at most: one more than a snapshot may have.
-pub const MOST_READ: usize = 8_388_609;
+pub const MOST_READ: usize = MOST_SNAPSHOT_BYTES + 1;
 
 /// Reads one snapshot to the end of the source, or to the 8,388,609th byte, and judges it by a book.
 #[tactic(auto, using(crate::proofs::Causes::audited))]

@@ -1,9 +1,9 @@
-ghost use Rattle.std.specs.Prelude.{◌≡◌, ◌+◌, ◌≤◌, ◌++◌, length, IfOk, OnOk, IsTrue};
+ghost use Rattle.std.specs.Prelude.{◌≡◌, ◌+◌, ◌≤◌, [], ◌∷◌, ◌++◌, length, IfOk, OnOk, IsTrue};
 ghost use Rattle.std.specs.Option.{option_to_list};
 ghost use Rattle.snap_tree.specs.Trees.{rows_of};
 ghost use Rattle.rule_core.specs.Infos.{is_orderly};
 ghost use Rattle.act_desk.specs.TextReport.{AreGrouped};
-ghost use Rattle.act_desk.specs.Outcomes.{out_row, row_on, atomic_rows, outcomes, judgings};
+ghost use Rattle.act_desk.specs.Outcomes.{out_row, row_on, atomic_rows, rule_rows, outcomes, judgings};
 
 use crate::outcomes::{OutRow, Outcomes};
 use rule_core::{RuleBook, RuleInfo, RuleNo, Verdict};
@@ -39,11 +39,26 @@ fn rows_by_rule<B: RuleBook>(
 {
     let mut rows = Vec::new(alloc);
     for info in infos {
-        if info.is_atomic() {
-            push_rows(alloc, book, info.no, tree, &mut rows)?;
-        }
+        push_rule(alloc, book, info, tree, &mut rows)?;
     }
     Ok(rows)
+}
+
+// Adds the rows of a rule; a composite rule has none.
+fn push_rule<B: RuleBook>(
+    alloc: Global,
+    book: &mut B,
+    info: &RuleInfo,
+    tree: &Tree,
+    rows: &mut Vec<OutRow>,
+) -> Result<(), OutOfMemory>
+    ensures rows { OnOk result (rows.new.items ≡ rows.old.items ++ rule_rows B.means tree.now info.now) }
+    ensures counted { B.calls book.new ≤ B.calls book.old + judgings (info.now ∷ []) tree.now }
+{
+    if info.is_atomic() {
+        push_rows(alloc, book, info.no, tree, rows)?;
+    }
+    Ok(())
 }
 
 // Adds the rows of an atomic rule.

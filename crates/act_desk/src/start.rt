@@ -119,10 +119,22 @@ mod tests {
         (Arguments(&[]), Some(Status::UsageFault)),
         (Arguments(&[b"act_desk"]), Some(Status::UsageFault)),
         (Arguments(&[b"act_desk", b"-"]), Some(Status::UsageFault)),
-        (Arguments(&[b"act_desk", b"-", b"\xff"]), Some(Status::UsageFault)),
-        (Arguments(&[b"act_desk", b"", b"audit"]), Some(Status::StoreFault)),
-        (Arguments(&[b"act_desk", b"--", b"\xff"]), Some(Status::StoreFault)),
-        (Arguments(&[b"act_desk", b"store"]), Some(Status::StoreFault)),
+        (
+            Arguments(&[b"act_desk", b"-", b"\xff"]),
+            Some(Status::UsageFault),
+        ),
+        (
+            Arguments(&[b"act_desk", b"", b"audit"]),
+            Some(Status::StoreFault),
+        ),
+        (
+            Arguments(&[b"act_desk", b"--", b"\xff"]),
+            Some(Status::StoreFault),
+        ),
+        (
+            Arguments(&[b"act_desk", b"store"]),
+            Some(Status::StoreFault),
+        ),
     ];
 
     fn status_by(alloc: Global, arguments: &Arguments) -> Result<Option<Status>, Fail> {

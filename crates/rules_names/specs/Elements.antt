@@ -1,5 +1,5 @@
 -- The kinds of elements that rules on names ask for.
-use Rattle.std.specs.Prelude.{Bool, true, false, Option, Some, None}
+use Rattle.std.specs.Prelude.{Bool, true, false, Option, Some}
 use Rattle.snap_tree.specs.declared.row.Row.{Row}
 use Rattle.snap_tree.specs.declared.row.Space.{Space}
 use Rattle.snap_tree.specs.declared.row.Space.TheVariants as space

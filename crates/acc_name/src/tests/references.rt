@@ -88,6 +88,34 @@ fn elements_are_labelled_by_others(rt: HostRuntime) -> Result<(), Fail> {
     each_is_named(&rt, rt.alloc(), &LABELLED_BY)
 }
 
+// What an id finds moves when an element with that id is put in before it.
+static MOVED: [Case; 3] = [
+    (
+        "1 0 body;10 1 a href=/ aria-labelledby=t;40 1 p id=t;41 40 #Old",
+        10,
+        "Old",
+        LabelledBy,
+    ),
+    (
+        "1 0 body;50 1 span id=t;10 1 a href=/ aria-labelledby=t;40 1 p id=t;41 40 #Old",
+        10,
+        "",
+        Nothing,
+    ),
+    // aria-owns isn't followed.
+    (
+        "1 0 body;30 1 button aria-owns=t;40 1 p id=t;41 40 #Send",
+        30,
+        "",
+        Nothing,
+    ),
+];
+
+#[test]
+fn an_id_finds_the_first_element(rt: HostRuntime) -> Result<(), Fail> {
+    each_is_named(&rt, rt.alloc(), &MOVED)
+}
+
 static LABELS: [Case; 12] = [
     // A checkbox in its own label says nothing there, not even its title.
     (

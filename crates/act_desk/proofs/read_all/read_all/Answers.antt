@@ -1,5 +1,4 @@
 use Rattle.std.proofs.Common.{arith, ap, ◌∙◌, take, drop, length, List, ℕ}
-use Rattle.counts.proofs.CountLaws.{rose_after}
 use Rattle.act_desk.proofs.Known.{consumes_more, read_to_end, read_within, whole}
 use Rattle.act_desk.proofs.read_all.read_all.Goals as goal
 
