@@ -51,7 +51,7 @@ def meant_defects() -> tuple[dict[str, list[str]], dict[str, str]]:
     page = None
     for line in (SITE / "README.md").read_text(encoding="utf-8").splitlines():
         heading = re.match(r"### `(\w+)\.html`", line)
-        ending = re.match(r"The last line of its report is `(.*)`\.$", line)
+        ending = re.search(r"`(passed \d+ failed \d+ cantTell \d+ inapplicable \d+)`", line)
         row = re.match(r"\| `([0-9a-z]{6})` \| .* \| `(\1 node \d+ (?:failed|cantTell) [a-z-]+)` \|$", line)
         if heading:
             page = heading.group(1)
