@@ -73,6 +73,8 @@ def collect_page(page: str, options: Options, holding: Holding = contextlib.null
         with holding(browser):
             return collect_in(browser, place, options)
     except (WebDriverException, HTTPError, OSError) as error:
+        # A browser outlives its driver.
+        kill_browser(browser)
         raise Stop(End.BROWSER, f"the browser ended: {first_line(error)}") from None
     except KeyboardInterrupt:
         kill_browser(browser)
