@@ -1,0 +1,4 @@
+pub mod Hosts
+pub mod Names
+pub mod Voices
+pub mod NameLaws

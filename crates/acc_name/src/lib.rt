@@ -1,0 +1,27 @@
+//! The accessible name of each node of a page, and which clause gave it (Accessible Name and Description
+//! Computation 1.2).
+//!
+//! Start with [`name`]. The nine clauses stand in `specs/Names.antt`, and in `docs/names.md` with the
+//! standard's step beside each; [`laws_of_names`] says each clause in the standard's own shape.
+#![tactic(auto)]
+
+mod clauses;
+mod heard;
+mod hosts;
+mod laws;
+mod named;
+mod naming;
+mod references;
+mod room;
+mod tags;
+mod telling;
+mod told;
+mod values;
+
+pub use laws::laws_of_names;
+pub use named::{Name, NameSource};
+pub use naming::name;
+pub use room::MOST_NAME_BYTES;
+
+#[cfg(test)]
+mod tests;

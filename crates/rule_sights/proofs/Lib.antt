@@ -1,0 +1,3 @@
+pub mod RowFirst
+pub mod RoleFirst
+pub mod TagFirst

@@ -1,0 +1,12 @@
+pub mod RoleAndName
+pub mod Elements
+pub mod Named
+pub mod Button
+pub mod Link
+pub mod Image
+pub mod ImageButton
+pub mod FormField
+pub mod Iframe
+pub mod Heading
+pub mod SvgImage
+pub mod HeadingDescriptive

@@ -1,0 +1,48 @@
+ghost use Rattle.std.specs.Prelude.{◌≡◌};
+ghost use Rattle.acc_tree.specs.Seen.{seen_row};
+ghost use Rattle.rules_names.specs.Button.{is_button_target, button_has_name, button_has_name_info};
+
+use crate::elements::is_image_input;
+use crate::named::wants_name;
+use acc_tree::{Above, included_at};
+use aria_tables::Role;
+use rule_core::{Class, Rule, RuleInfo, Verdict};
+use rule_sights::sight_as;
+use snap_tree::{NodeId, OutOfMemory, Row, Tree};
+use std::alloc::Global;
+
+/// ACT rule 97a4e1, Button has non-empty accessible name
+/// (<https://www.w3.org/WAI/standards-guidelines/act/rules/97a4e1/>). Its target is an included
+/// node of role button, but for an HTML `input` of type image. It fails where the name is empty. The
+/// evidence is the role and the name.
+#[derive(Clone, Copy, Debug, PartialEq, Eq)]
+pub struct ButtonHasName;
+
+fn is_target(above: &Above, row: &Row) -> bool
+    ensures { result ≡ is_button_target above.now (seen_row row.now) }
+{
+    !is_image_input(row) && included_at(above, row)
+}
+
+impl Rule for ButtonHasName {
+    ghost means = { button_has_name };
+
+    ghost described = { button_has_name_info };
+
+    fn info(&self) -> RuleInfo {
+        RuleInfo::atomic(8, b"97a4e1", Class::SelfOnly, Class::Sub)
+    }
+
+    fn judge(&self, alloc: Global, tree: &Tree, n: NodeId) -> Result<Option<Verdict>, OutOfMemory> {
+        let Some(sight) = sight_as(tree, n, &[Role::Button]) else {
+            return Ok(None);
+        };
+        if !is_target(&sight.above, sight.row) {
+            return Ok(None);
+        }
+        wants_name(alloc, tree, n, &sight)
+    }
+}
+
+#[cfg(test)]
+mod tests;

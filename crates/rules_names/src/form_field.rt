@@ -1,0 +1,54 @@
+ghost use Rattle.rules_names.specs.FormField.{form_field_has_name, form_field_has_name_info};
+
+use crate::named::wants_name;
+use acc_tree::included_at;
+use aria_tables::Role;
+use rule_core::{Class, Rule, RuleInfo, Verdict};
+use rule_sights::sight_as;
+use snap_tree::{NodeId, OutOfMemory, Tree};
+use std::alloc::Global;
+
+/// ACT rule e086e5, Form field has non-empty accessible name
+/// (<https://www.w3.org/WAI/standards-guidelines/act/rules/e086e5/>). Its target is an included
+/// node of one of the roles of form fields. It fails where the name is empty. The evidence is the role and
+/// the name.
+#[derive(Clone, Copy, Debug, PartialEq, Eq)]
+pub struct FormFieldHasName;
+
+/// The roles of form fields.
+const FORM_FIELDS: [Role; 11] = [
+    Role::Checkbox,
+    Role::Combobox,
+    Role::Listbox,
+    Role::Menuitemcheckbox,
+    Role::Menuitemradio,
+    Role::Radio,
+    Role::Searchbox,
+    Role::Slider,
+    Role::Spinbutton,
+    Role::Switch,
+    Role::Textbox,
+];
+
+impl Rule for FormFieldHasName {
+    ghost means = { form_field_has_name };
+
+    ghost described = { form_field_has_name_info };
+
+    fn info(&self) -> RuleInfo {
+        RuleInfo::atomic(12, b"e086e5", Class::SelfOnly, Class::Sub)
+    }
+
+    fn judge(&self, alloc: Global, tree: &Tree, n: NodeId) -> Result<Option<Verdict>, OutOfMemory> {
+        let Some(sight) = sight_as(tree, n, &FORM_FIELDS) else {
+            return Ok(None);
+        };
+        if !included_at(&sight.above, sight.row) {
+            return Ok(None);
+        }
+        wants_name(alloc, tree, n, &sight)
+    }
+}
+
+#[cfg(test)]
+mod tests;

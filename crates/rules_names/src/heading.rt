@@ -1,0 +1,38 @@
+ghost use Rattle.rules_names.specs.Heading.{heading_has_name, heading_has_name_info};
+
+use crate::named::wants_name;
+use acc_tree::included_at;
+use aria_tables::Role;
+use rule_core::{Class, Rule, RuleInfo, Verdict};
+use rule_sights::sight_as;
+use snap_tree::{NodeId, OutOfMemory, Tree};
+use std::alloc::Global;
+
+/// ACT rule ffd0e9, Heading has non-empty accessible name
+/// (<https://www.w3.org/WAI/standards-guidelines/act/rules/ffd0e9/>). Its target is an included
+/// node of role heading. It fails where the name is empty. The evidence is the role and the name.
+#[derive(Clone, Copy, Debug, PartialEq, Eq)]
+pub struct HeadingHasName;
+
+impl Rule for HeadingHasName {
+    ghost means = { heading_has_name };
+
+    ghost described = { heading_has_name_info };
+
+    fn info(&self) -> RuleInfo {
+        RuleInfo::atomic(14, b"ffd0e9", Class::SelfOnly, Class::Sub)
+    }
+
+    fn judge(&self, alloc: Global, tree: &Tree, n: NodeId) -> Result<Option<Verdict>, OutOfMemory> {
+        let Some(sight) = sight_as(tree, n, &[Role::Heading]) else {
+            return Ok(None);
+        };
+        if !included_at(&sight.above, sight.row) {
+            return Ok(None);
+        }
+        wants_name(alloc, tree, n, &sight)
+    }
+}
+
+#[cfg(test)]
+mod tests;

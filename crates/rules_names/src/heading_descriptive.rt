@@ -1,0 +1,70 @@
+ghost use Rattle.std.specs.Prelude.{◌≡◌, IfOk};
+ghost use Rattle.acc_tree.specs.Roles.{role_at};
+ghost use Rattle.acc_tree.specs.Seen.{seen_row, seen};
+ghost use Rattle.acc_name.specs.Names.{name_of};
+ghost use Rattle.rules_names.specs.HeadingDescriptive.{asks_a_person, heading_is_descriptive, heading_is_descriptive_info};
+
+use crate::named::named_verdict;
+use acc_name::name;
+use acc_tree::{Sight, included_at, role_at};
+use aria_tables::Role;
+use rule_core::{Class, Finding, Reason, Rule, RuleInfo, Verdict};
+use rule_sights::sight_as;
+use snap_tree::{NodeId, OutOfMemory, Text, Tree};
+use std::alloc::Global;
+
+/// ACT rule b49b2e, Heading is descriptive
+/// (<https://www.w3.org/WAI/standards-guidelines/act/rules/b49b2e/>). Its target is an included
+/// node of role heading whose name is not empty. A person has to judge it. The evidence is the role and the
+/// name.
+#[derive(Clone, Copy, Debug, PartialEq, Eq)]
+pub struct HeadingIsDescriptive;
+
+fn asks_a_person(
+    alloc: Global,
+    role: Option<Role>,
+    name: &Text,
+) -> Result<Option<Verdict>, OutOfMemory>
+    ensures { IfOk result (λ verdict. verdict ≡ asks_a_person role name.now) }
+{
+    if name.is_empty() {
+        return Ok(None);
+    }
+    let finding = Finding::cant_tell(Reason::JudgeHeading);
+    Ok(Some(named_verdict(alloc, finding, role, name)?))
+}
+
+fn verdict(
+    alloc: Global,
+    tree: &Tree,
+    n: NodeId,
+    sight: &Sight<'_>,
+) -> Result<Option<Verdict>, OutOfMemory>
+    ensures { IfOk result (λ verdict. verdict ≡ asks_a_person (role_at sight.now.above (seen_row sight.now.row.now)) (name_of (seen tree.now.trees) n).text) }
+{
+    let name = name(alloc, tree, n)?;
+    asks_a_person(alloc, role_at(&sight.above, sight.row), &name.text)
+}
+
+impl Rule for HeadingIsDescriptive {
+    ghost means = { heading_is_descriptive };
+
+    ghost described = { heading_is_descriptive_info };
+
+    fn info(&self) -> RuleInfo {
+        RuleInfo::atomic(16, b"b49b2e", Class::Sub, Class::Sub)
+    }
+
+    fn judge(&self, alloc: Global, tree: &Tree, n: NodeId) -> Result<Option<Verdict>, OutOfMemory> {
+        let Some(sight) = sight_as(tree, n, &[Role::Heading]) else {
+            return Ok(None);
+        };
+        if !included_at(&sight.above, sight.row) {
+            return Ok(None);
+        }
+        verdict(alloc, tree, n, &sight)
+    }
+}
+
+#[cfg(test)]
+mod tests;

@@ -1,0 +1,37 @@
+ghost use Rattle.rules_names.specs.Iframe.{iframe_has_name, iframe_has_name_info};
+
+use crate::named::wants_name;
+use acc_tree::included_at;
+use rule_core::{Class, Rule, RuleInfo, Verdict};
+use rule_sights::sight_of_html;
+use snap_tree::{NodeId, OutOfMemory, Tree};
+use std::alloc::Global;
+
+/// ACT rule cae760, Iframe element has non-empty accessible name
+/// (<https://www.w3.org/WAI/standards-guidelines/act/rules/cae760/>). Its target is an included
+/// HTML `iframe`. It fails where the name is empty. The evidence is the role and the name.
+#[derive(Clone, Copy, Debug, PartialEq, Eq)]
+pub struct IframeHasName;
+
+impl Rule for IframeHasName {
+    ghost means = { iframe_has_name };
+
+    ghost described = { iframe_has_name_info };
+
+    fn info(&self) -> RuleInfo {
+        RuleInfo::atomic(13, b"cae760", Class::SelfOnly, Class::Sub)
+    }
+
+    fn judge(&self, alloc: Global, tree: &Tree, n: NodeId) -> Result<Option<Verdict>, OutOfMemory> {
+        let Some(sight) = sight_of_html(tree, n, "iframe") else {
+            return Ok(None);
+        };
+        if !included_at(&sight.above, sight.row) {
+            return Ok(None);
+        }
+        wants_name(alloc, tree, n, &sight)
+    }
+}
+
+#[cfg(test)]
+mod tests;

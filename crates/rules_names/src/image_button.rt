@@ -1,0 +1,46 @@
+ghost use Rattle.std.specs.Prelude.{◌≡◌};
+ghost use Rattle.acc_tree.specs.Seen.{seen_row};
+ghost use Rattle.rules_names.specs.ImageButton.{is_image_button_target, image_button_has_name, image_button_has_name_info};
+
+use crate::elements::is_image_input;
+use crate::named::wants_name;
+use acc_tree::{Above, Attribute, included_at};
+use rule_core::{Class, Rule, RuleInfo, Verdict};
+use rule_sights::sight_with;
+use snap_tree::{NodeId, OutOfMemory, Row, Tree};
+use std::alloc::Global;
+
+/// ACT rule 59796f, Image button has non-empty accessible name
+/// (<https://www.w3.org/WAI/standards-guidelines/act/rules/59796f/>). Its target is an included
+/// HTML `input` of type image. It fails where the name is empty. The evidence is the role and the name.
+#[derive(Clone, Copy, Debug, PartialEq, Eq)]
+pub struct ImageButtonHasName;
+
+fn is_target(above: &Above, row: &Row) -> bool
+    ensures { result ≡ is_image_button_target above.now (seen_row row.now) }
+{
+    is_image_input(row) && included_at(above, row)
+}
+
+impl Rule for ImageButtonHasName {
+    ghost means = { image_button_has_name };
+
+    ghost described = { image_button_has_name_info };
+
+    fn info(&self) -> RuleInfo {
+        RuleInfo::atomic(11, b"59796f", Class::SelfOnly, Class::Sub)
+    }
+
+    fn judge(&self, alloc: Global, tree: &Tree, n: NodeId) -> Result<Option<Verdict>, OutOfMemory> {
+        let Some(sight) = sight_with(tree, n, Attribute::TypeAttr) else {
+            return Ok(None);
+        };
+        if !is_target(&sight.above, sight.row) {
+            return Ok(None);
+        }
+        wants_name(alloc, tree, n, &sight)
+    }
+}
+
+#[cfg(test)]
+mod tests;

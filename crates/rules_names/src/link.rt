@@ -1,0 +1,47 @@
+ghost use Rattle.std.specs.Prelude.{◌≡◌};
+ghost use Rattle.acc_tree.specs.Seen.{seen_row};
+ghost use Rattle.rules_names.specs.Link.{is_link_target, link_has_name, link_has_name_info};
+
+use crate::elements::is_html_element;
+use crate::named::wants_name;
+use acc_tree::{Above, included_at};
+use aria_tables::Role;
+use rule_core::{Class, Rule, RuleInfo, Verdict};
+use rule_sights::sight_as;
+use snap_tree::{NodeId, OutOfMemory, Row, Tree};
+use std::alloc::Global;
+
+/// ACT rule c487ae, Link has non-empty accessible name
+/// (<https://www.w3.org/WAI/standards-guidelines/act/rules/c487ae/>). Its target is an included
+/// HTML element of role link. It fails where the name is empty. The evidence is the role and the name.
+#[derive(Clone, Copy, Debug, PartialEq, Eq)]
+pub struct LinkHasName;
+
+fn is_target(above: &Above, row: &Row) -> bool
+    ensures { result ≡ is_link_target above.now (seen_row row.now) }
+{
+    is_html_element(row) && included_at(above, row)
+}
+
+impl Rule for LinkHasName {
+    ghost means = { link_has_name };
+
+    ghost described = { link_has_name_info };
+
+    fn info(&self) -> RuleInfo {
+        RuleInfo::atomic(9, b"c487ae", Class::SelfOnly, Class::Sub)
+    }
+
+    fn judge(&self, alloc: Global, tree: &Tree, n: NodeId) -> Result<Option<Verdict>, OutOfMemory> {
+        let Some(sight) = sight_as(tree, n, &[Role::Link]) else {
+            return Ok(None);
+        };
+        if !is_target(&sight.above, sight.row) {
+            return Ok(None);
+        }
+        wants_name(alloc, tree, n, &sight)
+    }
+}
+
+#[cfg(test)]
+mod tests;

@@ -1,0 +1,48 @@
+ghost use Rattle.std.specs.Prelude.{◌≡◌};
+ghost use Rattle.acc_tree.specs.Seen.{seen_row};
+ghost use Rattle.rules_names.specs.SvgImage.{is_svg_image_target, svg_image_has_name, svg_image_has_name_info};
+
+use crate::elements::is_svg_element;
+use crate::named::wants_name;
+use acc_tree::{Above, Attribute, explicit_at, included_at};
+use aria_tables::Role;
+use rule_core::{Class, Rule, RuleInfo, Verdict};
+use rule_sights::sight_with;
+use snap_tree::{NodeId, OutOfMemory, Row, Tree};
+use std::alloc::Global;
+
+/// ACT rule 7d6734, SVG element with explicit role has non-empty accessible name
+/// (<https://www.w3.org/WAI/standards-guidelines/act/rules/7d6734/>). Its target is an included
+/// element of SVG whose explicit role is img. It fails where the name is empty. The evidence is the role and
+/// the name.
+#[derive(Clone, Copy, Debug, PartialEq, Eq)]
+pub struct SvgImageHasName;
+
+fn is_target(above: &Above, row: &Row) -> bool
+    ensures { result ≡ is_svg_image_target above.now (seen_row row.now) }
+{
+    is_svg_element(row) && matches!(explicit_at(row), Some(Role::Img)) && included_at(above, row)
+}
+
+impl Rule for SvgImageHasName {
+    ghost means = { svg_image_has_name };
+
+    ghost described = { svg_image_has_name_info };
+
+    fn info(&self) -> RuleInfo {
+        RuleInfo::atomic(15, b"7d6734", Class::SelfOnly, Class::Sub)
+    }
+
+    fn judge(&self, alloc: Global, tree: &Tree, n: NodeId) -> Result<Option<Verdict>, OutOfMemory> {
+        let Some(sight) = sight_with(tree, n, Attribute::RoleAttr) else {
+            return Ok(None);
+        };
+        if !is_target(&sight.above, sight.row) {
+            return Ok(None);
+        }
+        wants_name(alloc, tree, n, &sight)
+    }
+}
+
+#[cfg(test)]
+mod tests;

@@ -1,0 +1,30 @@
+use super::*;
+use crate::samples::{Case, each_is_told};
+use rule_core::Auto::{Failed, Passed};
+use rule_core::Reason::{Met, NoName};
+use std::test::Fail;
+
+static IMAGES: [Case; 8] = [
+    (
+        "1 0 *svg role=img;2 1 *title;3 2 #Chart",
+        1,
+        Some((Passed, Met, "img\nChart")),
+    ),
+    ("1 0 *svg role=img", 1, Some((Failed, NoName, "img\n"))),
+    (
+        "1 0 *circle role=foo~IMG aria-label=Dot",
+        1,
+        Some((Passed, Met, "img\nDot")),
+    ),
+    ("1 0 *svg", 1, None),
+    ("1 0 *g role=group~img", 1, None),
+    ("1 0 *svg role=graphics-symbol", 1, None),
+    ("1 0 img role=img", 1, None),
+    ("1 0 !*svg role=img", 1, None),
+];
+
+#[test]
+fn an_image_of_svg_has_a_name(rt: HostRuntime) -> Result<(), Fail> {
+    assert_eq!(rt; SvgImageHasName.info().no.0, 15);
+    each_is_told(&rt, rt.alloc(), &SvgImageHasName, &IMAGES)
+}
