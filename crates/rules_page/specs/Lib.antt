@@ -1,3 +1,4 @@
 pub mod Pages
+pub mod Filled
 pub mod PageTitle
 pub mod Language

@@ -1,11 +1,11 @@
 -- The title of a page, and what is expected of it.
-use Rattle.std.specs.Prelude.{ℕ, List, [], ◌++◌, if◌then◌else◌, codes, Option, Some, None, option_map, unwrap_or}
+use Rattle.std.specs.Prelude.{ℕ, List, [], ◌++◌, if◌then◌else◌, codes, Option, Some, None, option_map}
 use Rattle.std.specs.Option.{option_or}
 use Rattle.snap_tree.specs.declared.row.NodeId.{NodeId}
 use Rattle.snap_tree.specs.declared.row.Body.{Body}
 use Rattle.snap_tree.specs.declared.row.Body.TheVariants.{Element, Words}
 use Rattle.snap_tree.specs.Trees.{Trees, empty, tree, Document}
-use Rattle.snap_tree.specs.Words.{blank, tidy}
+use Rattle.snap_tree.specs.Words.{tidy}
 use Rattle.snap_tree.specs.Rows.{is_html}
 use Rattle.rule_core.specs.declared.info.RuleInfo.{RuleInfo}
 use Rattle.rule_core.specs.declared.info.Class.TheVariants.{SelfOnly, Title}
@@ -13,8 +13,9 @@ use Rattle.rule_core.specs.declared.reason.Reason.TheVariants.{NoTitle, EmptyTit
 use Rattle.rule_core.specs.declared.finding.Finding.{Finding}
 use Rattle.rule_core.specs.declared.verdict.Verdict.{Verdict}
 use Rattle.rule_core.specs.Infos.{atomic}
-use Rattle.rule_core.specs.Findings.{met, failed, verdict_of}
+use Rattle.rule_core.specs.Findings.{verdict_on}
 use Rattle.rules_page.specs.Pages.{page_root}
+use Rattle.rules_page.specs.Filled.{filled}
 
 -- what is below the first HTML `title` in document order
 abbrev pub first_title : Trees → Option Trees
@@ -37,11 +38,10 @@ page_title trees = option_map (λ kids. tidy (texts kids)) (first_title trees)
 
 -- the page has an HTML `title`, and the page title isn't blank
 abbrev pub title_finding : Option (List ℕ) → Finding
-title_finding None = failed NoTitle
-title_finding (Some title) = if blank title then failed EmptyTitle else met
+title_finding title = filled NoTitle EmptyTitle title
 
 abbrev pub title_verdict : Option (List ℕ) → Verdict
-title_verdict title = verdict_of (title_finding title) (unwrap_or title [])
+title_verdict title = verdict_on (title_finding title) title
 
 -- HTML page has non-empty title: the target is the root of a page, the evidence is the page title
 abbrev pub page_has_title : Document → NodeId → Option Verdict

@@ -2,6 +2,7 @@
 //! title, and whether it has a language. Start with `PageHasTitle` and `PageHasLang`.
 #![tactic(auto)]
 
+mod filled;
 mod language;
 mod page;
 mod page_title;

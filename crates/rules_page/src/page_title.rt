@@ -1,13 +1,15 @@
 ghost use Rattle.std.specs.Prelude.{◌≡◌, IfOk};
-ghost use Rattle.rules_page.specs.PageTitle.{first_title, texts, page_title, title_verdict, page_has_title, page_has_title_info};
+ghost use Rattle.rules_page.specs.PageTitle.{first_title, texts, page_title, page_has_title, page_has_title_info};
 
+use crate::filled::filled;
 use crate::page::root_at;
-use rule_core::{Class, Finding, Reason, Rule, RuleInfo, Verdict};
-use snap_tree::{Body, Branches, NodeId, OutOfMemory, Text, Tree, blank, tidy};
+use rule_core::{Class, Reason, Rule, RuleInfo, Verdict};
+use snap_tree::{Body, Branches, NodeId, OutOfMemory, Text, Tree, tidy};
 use std::alloc::Global;
 
-/// ACT rule 2779a5, HTML page has non-empty title. Its target is the root of a page. It fails where
-/// there is no HTML element `title`, or the page title is blank. The evidence is the page title.
+/// ACT rule 2779a5, HTML page has non-empty title, restated as published at
+/// <https://www.w3.org/WAI/standards-guidelines/act/rules/2779a5/>. Its target is the root of a page. It
+/// fails where there is no HTML element `title`, or the page title is blank. The evidence is the page title.
 #[derive(Clone, Copy, Debug, PartialEq, Eq)]
 pub struct PageHasTitle;
 
@@ -54,16 +56,6 @@ fn page_title(alloc: Global, trees: Branches<'_>) -> Result<Option<Text>, OutOfM
     }
 }
 
-fn title_verdict(alloc: Global, title: Option<Text>) -> Result<Verdict, OutOfMemory>
-    ensures { IfOk result (λ verdict. verdict ≡ title_verdict title) }
-{
-    match title {
-        None => Finding::failed(Reason::NoTitle).verdict(alloc, &Text::new(alloc)),
-        Some(title) if blank(&title) => Finding::failed(Reason::EmptyTitle).verdict(alloc, &title),
-        Some(title) => Finding::met().verdict(alloc, &title),
-    }
-}
-
 impl Rule for PageHasTitle {
     ghost means = { page_has_title };
 
@@ -78,7 +70,8 @@ impl Rule for PageHasTitle {
             return Ok(None);
         }
         let title = page_title(alloc, tree.branches())?;
-        Ok(Some(title_verdict(alloc, title)?))
+        let finding = filled(title.as_ref(), Reason::NoTitle, Reason::EmptyTitle);
+        Ok(Some(finding.verdict_on(alloc, title.as_ref())?))
     }
 }
 
