@@ -1,13 +1,20 @@
-//! The rules on a page as a whole, each as its published ACT rule restated: whether the page has a
-//! title, and whether it has a language. Start with `PageHasTitle` and `PageHasLang`.
+//! The rules on a page as a whole, each a published ACT rule restated: its title, and its language and
+//! that of its parts. One file a rule. Start with `PageHasTitle` and `PageHasLang`.
 #![tactic(auto)]
 
 mod filled;
 mod language;
+mod language_known;
+mod language_of_parts;
+mod languages;
 mod page;
 mod page_title;
 #[cfg(test)]
 mod samples;
+mod title_descriptive;
 
 pub use language::PageHasLang;
+pub use language_known::LanguageIsKnown;
+pub use language_of_parts::LanguageOfPartIsKnown;
 pub use page_title::PageHasTitle;
+pub use title_descriptive::TitleIsDescriptive;
