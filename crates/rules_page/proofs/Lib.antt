@@ -1,1 +1,3 @@
 pub mod Seeing
+pub mod Saturating
+pub mod Cutting

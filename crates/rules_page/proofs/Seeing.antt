@@ -65,3 +65,8 @@ any_seen (row ∷ rows) = rw (filled_seen row.body, any_seen rows) refl
 
 pub shown_seen : (t : Trees) → shows_text (seen t) ≡ list_any is_shown_text (rows_of t)
 shown_seen t = ap (list_any is_shown_text) (rows_seen t) ∙ any_seen (rows_of t)
+
+-- ---- rows
+
+pub rows_of_seen : (t : Trees) → rows_of (seen t) ≡ map seen_row (rows_of t)
+rows_of_seen t = rows_seen t

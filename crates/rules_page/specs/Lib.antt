@@ -6,3 +6,6 @@ pub mod Language
 pub mod Languages
 pub mod LanguageKnown
 pub mod LanguageOfParts
+pub mod Digits
+pub mod Refresh
+pub mod Viewport

@@ -24,7 +24,8 @@ fn is_html_part(row: &Row) -> bool
 {
     match &row.body {
         Body::Element {
-            space: Space::Html, ..
+            space: Space::Html,
+            ..
         } => row.parent.is_some(),
         _ => false,
     }

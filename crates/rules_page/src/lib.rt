@@ -1,7 +1,8 @@
-//! The rules on a page as a whole, each a published ACT rule restated: its title, and its language and
-//! that of its parts. One file a rule. Start with `PageHasTitle` and `PageHasLang`.
+//! The rules on a page as a whole, each a published ACT rule restated: its title, its language and that
+//! of its parts. One file a rule. Start with `PageHasTitle` and `PageHasLang`.
 #![tactic(auto)]
 
+mod digits;
 mod filled;
 mod language;
 mod language_known;
@@ -9,12 +10,16 @@ mod language_of_parts;
 mod languages;
 mod page;
 mod page_title;
+mod refresh;
 #[cfg(test)]
 mod samples;
 mod title_descriptive;
+mod viewport;
 
 pub use language::PageHasLang;
 pub use language_known::LanguageIsKnown;
 pub use language_of_parts::LanguageOfPartIsKnown;
 pub use page_title::PageHasTitle;
+pub use refresh::PageHasNoDelay;
 pub use title_descriptive::TitleIsDescriptive;
+pub use viewport::ViewportAllowsZoom;
