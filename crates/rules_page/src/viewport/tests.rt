@@ -50,7 +50,7 @@ static NONE: [&str; 4] = [
 
 fn agree(
     alloc: Global,
-    contents: &[&str],
+    contents: &[&'static str],
     told: Option<(rule_core::Auto, Reason)>,
 ) -> Result<bool, Fail> {
     let mut all = true;
@@ -75,16 +75,18 @@ fn the_content_allows_zoom(rt: HostRuntime) -> Result<(), Fail> {
     Ok(())
 }
 
+// Elements of no viewport: the name space, the tag, and the name.
+static OTHERS: [(Space, &str, &str); 3] = [
+    (Svg, "meta", "viewport"),
+    (Html, "link", "viewport"),
+    (Html, "meta", "viewport "),
+];
+
 #[test]
 fn only_a_viewport_is_a_target(rt: HostRuntime) -> Result<(), Fail> {
-    let rows: [(Space, &str, &str); 3] = [
-        (Svg, "meta", "viewport"),
-        (Html, "link", "viewport"),
-        (Html, "meta", "viewport "),
-    ];
-    for (space, tag, name) in rows {
-        let attrs = [("name", name), ("content", "user-scalable=no")];
-        let nodes = [HTML, Attrs(1, space, tag, &attrs)];
+    for (space, tag, name) in &OTHERS {
+        let attrs = [("name", *name), ("content", "user-scalable=no")];
+        let nodes = [HTML, Attrs(1, *space, tag, &attrs)];
         let silent = tells(rt.alloc(), &ViewportAllowsZoom, &nodes, 2, None)?;
         assert!(rt; silent, "{tag} {name}");
     }
