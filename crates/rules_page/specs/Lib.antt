@@ -9,3 +9,4 @@ pub mod LanguageOfParts
 pub mod Digits
 pub mod Refresh
 pub mod Viewport
+pub mod Bypass

@@ -14,6 +14,8 @@ pub enum Node<'a> {
     Attr(u32, &'a str, &'a str, &'a str),
     /// An element of this space and tag, with attributes of these names and values.
     Attrs(u32, Space, &'a str, &'a [(&'a str, &'a str)]),
+    /// An HTML element of this tag at which the Tab key stops, with attributes.
+    Stop(u32, &'a str, &'a [(&'a str, &'a str)]),
     /// A text.
     Text(u32, &'a str),
     /// A text that isn't rendered.
@@ -45,6 +47,7 @@ fn body(alloc: Global, node: Node) -> Result<(u32, Body), Fail> {
             Ok((parent, element(alloc, Space::Html, tag, &[(name, value)])?))
         }
         Node::Attrs(parent, space, tag, attrs) => Ok((parent, element(alloc, space, tag, attrs)?)),
+        Node::Stop(parent, tag, attrs) => { Ok((parent, element(alloc, Space::Html, tag, attrs)?)) }
         Node::Text(parent, text) | Node::Unrendered(parent, text) => {
             let text = Text::from_str(alloc, text)?;
             Ok((parent, Body::Words { text }))
@@ -57,7 +60,7 @@ fn facts(node: Node) -> Facts {
         rendered: !matches!(node, Node::Unrendered(..)),
         visible: true,
         focusable: false,
-        tabbable: false,
+        tabbable: matches!(node, Node::Stop(..)),
     }
 }
 
