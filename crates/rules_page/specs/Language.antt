@@ -1,9 +1,9 @@
 -- The language of a page.
-use Rattle.std.specs.Prelude.{ℕ, List, codes, Option, option_map}
+use Rattle.std.specs.Prelude.{ℕ, List, codes, Option, Some}
 use Rattle.snap_tree.specs.declared.row.NodeId.{NodeId}
-use Rattle.snap_tree.specs.declared.row.Row.{Row}
 use Rattle.snap_tree.specs.Trees.{Document}
-use Rattle.snap_tree.specs.Rows.{attribute}
+use Rattle.acc_tree.specs.declared.attributes.Attribute.TheVariants as attribute
+use Rattle.acc_tree.specs.Seen.{attr}
 use Rattle.rule_core.specs.declared.info.RuleInfo.{RuleInfo}
 use Rattle.rule_core.specs.declared.info.Class.TheVariants.{SelfOnly}
 use Rattle.rule_core.specs.declared.reason.Reason.TheVariants.{NoLang, EmptyLang}
@@ -11,11 +11,8 @@ use Rattle.rule_core.specs.declared.finding.Finding.{Finding}
 use Rattle.rule_core.specs.declared.verdict.Verdict.{Verdict}
 use Rattle.rule_core.specs.Infos.{atomic}
 use Rattle.rule_core.specs.Findings.{verdict_on}
-use Rattle.rules_page.specs.Pages.{page_root}
+use Rattle.rules_page.specs.Pages.{said_of_root}
 use Rattle.rules_page.specs.Filled.{filled}
-
-abbrev pub lang_of : Row → Option (List ℕ)
-lang_of r = attribute (codes "lang") r
 
 -- there is an attribute lang, and it isn't blank
 abbrev pub lang_finding : Option (List ℕ) → Finding
@@ -26,7 +23,7 @@ lang_verdict lang = verdict_on (lang_finding lang) lang
 
 -- HTML page has lang attribute: the target is the root of a page, the evidence is its lang
 abbrev pub page_has_lang : Document → NodeId → Option Verdict
-page_has_lang page n = option_map (λ root. lang_verdict (lang_of root)) (page_root page n)
+page_has_lang = said_of_root (λ root. Some (lang_verdict (attr attribute.Lang root)))
 
 abbrev pub page_has_lang_info : RuleInfo
 page_has_lang_info = atomic 3 (codes "b5c3f8") SelfOnly SelfOnly

@@ -1,4 +1,12 @@
 pub mod Pages
 pub mod Filled
 pub mod PageTitle
+pub mod TitleDescriptive
 pub mod Language
+pub mod Languages
+pub mod LanguageKnown
+pub mod LanguageOfParts
+pub mod Digits
+pub mod Refresh
+pub mod Viewport
+pub mod Bypass

@@ -7,6 +7,7 @@ use Rattle.snap_tree.specs.declared.row.Body.TheVariants.{Element, Words}
 use Rattle.snap_tree.specs.Trees.{Trees, empty, tree, Document}
 use Rattle.snap_tree.specs.Words.{tidy}
 use Rattle.snap_tree.specs.Rows.{is_html}
+use Rattle.acc_tree.specs.Seen.{seen}
 use Rattle.rule_core.specs.declared.info.RuleInfo.{RuleInfo}
 use Rattle.rule_core.specs.declared.info.Class.TheVariants.{SelfOnly, Title}
 use Rattle.rule_core.specs.declared.reason.Reason.TheVariants.{NoTitle, EmptyTitle}
@@ -14,7 +15,7 @@ use Rattle.rule_core.specs.declared.finding.Finding.{Finding}
 use Rattle.rule_core.specs.declared.verdict.Verdict.{Verdict}
 use Rattle.rule_core.specs.Infos.{atomic}
 use Rattle.rule_core.specs.Findings.{verdict_on}
-use Rattle.rules_page.specs.Pages.{page_root}
+use Rattle.rules_page.specs.Pages.{said_of_root}
 use Rattle.rules_page.specs.Filled.{filled}
 
 -- what is below the first HTML `title` in document order
@@ -45,7 +46,7 @@ title_verdict title = verdict_on (title_finding title) title
 
 -- HTML page has non-empty title: the target is the root of a page, the evidence is the page title
 abbrev pub page_has_title : Document → NodeId → Option Verdict
-page_has_title page n = option_map (λ root. title_verdict (page_title page.trees)) (page_root page n)
+page_has_title page = said_of_root (λ root. Some (title_verdict (page_title (seen page.trees)))) page
 
 abbrev pub page_has_title_info : RuleInfo
 page_has_title_info = atomic 1 (codes "2779a5") SelfOnly Title

@@ -1,7 +1,8 @@
 ghost use Rattle.rules_page.specs.Language.{page_has_lang, page_has_lang_info};
 
 use crate::filled::filled;
-use crate::page::root_at;
+use crate::page::page_root;
+use acc_tree::{Attribute, attr};
 use rule_core::{Class, Reason, Rule, RuleInfo, Verdict};
 use snap_tree::{NodeId, OutOfMemory, Tree};
 use std::alloc::Global;
@@ -22,10 +23,10 @@ impl Rule for PageHasLang {
     }
 
     fn judge(&self, alloc: Global, tree: &Tree, n: NodeId) -> Result<Option<Verdict>, OutOfMemory> {
-        let Some(root) = root_at(n, tree.branches()) else {
+        let Some(root) = page_root(tree, n) else {
             return Ok(None);
         };
-        let lang = root.attribute("lang");
+        let lang = attr(root, Attribute::Lang);
         let finding = filled(lang, Reason::NoLang, Reason::EmptyLang);
         Ok(Some(finding.verdict_on(alloc, lang)?))
     }

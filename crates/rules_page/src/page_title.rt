@@ -1,8 +1,9 @@
 ghost use Rattle.std.specs.Prelude.{◌≡◌, IfOk};
+ghost use Rattle.acc_tree.specs.Seen.{seen};
 ghost use Rattle.rules_page.specs.PageTitle.{first_title, texts, page_title, page_has_title, page_has_title_info};
 
 use crate::filled::filled;
-use crate::page::root_at;
+use crate::page::page_root;
 use rule_core::{Class, Reason, Rule, RuleInfo, Verdict};
 use snap_tree::{Body, Branches, NodeId, OutOfMemory, Text, Tree, tidy};
 use std::alloc::Global;
@@ -45,15 +46,23 @@ fn texts(alloc: Global, trees: Branches<'_>) -> Result<Text, OutOfMemory>
     Ok(Text::from_string(joined))
 }
 
-/// The page title: the text children of the first HTML element `title` in document order, put
-/// together and tidied; `None` where there is no such element.
-fn page_title(alloc: Global, trees: Branches<'_>) -> Result<Option<Text>, OutOfMemory>
+// The title of a page whose trees these are.
+fn title_in(alloc: Global, trees: Branches<'_>) -> Result<Option<Text>, OutOfMemory>
     ensures { IfOk result (λ title. title ≡ page_title trees.entry) }
 {
     match first_title(trees) {
         None => Ok(None),
         Some(kids) => Ok(Some(tidy(alloc, &texts(alloc, kids)?)?)),
     }
+}
+
+/// The page title: the text children of the first HTML element `title` in document order, put
+/// together and tidied; `None` where there is no such element.
+#[tactic(auto, using(crate::proofs::Seeing::title_seen))]
+pub(crate) fn page_title(alloc: Global, tree: &Tree) -> Result<Option<Text>, OutOfMemory>
+    ensures { IfOk result (λ title. title ≡ page_title (seen tree.now.trees)) }
+{
+    Ok(title_in(alloc, tree.branches())?)
 }
 
 impl Rule for PageHasTitle {
@@ -66,10 +75,10 @@ impl Rule for PageHasTitle {
     }
 
     fn judge(&self, alloc: Global, tree: &Tree, n: NodeId) -> Result<Option<Verdict>, OutOfMemory> {
-        if root_at(n, tree.branches()).is_none() {
+        if page_root(tree, n).is_none() {
             return Ok(None);
         }
-        let title = page_title(alloc, tree.branches())?;
+        let title = page_title(alloc, tree)?;
         let finding = filled(title.as_ref(), Reason::NoTitle, Reason::EmptyTitle);
         Ok(Some(finding.verdict_on(alloc, title.as_ref())?))
     }

@@ -12,42 +12,55 @@ pub enum Node<'a> {
     Tag(u32, Space, &'a str),
     /// An HTML element of this tag, with an attribute of this name and value.
     Attr(u32, &'a str, &'a str, &'a str),
+    /// An element of this space and tag, with attributes of these names and values.
+    Attrs(u32, Space, &'a str, &'a [(&'a str, &'a str)]),
+    /// An HTML element of this tag at which the Tab key stops, with attributes.
+    Stop(u32, &'a str, &'a [(&'a str, &'a str)]),
     /// A text.
     Text(u32, &'a str),
+    /// A text that isn't rendered.
+    Unrendered(u32, &'a str),
 }
 
 /// What is looked at of a verdict.
 pub type Told<'a> = Option<(Auto, Reason, &'a str)>;
 
-const SHOWN: Facts = Facts {
-    rendered: true,
-    visible: true,
-    focusable: false,
-    tabbable: false,
-};
-
-fn element(alloc: Global, space: Space, tag: &str, attrs: Vec<Attr>) -> Result<Body, Fail> {
+fn element(alloc: Global, space: Space, tag: &str, attrs: &[(&str, &str)]) -> Result<Body, Fail> {
+    let mut list = Vec::new(alloc);
+    for (name, value) in attrs {
+        list.push(Attr {
+            name: Text::from_str(alloc, name)?,
+            value: Text::from_str(alloc, value)?,
+        })?;
+    }
     Ok(Body::Element {
         space,
         tag: Text::from_str(alloc, tag)?,
-        attrs: List::from_vec(attrs),
+        attrs: List::from_vec(list),
     })
 }
 
 fn body(alloc: Global, node: Node) -> Result<(u32, Body), Fail> {
-    let mut attrs = Vec::new(alloc);
     match node {
-        Node::Tag(parent, space, tag) => Ok((parent, element(alloc, space, tag, attrs)?)),
+        Node::Tag(parent, space, tag) => Ok((parent, element(alloc, space, tag, &[])?)),
         Node::Attr(parent, tag, name, value) => {
-            let name = Text::from_str(alloc, name)?;
-            let value = Text::from_str(alloc, value)?;
-            attrs.push(Attr { name, value })?;
-            Ok((parent, element(alloc, Space::Html, tag, attrs)?))
+            Ok((parent, element(alloc, Space::Html, tag, &[(name, value)])?))
         }
-        Node::Text(parent, text) => {
+        Node::Attrs(parent, space, tag, attrs) => Ok((parent, element(alloc, space, tag, attrs)?)),
+        Node::Stop(parent, tag, attrs) => { Ok((parent, element(alloc, Space::Html, tag, attrs)?)) }
+        Node::Text(parent, text) | Node::Unrendered(parent, text) => {
             let text = Text::from_str(alloc, text)?;
             Ok((parent, Body::Words { text }))
         }
+    }
+}
+
+fn facts(node: Node) -> Facts {
+    Facts {
+        rendered: !matches!(node, Node::Unrendered(..)),
+        visible: true,
+        focusable: false,
+        tabbable: matches!(node, Node::Stop(..)),
     }
 }
 
@@ -62,7 +75,7 @@ pub fn page(alloc: Global, nodes: &[Node]) -> Result<Tree, Fail> {
             id: NodeId(id),
             parent: (parent != 0).then_some(NodeId(parent)),
             body,
-            facts: SHOWN,
+            facts: facts(*node),
         })?;
     }
     let address = Text::from_str(alloc, "https://example.org/")?;

@@ -1,0 +1,5 @@
+pub mod Seeing
+pub mod Saturating
+pub mod Cutting
+pub mod Fragments
+pub mod Stopping

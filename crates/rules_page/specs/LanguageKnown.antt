@@ -1,0 +1,28 @@
+-- Whether the language of a page is known.
+use Rattle.std.specs.Prelude.{ℕ, List, codes, if◌then◌else◌, Option, Some, None, option_and_then}
+use Rattle.snap_tree.specs.declared.row.NodeId.{NodeId}
+use Rattle.snap_tree.specs.declared.row.Row.{Row}
+use Rattle.snap_tree.specs.Trees.{Document}
+use Rattle.snap_tree.specs.Words.{blank}
+use Rattle.acc_tree.specs.declared.attributes.Attribute.TheVariants as attribute
+use Rattle.acc_tree.specs.Seen.{attr}
+use Rattle.rule_core.specs.declared.info.RuleInfo.{RuleInfo}
+use Rattle.rule_core.specs.declared.info.Class.TheVariants.{SelfOnly}
+use Rattle.rule_core.specs.declared.verdict.Verdict.{Verdict}
+use Rattle.rule_core.specs.Infos.{atomic}
+use Rattle.rules_page.specs.Pages.{said_of_root}
+use Rattle.rules_page.specs.Languages.{tag_verdict}
+
+abbrev pub unless_blank : List ℕ → Option Verdict
+unless_blank lang = if blank lang then None else Some (tag_verdict lang)
+
+-- a root without a lang, or with a blank one, is no target
+abbrev pub language_verdict : Row → Option Verdict
+language_verdict root = option_and_then unless_blank (attr attribute.Lang root)
+
+-- HTML page lang attribute has valid language tag: the targets are roots of pages
+abbrev pub language_is_known : Document → NodeId → Option Verdict
+language_is_known = said_of_root language_verdict
+
+abbrev pub language_is_known_info : RuleInfo
+language_is_known_info = atomic 4 (codes "bf051a") SelfOnly SelfOnly

@@ -1,0 +1,46 @@
+ghost use Rattle.std.specs.Prelude.{◌≡◌, IfOk};
+ghost use Rattle.acc_tree.specs.Seen.{seen_row};
+ghost use Rattle.rules_page.specs.LanguageKnown.{language_verdict, language_is_known, language_is_known_info};
+
+use crate::languages::tag_verdict;
+use crate::page::page_root;
+use acc_tree::{Attribute, attr};
+use rule_core::{Class, Rule, RuleInfo, Verdict};
+use snap_tree::{NodeId, OutOfMemory, Row, Tree, blank};
+use std::alloc::Global;
+
+/// ACT rule bf051a, HTML page lang attribute has valid language tag
+/// (<https://www.w3.org/WAI/standards-guidelines/act/rules/bf051a/>). Its target is the root of a page
+/// whose lang isn't blank. It fails where the primary subtag is unknown; a person has to judge one of three
+/// letters. The evidence is lang.
+#[derive(Clone, Copy, Debug, PartialEq, Eq)]
+pub struct LanguageIsKnown;
+
+fn verdict(alloc: Global, root: &Row) -> Result<Option<Verdict>, OutOfMemory>
+    ensures { IfOk result (λ verdict. verdict ≡ language_verdict (seen_row root.now)) }
+{
+    match attr(root, Attribute::Lang) {
+        Some(lang) if !blank(lang) => Ok(Some(tag_verdict(alloc, lang)?)),
+        _ => Ok(None),
+    }
+}
+
+impl Rule for LanguageIsKnown {
+    ghost means = { language_is_known };
+
+    ghost described = { language_is_known_info };
+
+    fn info(&self) -> RuleInfo {
+        RuleInfo::atomic(4, b"bf051a", Class::SelfOnly, Class::SelfOnly)
+    }
+
+    fn judge(&self, alloc: Global, tree: &Tree, n: NodeId) -> Result<Option<Verdict>, OutOfMemory> {
+        match page_root(tree, n) {
+            Some(root) => verdict(alloc, root),
+            None => Ok(None),
+        }
+    }
+}
+
+#[cfg(test)]
+mod tests;

@@ -1,0 +1,31 @@
+use super::*;
+use crate::samples::Node::{Tag, Text as Words};
+use crate::samples::{Node, Told, tells};
+use rule_core::Auto::CantTell;
+use rule_core::Reason::JudgeTitle;
+use snap_tree::Space::Html;
+use std::test::Fail;
+
+const HTML: Node<'static> = Tag(0, Html, "html");
+
+const TITLE: Node<'static> = Tag(1, Html, "title");
+
+#[test]
+fn a_person_judges_a_title(rt: HostRuntime) -> Result<(), Fail> {
+    let rows: [(&[Node], u32, Told); 5] = [
+        (
+            &[HTML, TITLE, Words(2, " Opening\thours ")],
+            1,
+            Some((CantTell, JudgeTitle, "Opening hours\nhttps://example.org/")),
+        ),
+        (&[HTML, TITLE, Words(2, " ")], 1, None),
+        (&[HTML], 1, None),
+        (&[HTML, TITLE, Words(2, "Home")], 2, None),
+        (&[Tag(0, Html, "p"), TITLE, Words(2, "Home")], 1, None),
+    ];
+    for (row, (nodes, n, told)) in rows.iter().enumerate() {
+        let agrees = tells(rt.alloc(), &TitleIsDescriptive, nodes, *n, *told)?;
+        assert!(rt; agrees, "row {row}");
+    }
+    Ok(())
+}
