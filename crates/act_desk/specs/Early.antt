@@ -2,7 +2,12 @@
 use Rattle.std.specs.Prelude.{List, [], ◌∷◌}
 use Rattle.rule_core.specs.Books.{Entry}
 use Rattle.rules_page.specs.PageTitle.{page_has_title, page_has_title_info}
+use Rattle.rules_page.specs.TitleDescriptive.{title_is_descriptive, title_is_descriptive_info}
 use Rattle.rules_page.specs.Language.{page_has_lang, page_has_lang_info}
+use Rattle.rules_page.specs.LanguageKnown.{language_is_known, language_is_known_info}
+use Rattle.rules_page.specs.LanguageOfParts.{language_of_part_is_known, language_of_part_is_known_info}
+use Rattle.rules_page.specs.Viewport.{viewport_allows_zoom, viewport_allows_zoom_info}
+use Rattle.rules_page.specs.Refresh.{page_has_no_delay, page_has_no_delay_info}
 use Rattle.rules_names.specs.Button.{button_has_name, button_has_name_info}
 use Rattle.rules_names.specs.Link.{link_has_name, link_has_name_info}
 use Rattle.rules_names.specs.Image.{image_has_name, image_has_name_info}
@@ -19,11 +24,20 @@ use Rattle.rules_aria.specs.AriaValue.{aria_value_is_valid, aria_value_is_valid_
 use Rattle.rules_aria.specs.RequiredStates.{has_required_states, has_required_states_info}
 use Rattle.rules_aria.specs.OwnedElements.{owns_required_elements, owns_required_elements_info}
 use Rattle.rules_aria.specs.AriaHidden.{hidden_holds_no_focus, hidden_holds_no_focus_info}
+use Rattle.rules_page.specs.Bypass.{has_heading, has_heading_info}
+use Rattle.rules_page.specs.Bypass.{has_landmark, has_landmark_info}
+use Rattle.rules_page.specs.Bypass.{has_skip_link, has_skip_link_info}
+use Rattle.rules_page.specs.Bypass.{has_collapse, has_collapse_info}
 
 abbrev pub early : List Entry
 early =
     record { info = page_has_title_info; says = page_has_title }
+    ∷ record { info = title_is_descriptive_info; says = title_is_descriptive }
     ∷ record { info = page_has_lang_info; says = page_has_lang }
+    ∷ record { info = language_is_known_info; says = language_is_known }
+    ∷ record { info = language_of_part_is_known_info; says = language_of_part_is_known }
+    ∷ record { info = viewport_allows_zoom_info; says = viewport_allows_zoom }
+    ∷ record { info = page_has_no_delay_info; says = page_has_no_delay }
     ∷ record { info = button_has_name_info; says = button_has_name }
     ∷ record { info = link_has_name_info; says = link_has_name }
     ∷ record { info = image_has_name_info; says = image_has_name }
@@ -40,4 +54,8 @@ early =
     ∷ record { info = has_required_states_info; says = has_required_states }
     ∷ record { info = owns_required_elements_info; says = owns_required_elements }
     ∷ record { info = hidden_holds_no_focus_info; says = hidden_holds_no_focus }
+    ∷ record { info = has_heading_info; says = has_heading }
+    ∷ record { info = has_landmark_info; says = has_landmark }
+    ∷ record { info = has_skip_link_info; says = has_skip_link }
+    ∷ record { info = has_collapse_info; says = has_collapse }
     ∷ []

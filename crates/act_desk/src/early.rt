@@ -10,7 +10,11 @@ use rules_names::{
     ButtonHasName, FormFieldHasName, HeadingHasName, HeadingIsDescriptive, IframeHasName,
     ImageButtonHasName, ImageHasName, LinkHasName, SvgImageHasName,
 };
-use rules_page::{PageHasLang, PageHasTitle};
+use rules_page::{
+    HasCollapse, HasHeadingToStart, HasLandmark, HasSkipLink, LanguageIsKnown,
+    LanguageOfPartIsKnown, PageHasLang, PageHasNoDelay, PageHasTitle, TitleIsDescriptive,
+    ViewportAllowsZoom,
+};
 use snap_tree::{NodeId, OutOfMemory, Tree};
 use std::alloc::Global;
 
@@ -45,23 +49,32 @@ impl RuleBook for Early {
     fn info(&self, place: usize) -> Option<RuleInfo> {
         match place {
             0 => Some(PageHasTitle.info()),
-            1 => Some(PageHasLang.info()),
-            2 => Some(ButtonHasName.info()),
-            3 => Some(LinkHasName.info()),
-            4 => Some(ImageHasName.info()),
-            5 => Some(ImageButtonHasName.info()),
-            6 => Some(FormFieldHasName.info()),
-            7 => Some(IframeHasName.info()),
-            8 => Some(HeadingHasName.info()),
-            9 => Some(SvgImageHasName.info()),
-            10 => Some(HeadingIsDescriptive.info()),
-            11 => Some(AutocompleteIsValid.info()),
-            12 => Some(RoleIsValid.info()),
-            13 => Some(AriaAttributeIsDefined.info()),
-            14 => Some(AriaValueIsValid.info()),
-            15 => Some(HasRequiredStates.info()),
-            16 => Some(OwnsRequiredElements.info()),
-            17 => Some(HiddenHoldsNoFocus.info()),
+            1 => Some(TitleIsDescriptive.info()),
+            2 => Some(PageHasLang.info()),
+            3 => Some(LanguageIsKnown.info()),
+            4 => Some(LanguageOfPartIsKnown.info()),
+            5 => Some(ViewportAllowsZoom.info()),
+            6 => Some(PageHasNoDelay.info()),
+            7 => Some(ButtonHasName.info()),
+            8 => Some(LinkHasName.info()),
+            9 => Some(ImageHasName.info()),
+            10 => Some(ImageButtonHasName.info()),
+            11 => Some(FormFieldHasName.info()),
+            12 => Some(IframeHasName.info()),
+            13 => Some(HeadingHasName.info()),
+            14 => Some(SvgImageHasName.info()),
+            15 => Some(HeadingIsDescriptive.info()),
+            16 => Some(AutocompleteIsValid.info()),
+            17 => Some(RoleIsValid.info()),
+            18 => Some(AriaAttributeIsDefined.info()),
+            19 => Some(AriaValueIsValid.info()),
+            20 => Some(HasRequiredStates.info()),
+            21 => Some(OwnsRequiredElements.info()),
+            22 => Some(HiddenHoldsNoFocus.info()),
+            23 => Some(HasHeadingToStart.info()),
+            24 => Some(HasLandmark.info()),
+            25 => Some(HasSkipLink.info()),
+            26 => Some(HasCollapse.info()),
             _ => None,
         }
     }
@@ -76,7 +89,12 @@ impl RuleBook for Early {
         self.calls = next(self.calls);
         match rule.0 {
             1 => PageHasTitle.judge(alloc, tree, n),
+            2 => TitleIsDescriptive.judge(alloc, tree, n),
             3 => PageHasLang.judge(alloc, tree, n),
+            4 => LanguageIsKnown.judge(alloc, tree, n),
+            5 => LanguageOfPartIsKnown.judge(alloc, tree, n),
+            6 => ViewportAllowsZoom.judge(alloc, tree, n),
+            7 => PageHasNoDelay.judge(alloc, tree, n),
             8 => ButtonHasName.judge(alloc, tree, n),
             9 => LinkHasName.judge(alloc, tree, n),
             10 => ImageHasName.judge(alloc, tree, n),
@@ -93,6 +111,10 @@ impl RuleBook for Early {
             21 => HasRequiredStates.judge(alloc, tree, n),
             22 => OwnsRequiredElements.judge(alloc, tree, n),
             23 => HiddenHoldsNoFocus.judge(alloc, tree, n),
+            26 => HasHeadingToStart.judge(alloc, tree, n),
+            27 => HasLandmark.judge(alloc, tree, n),
+            28 => HasSkipLink.judge(alloc, tree, n),
+            29 => HasCollapse.judge(alloc, tree, n),
             _ => Ok(None),
         }
     }
