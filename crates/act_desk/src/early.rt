@@ -1,4 +1,4 @@
-ghost use Rattle.std.specs.Prelude.{◌≡◌};
+ghost use Rattle.std.specs.Prelude.{◌≡◌, slice_get};
 
 use counts::next;
 use rule_core::{Rule, RuleBook, RuleInfo, RuleNo, Verdict};
@@ -33,6 +33,13 @@ impl Early {
     }
 }
 
+// The info at a place, and None past the last.
+fn info_at(infos: &[RuleInfo], place: usize) -> Option<RuleInfo>
+    ensures { result ≡ slice_get infos.now place }
+{
+    infos.get(place).copied()
+}
+
 impl RuleBook for Early {
     ghost use Rattle.std.specs.Prelude.{refl};
     ghost use Rattle.std.proofs.Common.{rules};
@@ -47,36 +54,36 @@ impl RuleBook for Early {
     ghost calls = { λ book. book.calls };
 
     fn info(&self, place: usize) -> Option<RuleInfo> {
-        match place {
-            0 => Some(PageHasTitle.info()),
-            1 => Some(TitleIsDescriptive.info()),
-            2 => Some(PageHasLang.info()),
-            3 => Some(LanguageIsKnown.info()),
-            4 => Some(LanguageOfPartIsKnown.info()),
-            5 => Some(ViewportAllowsZoom.info()),
-            6 => Some(PageHasNoDelay.info()),
-            7 => Some(ButtonHasName.info()),
-            8 => Some(LinkHasName.info()),
-            9 => Some(ImageHasName.info()),
-            10 => Some(ImageButtonHasName.info()),
-            11 => Some(FormFieldHasName.info()),
-            12 => Some(IframeHasName.info()),
-            13 => Some(HeadingHasName.info()),
-            14 => Some(SvgImageHasName.info()),
-            15 => Some(HeadingIsDescriptive.info()),
-            16 => Some(AutocompleteIsValid.info()),
-            17 => Some(RoleIsValid.info()),
-            18 => Some(AriaAttributeIsDefined.info()),
-            19 => Some(AriaValueIsValid.info()),
-            20 => Some(HasRequiredStates.info()),
-            21 => Some(OwnsRequiredElements.info()),
-            22 => Some(HiddenHoldsNoFocus.info()),
-            23 => Some(HasHeadingToStart.info()),
-            24 => Some(HasLandmark.info()),
-            25 => Some(HasSkipLink.info()),
-            26 => Some(HasCollapse.info()),
-            _ => None,
-        }
+        let infos = [
+            PageHasTitle.info(),
+            TitleIsDescriptive.info(),
+            PageHasLang.info(),
+            LanguageIsKnown.info(),
+            LanguageOfPartIsKnown.info(),
+            ViewportAllowsZoom.info(),
+            PageHasNoDelay.info(),
+            ButtonHasName.info(),
+            LinkHasName.info(),
+            ImageHasName.info(),
+            ImageButtonHasName.info(),
+            FormFieldHasName.info(),
+            IframeHasName.info(),
+            HeadingHasName.info(),
+            SvgImageHasName.info(),
+            HeadingIsDescriptive.info(),
+            AutocompleteIsValid.info(),
+            RoleIsValid.info(),
+            AriaAttributeIsDefined.info(),
+            AriaValueIsValid.info(),
+            HasRequiredStates.info(),
+            OwnsRequiredElements.info(),
+            HiddenHoldsNoFocus.info(),
+            HasHeadingToStart.info(),
+            HasLandmark.info(),
+            HasSkipLink.info(),
+            HasCollapse.info(),
+        ];
+        info_at(infos.as_slice(), place)
     }
 
     fn judge(
