@@ -76,7 +76,11 @@ chosen_of_nodes asked above kind (tree row kids after) =
         → (heard asked (under above row) (caption_of row) kids).chosen ≡ all_joined (chosen_in asked (nodes_seen (under above row) kids))
         → (heard asked above kind after).chosen ≡ all_joined (chosen_in asked (nodes_seen above after))
         → (heard asked above kind (tree row kids after)).chosen ≡ all_joined (chosen_in asked (nodes_seen above (tree row kids after)))
-    by_row true e below later = rw e (rw (below, later, chosen_in-append asked (nodes_seen (under above row) kids) (nodes_seen above after)) (joined-assoc (Some (within asked (record { row = row; below = kids; above = above }))) (all_joined (chosen_in asked (nodes_seen (under above row) kids))) (all_joined (chosen_in asked (nodes_seen above after)))))
+    by_row true e below later =
+        let own = Some (within asked (record { row = row; below = kids; above = above })) in
+        let chosen_below = all_joined (chosen_in asked (nodes_seen (under above row) kids)) in
+        let chosen_later = all_joined (chosen_in asked (nodes_seen above after)) in
+        rw e (rw (below, later, chosen_in-append asked (nodes_seen (under above row) kids) (nodes_seen above after)) (joined-assoc own chosen_below chosen_later))
     by_row false e below later = rw e (rw (below, later, chosen_in-append asked (nodes_seen (under above row) kids) (nodes_seen above after)) refl)
 
 -- ---- an element's clauses

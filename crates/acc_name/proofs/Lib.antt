@@ -1,3 +1,4 @@
 pub mod Hearing
 pub mod Deciding
 pub mod Alone
+pub mod Plain

@@ -25,7 +25,8 @@ use Rattle.acc_name.specs.declared.named.How.TheVariants as how
 use Rattle.acc_name.specs.declared.named.Name.{Name}
 use Rattle.acc_name.specs.declared.named.NameSource.TheVariants as source
 use Rattle.acc_name.specs.Hosts.{host_of, host_text, caption_of, is_captioning}
-use Rattle.acc_name.specs.Names.{Asked, untold, no_name, says, first_said, is_shown, is_silent, is_input, is_select, is_entry, is_range, range_text, is_named, heard, value_of, content_of, placed, placeholder_of, is_chosen, spoken, referred, told_by, named, name_of}
+use Rattle.acc_name.specs.Names.{Asked, untold, no_name, says, first_said, is_shown, is_silent, is_input, is_select, is_entry, is_range, range_text, is_named, heard}
+use Rattle.acc_name.specs.Names.{value_of, content_of, placed, placeholder_of, is_chosen, spoken, referred, told_by, named, name_of}
 
 -- ---- the nodes below a node
 
@@ -141,7 +142,8 @@ pub record ValuesWithin (asked : Asked) (s : Sight) : Type 0 where
   pub referred : value_text asked how.Referred s ≡ []
   pub input : is_input (html_tag s.row) ≡ true → is_entry (role_at s.above s.row) ≡ true → value_text asked how.Inner s ≡ text_at attribute.Value s.row
   pub select : is_select (html_tag s.row) ≡ true → value_text asked how.Inner s ≡ spaced (chosen_texts asked s)
-  pub range : (is_input (html_tag s.row) && is_entry (role_at s.above s.row)) ≡ false → is_select (html_tag s.row) ≡ false → is_range (role_at s.above s.row) ≡ true → value_text asked how.Inner s ≡ range_text s.row
+  pub range : (is_input (html_tag s.row) && is_entry (role_at s.above s.row)) ≡ false → is_select (html_tag s.row) ≡ false
+      → is_range (role_at s.above s.row) ≡ true → value_text asked how.Inner s ≡ range_text s.row
 
 -- step 2F: what is referred to or within a name says what its children say; of its own name a node does if
 -- its role is named from content

@@ -1,5 +1,6 @@
 -- The accessible name of a node, in nine clauses (Accessible Name and Description Computation 1.2,
--- "Computation steps"). The first clause that gives a text which isn't blank decides.
+-- "Computation steps"). The first clause that gives a text which isn't blank decides. The clauses of an
+-- element stand in by_clauses, in their order.
 use Rattle.std.specs.Prelude.{◌&&◌, ◌||◌, not, ℕ, List, [], ◌∷◌, ◌++◌, map, Bool, true, false, if◌then◌else◌, Option, Some, None, unwrap_or}
 use Rattle.std.specs.Option.{option_map_or, option_or}
 use Rattle.aria_tables.specs.declared.attr.AriaAttr.TheVariants as aria
@@ -64,7 +65,7 @@ abbrev pub first_said : List Name → Name
 first_said [] = no_name
 first_said (said ∷ later) = if blank said.text then first_said later else said
 
--- ---- clause 1: the node asked for doesn't count within its own name, and hidden nodes don't count
+-- ---- clause 1, step 2A: the node asked for doesn't count within its own name, and hidden nodes don't count
 
 abbrev pub is_inner : How → Bool
 is_inner how.Own = false
@@ -77,7 +78,7 @@ is_shown row = (row.facts.rendered && row.facts.visible) && not (is_hidden row)
 abbrev pub is_silent : NodeId → Bool → How → Row → Bool
 is_silent node hidden how row = (is_inner how && has_number node row) || (not hidden && not (is_shown row))
 
--- ---- clause 3: controls within a name say their values
+-- ---- clause 3, step 2C: controls within a name say their values
 
 abbrev pub is_input : Option Tag → Bool
 is_input (Some tag.Input) = true
@@ -119,7 +120,7 @@ value_of how.Own role row chosen = []
 value_of how.Referred role row chosen = []
 value_of how.Inner role row chosen = control_text role row chosen
 
--- ---- clause 6: content names what is referred to or within a name, and the roles named from content
+-- ---- clause 6, step 2F: content names what is referred to or within a name, and the roles named from content
 
 abbrev pub is_named : Option Role → Bool
 is_named role = option_map_or named_from_content role false
@@ -132,7 +133,7 @@ asks_content how.Inner role = true
 abbrev pub content_of : How → Option Role → List ℕ → List ℕ
 content_of how role content = if asks_content how role then content else []
 
--- ---- clause 8: elements stand apart from the text around them, but for those within a line
+-- ---- clause 8, step 2H: elements stand apart from the text around them, but for those within a line
 
 abbrev pub is_inline : Option Tag → Bool
 is_inline (Some tag.A) = true
@@ -166,7 +167,7 @@ stands_apart (Words text) = false
 abbrev pub placed : Row → List ℕ → List ℕ
 placed row text = if stands_apart row.body then 32 ∷ text ++ 32 ∷ [] else text
 
--- ---- clause 9: the title, and then the placeholder
+-- ---- clause 9, step 2I: the title, and then the placeholder
 
 abbrev pub has_placeholder : Option Tag → Bool
 has_placeholder (Some tag.Input) = true
@@ -181,17 +182,23 @@ placeholder_of row = if has_placeholder (html_tag row) then text_at attribute.Pl
 -- an element's clauses in their order
 abbrev pub by_clauses : Told → How → Option Role → Row → Heard → Name
 by_clauses told how role row inner = first_said (
+    -- clause 2, step 2B
     says source.LabelledBy told.labelled_by
+    -- clause 3, step 2C
     ∷ says source.HostText (value_of how role row inner.chosen)
+    -- clause 4, step 2D
     ∷ says source.AriaLabel (text_at (attribute.Aria aria.Label) row)
+    -- clause 5, step 2E: the labels, and then the text of the element's kind
     ∷ says source.HostLabel told.labels
     ∷ says source.HostText (host_text (host_of row) row inner.caption)
+    -- clauses 6 and 8, steps 2F and 2H
     ∷ says source.Content (content_of how role inner.content)
+    -- clause 9, step 2I
     ∷ says source.Title (text_at attribute.Title row)
     ∷ says source.Placeholder (placeholder_of row)
     ∷ [])
 
--- clause 7: a text says itself
+-- clause 7, step 2G: a text says itself
 abbrev pub by_body : Told → How → Option Role → Row → Heard → Body → Name
 by_body told how role row inner (Element space tag attrs) = by_clauses told how role row inner
 by_body told how role row inner (Words text) = says source.Content text
@@ -258,7 +265,7 @@ referred trees node m =
 abbrev pub all_referred : Trees → NodeId → List NodeId → List ℕ
 all_referred trees node ms = spaced (map (referred trees node) ms)
 
--- clauses 2 and 5: what the elements say that aria-labelledby finds, and what the labels say
+-- clauses 2 and 5, steps 2B and 2E: what the elements say that aria-labelledby finds, and what the labels say
 abbrev pub told_of : Trees → NodeId → Row → Told
 told_of trees node row = record {
   labelled_by = all_referred trees node (found trees (named_by aria.Labelledby row));

@@ -12,10 +12,11 @@ use crate::named::How;
 use crate::references::{References, Untold};
 use crate::room::Room;
 use crate::telling::spoken;
+use crate::tidying::tidied;
 use crate::told::{Scope, Told};
 use acc_tree::{Above, Attribute, exposed_at, first_found, labels_of, sight_of, text_at};
 use aria_tables::AriaAttr;
-use snap_tree::{Branches, NodeId, OutOfMemory, Row, Text, Tree, tidy};
+use snap_tree::{Branches, NodeId, OutOfMemory, Row, Text, Tree};
 use std::alloc::Global;
 
 // What a node says where it is referred to in the name of another. Hidden nodes count if it is hidden
@@ -35,7 +36,7 @@ fn referred(
     let hidden = !exposed_at(&sight.above, sight.row);
     let scope = Scope { node, hidden };
     let name = spoken(alloc, &Untold, scope, room, How::Referred, sight)?;
-    tidy(alloc, &name.text)
+    tidied(alloc, name.text)
 }
 
 fn text_of(alloc: Global, joined: Option<String>) -> Text

@@ -5,7 +5,8 @@ ghost use Rattle.snap_tree.specs.Trees.{Trees};
 ghost use Rattle.acc_tree.specs.Sights.{Sight};
 ghost use Rattle.acc_name.specs.declared.named.How.{How};
 ghost use Rattle.acc_name.specs.Names.{Asked};
-ghost use Rattle.acc_name.specs.NameLaws.{OwnNodeIsSilent, HiddenIsSilent, FirstDecides, ReferencesTell, ReferredSays, FollowsOnce, ValuesWithin, ContentNames, TextSaysItself, ChildrenInOrder, NameIsOwn, StrangerHasNone};
+ghost use Rattle.acc_name.specs.NameLaws.{OwnNodeIsSilent, HiddenIsSilent, FirstDecides, ReferencesTell, ReferredSays, FollowsOnce};
+ghost use Rattle.acc_name.specs.NameLaws.{ValuesWithin, ContentNames, TextSaysItself, ChildrenInOrder, NameIsOwn, StrangerHasNone};
 
 /// Laws of names: each clause in the shape of the standard's step. It does nothing: the clauses are what
 /// it is for.

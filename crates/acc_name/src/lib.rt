@@ -16,6 +16,7 @@ mod references;
 mod room;
 mod tags;
 mod telling;
+mod tidying;
 mod told;
 mod values;
 

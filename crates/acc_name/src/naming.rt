@@ -12,11 +12,12 @@ use crate::hosts::{caption_in, host_of};
 use crate::named::{How, Name, NameSource};
 use crate::room::Room;
 use crate::telling::spoken;
+use crate::tidying::tidied;
 use crate::told::Scope;
 use crate::values::asks_content;
 use acc_tree::{role, row_of, sight_of};
 use aria_tables::Role;
-use snap_tree::{NodeId, OutOfMemory, Row, Text, Tree, tidy};
+use snap_tree::{NodeId, OutOfMemory, Row, Text, Tree};
 use std::alloc::Global;
 
 fn named(alloc: Global, source: NameSource, text: Text) -> Name
@@ -105,7 +106,7 @@ fn own_text(alloc: Global, tree: &Tree, n: NodeId) -> Result<Name, OutOfMemory>
 pub fn name(alloc: Global, tree: &Tree, n: NodeId) -> Result<Name, OutOfMemory>
     ensures { IfOk result (λ name. name ≡ name_of (seen tree.now.trees) n) }
 {
-    let own = own_text(alloc, tree, n)?;
-    let text = tidy(alloc, &own.text)?;
-    Ok(named(alloc, own.source, text))
+    let Name { text, source } = own_text(alloc, tree, n)?;
+    let text = tidied(alloc, text)?;
+    Ok(named(alloc, source, text))
 }

@@ -15,4 +15,4 @@ returns c =
     let name_is = c.in_ok-name.ensures ∙ ap (λ shown. spoken (asked shown) how.Referred (seen_sight c.in-Some.sight)) c.exposed_at-hidden.ensures in
     let text_is : tidy c.in_ok-name.name.text ≡ referred (seen c.args.tree.now.trees) c.args.node c.args.m =
     ap (λ name. tidy name.text) name_is ∙ ap (λ s. option_map_or says s []) c.in-Some.ensures in
-    subst (λ (text : List ℕ). IfOk c.tidy.result (λ t. t ≡ text)) text_is c.tidy.ensures
+    subst (λ (text : List ℕ). IfOk c.tidied.result (λ t. t ≡ text)) text_is c.tidied.ensures

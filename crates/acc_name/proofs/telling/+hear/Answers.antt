@@ -19,9 +19,10 @@ loop-branch-preserved g t c =
     let first = shown c.loop-branch.so_far in
     let inner_is = c.in_ok-inner.ensures ∙ ap (λ a. heard asked a c.caption_in-captioned.result kids) c.under-beneath.ensures
     ∙ ap (λ k. heard asked (under above row) k kids) (c.caption_in-captioned.ensures ∙ ap caption_in c.host_of.ensures) in
+    let told = g.R.References.tells c.args.references.now (seen_at c.in-Some.branch.row.now c.in-Some.branch.kids above) in
     let name_is = c.in_ok-name.ensures
     ∙ ap (λ told. said c.args.scope.node c.args.scope.hidden told how.Inner c.role_at-role.result row (shown c.in_ok-inner.inner)) c.in_ok-told.ensures
-    ∙ ap (λ role. said c.args.scope.node c.args.scope.hidden (g.R.References.tells c.args.references.now (seen_at c.in-Some.branch.row.now c.in-Some.branch.kids above)) how.Inner role row (shown c.in_ok-inner.inner)) c.role_at-role.ensures in
+    ∙ ap (λ role. said c.args.scope.node c.args.scope.hidden told how.Inner role row (shown c.in_ok-inner.inner)) c.role_at-role.ensures in
     let smaller : count c.in-Some.branch.after ≤ count c.args.trees = omega (arith, c.loop-branch.invariant.0, ap count c.in-Some.ensures) in (
       smaller,
       ap (λ h. and_then h (heard asked above c.args.kind after)) c.in_ok-so_far.ensures

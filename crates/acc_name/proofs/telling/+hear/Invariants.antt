@@ -11,7 +11,8 @@ decreases-hear g l = count l.trees
 abbrev pub invariant-loop-branch : goal.invariant-loop-branch
 invariant-loop-branch g l =
     (count l.rest ≤ count l.fn.trees)
-    × (and_then (shown l.so_far) (heard (asked_of l.scope (g.R.References.tells l.references)) l.above l.kind (seen l.rest)) ≡ heard (asked_of l.fn.scope (g.R.References.tells l.fn.references)) l.fn.above l.fn.kind (seen l.fn.trees))
+    × (and_then (shown l.so_far) (heard (asked_of l.scope (g.R.References.tells l.references)) l.above l.kind (seen l.rest))
+    ≡ heard (asked_of l.fn.scope (g.R.References.tells l.fn.references)) l.fn.above l.fn.kind (seen l.fn.trees))
 
 abbrev pub decreases-loop-branch : goal.decreases-loop-branch
 decreases-loop-branch g l = count l.rest

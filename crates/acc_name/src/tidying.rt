@@ -1,0 +1,40 @@
+ghost use Rattle.std.specs.Prelude.{◌≡◌, ◌==◌, ◌&&◌, not, IsTrue, IfOk};
+ghost use Rattle.std.specs.Int.{is_in_range};
+ghost use Rattle.snap_tree.specs.Words.{tidy};
+
+use snap_tree::{OutOfMemory, Text, tidy};
+use std::alloc::Global;
+
+// Whether a byte is a visible ASCII character or a space, and no space that follows another.
+fn may_follow(before: u8, byte: u8) -> bool
+    ensures { result ≡ (not (byte == 32 && before == 32) && is_in_range 32 126 byte) }
+{
+    !((byte == b' ') & (before == b' ')) & (byte >= b' ') & (byte <= b'~')
+}
+
+// Whether a text is tidy at a glance, as most are: visible ASCII characters with single spaces between
+// them. False says nothing. It never stops early, so that many bytes can be looked at at once.
+fn is_plainly_tidy(text: &str) -> bool
+    ensures { IsTrue result → tidy text.now ≡ text.now }
+{
+    let mut rest = text.as_bytes();
+    let mut plain = true;
+    let mut before = b' ';
+    while let [byte, later @ ..] = rest {
+        plain = plain & may_follow(before, *byte);
+        before = *byte;
+        rest = later;
+    }
+    plain & (before != b' ')
+}
+
+/// The text, tidied. One that is tidy at a glance isn't written again.
+pub(crate) fn tidied(alloc: Global, text: Text) -> Result<Text, OutOfMemory>
+    ensures { IfOk result (λ t. t ≡ tidy text) }
+{
+    if is_plainly_tidy(text.as_str()) {
+        Ok(text)
+    } else {
+        tidy(alloc, &text)
+    }
+}
