@@ -120,6 +120,12 @@ unfoldable pub tree_in : Limits → List ℕ → Result Document SnapFault
 tree_in limits bytes = page_in limits bytes >>= built
 
 -- What is sent has at most 8,388,608 bytes, and 65,536 in its address. What is kept has no such limit.
+abbrev pub sent_page_of : Data → Result Raw SnapFault
+sent_page_of page = page_of SENT page
+
+abbrev pub sent_rows_of : Data → Result (List Row) SnapFault
+sent_rows_of rows = in_shape 0 field.Nodes (as_array rows) >>= rows_of 1
+
 abbrev pub sent_page : List ℕ → Result Raw SnapFault
 sent_page bytes = page_in SENT bytes
 

@@ -27,5 +27,6 @@ mod writing;
 
 pub use fault::{Field, SnapFault};
 pub use limits::{MOST_ADDRESS_BYTES, MOST_SNAPSHOT_BYTES};
-pub use reading::{read_kept, read_raw, read_snapshot};
+pub use reading::{raw_of, read_kept, read_raw, read_snapshot};
+pub use rows::rows_of;
 pub use writing::write_snapshot;

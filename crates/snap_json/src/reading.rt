@@ -2,12 +2,12 @@ ghost use Rattle.std.specs.Prelude.{◌≡◌, ◌≢◌, Err, IfOk, option_map}
 ghost use Rattle.serde_json.specs.View.{view};
 ghost use Rattle.web_address.specs.Address.{IsWebAddress};
 ghost use Rattle.snap_json.specs.Faults.{Gives, Answers};
-ghost use Rattle.snap_json.specs.Pages.{address_from, json_of, page_of, page_in, built, tree_in, sent_page, sent_tree, kept_tree, within};
+ghost use Rattle.snap_json.specs.Pages.{address_from, json_of, page_of, page_in, built, tree_in, sent_page, sent_page_of, sent_tree, kept_tree, within};
 
 use crate::fault::{Field, SnapFault};
 use crate::fields;
 use crate::limits::{KEPT, Limits, SENT};
-use crate::rows::{in_shape, rows_of};
+use crate::rows::{each_row, in_shape};
 use serde_json::Value;
 use snap_tree::{BuildFault, OutOfMemory, Raw, Text, Tree};
 use std::alloc::Global;
@@ -22,6 +22,16 @@ pub fn read_raw(alloc: Global, bytes: &[u8]) -> Result<Raw, SnapFault>
     ensures web_address { IfOk result (λ raw. IsWebAddress raw.address) }
 {
     page_in(alloc, SENT, bytes)
+}
+
+/// Reads a snapshot that is a JSON value, such as one within a longer text, without building its tree.
+/// The faults are those of `read_raw` from Shape with place 0 on, in the same order.
+#[tactic(auto, using(crate::proofs::Answering::answers))]
+pub fn raw_of(alloc: Global, value: &Value) -> Result<Raw, SnapFault>
+    ensures exact { Answers result (sent_page_of (view value.now)) }
+    ensures web_address { IfOk result (λ raw. IsWebAddress raw.address) }
+{
+    page_of(alloc, SENT, value)
 }
 
 /// Reads a snapshot and builds its tree. The faults are those of `read_raw`, and last the first one
@@ -103,7 +113,7 @@ fn page_of(alloc: Global, limits: Limits, page: &Value) -> Result<Raw, SnapFault
     let nodes = page.get("nodes").and_then(Value::as_array);
     let nodes = in_shape(0, Field::Nodes, nodes)?;
     let address = address_from(alloc, limits.address, sent)?;
-    let rows = rows_of(alloc, nodes.as_slice())?;
+    let rows = each_row(alloc, nodes.as_slice())?;
     Ok(Raw { address, rows })
 }
 

@@ -1,7 +1,7 @@
 ghost use Rattle.std.specs.Prelude.{◌≡◌};
 ghost use Rattle.serde_json.specs.View.{view, items_view};
-ghost use Rattle.snap_json.specs.Faults.{in_shape, Gives};
-ghost use Rattle.snap_json.specs.Pages.{element_from, words_from, body_of, row_of, rows_of, next_place};
+ghost use Rattle.snap_json.specs.Faults.{in_shape, Gives, Answers};
+ghost use Rattle.snap_json.specs.Pages.{element_from, words_from, body_of, row_of, rows_of, next_place, sent_rows_of};
 
 use crate::fault::{Field, SnapFault};
 use crate::fields;
@@ -19,8 +19,19 @@ pub(crate) fn in_shape<T>(place: u32, field: Field, meaning: Option<T>) -> Resul
     }
 }
 
+/// Reads the rows that a JSON value is, as those of a snapshot are read. The faults are Shape with place
+/// 0 and field Nodes where the value isn't a list, and else Shape with the place of the first bad row,
+/// counted from 1, and its first bad field.
+#[tactic(auto, using(crate::proofs::Answering::answers))]
+pub fn rows_of(alloc: Global, value: &Value) -> Result<List<Row>, SnapFault>
+    ensures { Answers result (sent_rows_of (view value.now)) }
+{
+    let rows = in_shape(0, Field::Nodes, value.as_array())?;
+    each_row(alloc, rows.as_slice())
+}
+
 /// The rows of a list, in its order.
-pub(crate) fn rows_of(alloc: Global, rows: &[Value]) -> Result<List<Row>, SnapFault>
+pub(crate) fn each_row(alloc: Global, rows: &[Value]) -> Result<List<Row>, SnapFault>
     ensures { Gives result (rows_of 1 (items_view rows.now)) }
 {
     let mut found = Vec::new(alloc);

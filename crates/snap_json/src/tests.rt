@@ -1,5 +1,6 @@
-use crate::{SnapFault, read_kept, read_raw, read_snapshot, write_snapshot};
-use snap_tree::Tree;
+use crate::{SnapFault, raw_of, read_kept, read_raw, read_snapshot, rows_of, write_snapshot};
+use serde_json::Value;
+use snap_tree::{Raw, Tree};
 use std::alloc::Global;
 use std::test::Fail;
 
@@ -9,6 +10,20 @@ fn said(alloc: Global, fault: Option<SnapFault>) -> Result<String, Fail> {
         None => Ok(String::from_str(alloc, "ok")?),
         Some(fault) => Ok(format!(in alloc; "{fault}")?),
     }
+}
+
+/// What is said of the JSON value that a text is, as a whole snapshot.
+fn said_of_value(alloc: Global, text: &str) -> Result<String, Fail> {
+    match Value::from_str(alloc, text) {
+        Ok(value) => said(alloc, raw_of(alloc, &value).err()),
+        Err(_) => said(alloc, Some(SnapFault::NotJson)),
+    }
+}
+
+/// What is said of the JSON value that a text is, as a list of rows.
+fn said_of_rows(alloc: Global, text: &str) -> Result<String, Fail> {
+    let value = Value::from_str(alloc, text)?;
+    said(alloc, rows_of(alloc, &value).err())
 }
 
 /// What is said of each text as a whole snapshot.
@@ -80,10 +95,15 @@ fn pages(rt: HostRuntime) -> Result<(), Fail> {
         if let Some((want, text)) = line.split_once("|") {
             let told = said(rt.alloc(), read_raw(rt.alloc(), text.as_bytes()).err())?;
             assert_eq!(rt; told.as_str(), want.trim(), "{text}");
+            let of_value = said_of_value(rt.alloc(), text)?;
+            assert_eq!(rt; of_value.as_str(), want.trim(), "{text}");
         }
     }
     Ok(())
 }
+
+// What is no list of rows at all.
+static NO_LISTS: [&str; 4] = ["null", "1", r#""[]""#, r#"{"nodes":[]}"#];
 
 #[test]
 fn rows(rt: HostRuntime) -> Result<(), Fail> {
@@ -92,7 +112,14 @@ fn rows(rt: HostRuntime) -> Result<(), Fail> {
             let text = format!(in rt.alloc(); r#"{{"url":"http://a/","nodes":[{rows}]}}"#)?;
             let told = said(rt.alloc(), read_raw(rt.alloc(), text.as_bytes()).err())?;
             assert_eq!(rt; told.as_str(), want.trim(), "{rows}");
+            let list = format!(in rt.alloc(); "[{rows}]")?;
+            let of_list = said_of_rows(rt.alloc(), list.as_str())?;
+            assert_eq!(rt; of_list.as_str(), want.trim(), "{rows}");
         }
+    }
+    for value in NO_LISTS.as_slice() {
+        let told = said_of_rows(rt.alloc(), value)?;
+        assert_eq!(rt; told.as_str(), "2 Shape place 0 field nodes", "{value}");
     }
     Ok(())
 }
@@ -150,6 +177,8 @@ fn an_address_has_at_most_65536_bytes(rt: HostRuntime) -> Result<(), Fail> {
         let text = format!(in rt.alloc(); r#"{{"url":"http://a/{path}","nodes":[{row}]}}"#)?;
         let sent = said(rt.alloc(), read_raw(rt.alloc(), text.as_bytes()).err())?;
         assert_eq!(rt; sent.as_str(), *want);
+        let of_value = said_of_value(rt.alloc(), text.as_str())?;
+        assert_eq!(rt; of_value.as_str(), *want);
         let kept = said(rt.alloc(), read_kept(rt.alloc(), text.as_bytes()).err())?;
         assert_eq!(rt; kept.as_str(), "ok");
     }
@@ -207,12 +236,30 @@ fn is_rewritten_kept(alloc: Global, text: &str, wanted: &str) -> Result<bool, Fa
     is_written(alloc, &tree, wanted)
 }
 
+/// The same, read from the JSON value that the text is, and its rows by themselves too.
+fn is_rewritten_by_value(alloc: Global, text: &str, wanted: &str) -> Result<bool, Fail> {
+    let value = Value::from_str(alloc, text)?;
+    let page = raw_of(alloc, &value)?;
+    let Some(nodes) = value.get("nodes") else {
+        return Ok(false);
+    };
+    let by_rows = Raw {
+        address: page.address.copy(alloc)?,
+        rows: rows_of(alloc, nodes)?,
+    };
+    Ok(
+        is_written(alloc, &Tree::build(alloc, page)?, wanted)?
+            && is_written(alloc, &Tree::build(alloc, by_rows)?, wanted)?,
+    )
+}
+
 #[test]
 fn written_and_read_back(rt: HostRuntime) -> Result<(), Fail> {
     for (sent, written) in WRITTEN.as_slice() {
         assert!(rt; is_rewritten(rt.alloc(), sent, written)?, "{sent}");
         assert!(rt; is_rewritten(rt.alloc(), written, written)?, "{sent}");
         assert!(rt; is_rewritten_kept(rt.alloc(), written, written)?, "{sent}");
+        assert!(rt; is_rewritten_by_value(rt.alloc(), sent, written)?, "{sent}");
     }
     Ok(())
 }
