@@ -1,0 +1,4 @@
+pub mod Judgements
+pub mod Composites
+pub mod Books
+pub mod Outcomes
