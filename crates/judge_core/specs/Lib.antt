@@ -2,3 +2,4 @@ pub mod Judgements
 pub mod Composites
 pub mod Books
 pub mod Outcomes
+pub mod RowLookups

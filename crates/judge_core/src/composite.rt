@@ -34,3 +34,6 @@ fn some_open(outcomes: &[Auto]) -> bool
         .iter()
         .any(|outcome| matches!(outcome, Auto::CantTell))
 }
+
+#[cfg(test)]
+mod tests;

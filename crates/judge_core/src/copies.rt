@@ -70,3 +70,6 @@ impl Outcomes {
         Ok(Outcomes { rows })
     }
 }
+
+#[cfg(test)]
+mod tests;

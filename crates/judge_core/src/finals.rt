@@ -45,3 +45,5 @@ fn latest_place(rule: RuleNo, n: NodeId, evidence: &Text, js: &[Judgement]) -> O
     latest
 }
 
+#[cfg(test)]
+mod tests;

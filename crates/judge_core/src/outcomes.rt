@@ -1,3 +1,7 @@
+ghost use Rattle.std.specs.Prelude.{◌≡◌};
+ghost use Rattle.std.specs.Option.{option_copied};
+ghost use Rattle.judge_core.specs.RowLookups.{is_row_on, row_at};
+
 use rule_core::{Auto, Reason, RuleNo};
 use snap_tree::{List, NodeId, Text};
 
@@ -21,4 +25,29 @@ pub struct OutRow {
 #[derive(Debug, Drop)]
 pub struct Outcomes {
     pub rows: List<OutRow>,
+}
+
+impl OutRow {
+    /// Whether it is the row of this rule on this node.
+    pub fn is_on(&self, rule: RuleNo, node: NodeId) -> bool
+        ensures { result ≡ is_row_on rule node self.now }
+    {
+        self.rule == rule && self.node == node
+    }
+}
+
+impl Outcomes {
+    /// The row of a rule on a node, of which there is one at the most in the outcomes of a page; None
+    /// where there is none.
+    pub fn row(&self, rule: RuleNo, node: NodeId) -> Option<&OutRow>
+        ensures { option_copied result ≡ row_at rule node self.now.rows }
+    {
+        row_among(self.rows.as_slice(), rule, node)
+    }
+}
+
+fn row_among(rows: &[OutRow], rule: RuleNo, node: NodeId) -> Option<&OutRow>
+    ensures { option_copied result ≡ row_at rule node rows.now }
+{
+    rows.iter().find(|row| row.is_on(rule, node))
 }

@@ -12,7 +12,7 @@ loop-place-preserved c =
     let js = c.args.js.now in
     let at = c.loop-place in
     let tested = c.is_of.ensures ∙ ap p c.index-js-place.is in elim c.if-is_of.branch [
-      then-is_of w ↦ last_place_step p js at.place c.index-js-place.result _ _ true (omega arith) at.invariant (sym w.if-is_of.true ∙ tested) w.latest-is
+      | then-is_of w ↦ last_place_step p js at.place c.index-js-place.result _ _ true (omega arith) at.invariant (sym w.if-is_of.true ∙ tested) w.latest-is
       | else-is_of w ↦ last_place_step p js at.place c.index-js-place.result _ _ false (omega arith) at.invariant (sym w.if-is_of.false ∙ tested) w.latest-is
     ]
 
