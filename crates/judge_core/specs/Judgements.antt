@@ -8,6 +8,7 @@ use Rattle.rule_core.specs.declared.info.RuleNo.{RuleNo}
 use Rattle.rule_core.specs.declared.verdict.Auto.{Auto}
 use Rattle.rule_core.specs.declared.verdict.Auto.TheVariants.{Passed, Failed, CantTell}
 use Rattle.judge_core.specs.declared.judgement.Judgement.{Judgement}
+use Rattle.judge_core.specs.declared.outcomes.Final.{Final}
 
 -- the judgement is of this rule on this node
 abbrev pub is_on : RuleNo → NodeId → Judgement → Bool
@@ -27,12 +28,7 @@ counting Passed rule node evidence js = None
 counting Failed rule node evidence js = None
 counting CantTell rule node evidence js = latest rule node evidence js
 
--- a final outcome, and who judged: nobody where no judgement counts
-pub record Final : Type 0 where
-  pub last : Auto
-  pub hand : List ℕ
-
--- an outcome where a judgement counts for it, and where none does
+-- the final outcome where no judgement counts for an outcome, and where this one does
 abbrev pub judged : Auto → Option Judgement → Final
 judged auto None = record { last = auto; hand = [] }
 judged auto (Some j) = record { last = j.verdict; hand = j.hand }

@@ -18,4 +18,4 @@ pub use finals::final_outcome;
 pub use infos::infos_of;
 pub use judgement::Judgement;
 pub use laws::{laws_of_judgements, laws_of_merging};
-pub use outcomes::{OutRow, Outcomes};
+pub use outcomes::{Final, OutRow, Outcomes};

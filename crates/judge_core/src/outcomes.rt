@@ -20,6 +20,13 @@ pub struct OutRow {
     pub hand: Text,
 }
 
+/// A final outcome, and who judged: nobody, an empty text, where no judgement counts.
+#[derive(Debug, Drop)]
+pub struct Final {
+    pub last: Auto,
+    pub hand: Text,
+}
+
 /// The outcomes of a page: the rows of each rule of a book in the order of their numbers, and of each
 /// rule in document order. A rule without a row is inapplicable.
 #[derive(Debug, Drop)]

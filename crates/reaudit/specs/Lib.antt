@@ -1,0 +1,3 @@
+pub mod ByNode
+pub mod Merging
+pub mod Parts

@@ -1,0 +1,13 @@
+//! The audit of pages by a book of rules (ACT Rules Format 1.1): every rule on every node, judgements
+//! and composite rules included. Start with `audit_page`.
+#![tactic(auto)]
+
+mod atomic;
+mod by_node;
+mod composite;
+mod finals;
+mod page;
+mod parts;
+mod rows;
+
+pub use page::audit_page;
