@@ -1,3 +1,4 @@
 pub mod ByNode
 pub mod Merging
 pub mod Parts
+pub mod Again

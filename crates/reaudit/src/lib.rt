@@ -6,8 +6,10 @@ mod atomic;
 mod by_node;
 mod composite;
 mod finals;
+mod judged;
 mod page;
 mod parts;
 mod rows;
 
+pub use judged::after_judgement;
 pub use page::audit_page;

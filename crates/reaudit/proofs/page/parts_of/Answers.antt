@@ -3,7 +3,7 @@ use Rattle.std.specs.List.{AllByRecursion}
 use Rattle.reaudit.specs.declared.parts.Part.{Part}
 use Rattle.reaudit.specs.Parts.{IsPart}
 use Rattle.reaudit.proofs.PartLaws.{all_more, infos_more}
-use Rattle.reaudit.proofs.Judged.{judged_more, judged_within}
+use Rattle.reaudit.proofs.Judgings.{judged_more, judged_within}
 use Rattle.reaudit.proofs.page.parts_of.Goals as goal
 
 pub returns-in_err-part_of-clause-counted : goal.returns-in_err-part_of-clause-counted
