@@ -2,3 +2,4 @@ pub mod ByNode
 pub mod Merging
 pub mod Parts
 pub mod Again
+pub mod Pages

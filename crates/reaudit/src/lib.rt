@@ -8,8 +8,10 @@ mod composite;
 mod finals;
 mod judged;
 mod page;
+mod pages;
 mod parts;
 mod rows;
 
 pub use judged::after_judgement;
 pub use page::audit_page;
+pub use pages::{PageWork, audit_pages};
