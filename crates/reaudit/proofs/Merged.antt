@@ -111,8 +111,8 @@ slot_more f on slots i d left next filled now within begins so_far goes more =
     let step = leads f on slot.node ns in (
       goes ∙ ap (after slot.node) whole ∙ step.1,
       more ∙ ap (λ l. l ++ record { node = slot.node; found = with_row slot.found (head_on slot.node left) } ∷ []) so_far
-      ∙ ap (λ o. map (filled_by f) (take i slots) ++ record { node = slot.node; found = with_row slot.found o } ∷ []) (ap (head_on slot.node) whole ∙ step.0)
-      ∙ sym (map_more (filled_by f) (take i slots) slot) ∙ ap (map (filled_by f)) (sym (take_more slots i d within)),
+          ∙ ap (λ o. map (filled_by f) (take i slots) ++ record { node = slot.node; found = with_row slot.found o } ∷ []) (ap (head_on slot.node) whole ∙ step.0)
+          ∙ sym (map_more (filled_by f) (take i slots) slot) ∙ ap (map (filled_by f)) (sym (take_more slots i d within)),
     )
 
 -- ---- one input more
@@ -142,8 +142,8 @@ pub slots_more : (f : RuleNo → NodeId → Option OutRow) (inputs : List RuleNo
 slots_more f inputs input nodes =
     map_map (filled_by (f input)) (slot_of f inputs) nodes
     ∙ map_same _ _ nodes (λ n. ap (λ o. record { node = n; found = o }) (
-      sym (merged_more (filter_map (λ i. f i n) inputs) (f input n)) ∙ ap (λ l. merged (filter_map (λ i. f i n) inputs ++ l)) (sym (filter_map_one f input n))
-      ∙ ap merged (sym (filter_map-append (λ i. f i n) inputs (input ∷ [])))
+    sym (merged_more (filter_map (λ i. f i n) inputs) (f input n)) ∙ ap (λ l. merged (filter_map (λ i. f i n) inputs ++ l)) (sym (filter_map_one f input n))
+    ∙ ap merged (sym (filter_map-append (λ i. f i n) inputs (input ∷ [])))
     ))
 
 pub nodes_of_slots : (f : RuleNo → NodeId → Option OutRow) (inputs : List RuleNo) (nodes : List NodeId) → map (λ s. s.node) (map (slot_of f inputs) nodes) ≡ nodes

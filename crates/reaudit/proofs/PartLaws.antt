@@ -76,7 +76,7 @@ found_in book page js input (p ∷ parts) each strange = here (input.0 == p.info
 pub found : (book : Book) (page : Document) (js : List Judgement) (parts : List Part) → SaysByAtomic book → AreParts book page js parts → (input : RuleNo) → rows_found parts input.0 ≡ atomic_rows book page js input
 found book page js parts says are input =
     found_in book page js input parts are.each (λ no.
-      filter_map_none _ (rows_of page.trees) (λ row. ap (option_map (row_of input row.id js)) (says input (ap (λ infos. has_atomic infos input.0) (sym are.whole) ∙ no) page row.id)))
+    filter_map_none _ (rows_of page.trees) (λ row. ap (option_map (row_of input row.id js)) (says input (ap (λ infos. has_atomic infos input.0) (sym are.whole) ∙ no) page row.id)))
 
 pub inputs_found : (book : Book) (page : Document) (js : List Judgement) (parts : List Part) (part : Part) → SaysByAtomic book → AreParts book page js parts → Suffice book page js part →
     AllByRecursion (λ input. rows_found parts input.0 ≡ filter_map (atomic_row book page js input) part.nodes) (inputs_of part.info)

@@ -3,3 +3,4 @@ pub mod Merging
 pub mod Parts
 pub mod Again
 pub mod Pages
+pub mod Samples

@@ -23,10 +23,7 @@ fn put<'a>(by_node: &mut ByNode<'a>, judgement: &'a Judgement) -> Result<(), Out
 }
 
 /// The judgements of a list by the node that they are on.
-pub(crate) fn by_node<'a>(
-    alloc: Global,
-    js: &'a [Judgement],
-) -> Result<ByNode<'a>, OutOfMemory>
+pub(crate) fn by_node<'a>(alloc: Global, js: &'a [Judgement]) -> Result<ByNode<'a>, OutOfMemory>
     ensures { IfOk result (λ by_node. IsByNode js.now by_node) }
 {
     let mut by_node: ByNode<'a> = BTreeMap::new(alloc);

@@ -68,11 +68,7 @@ fn after(rows: &[OutRow], node: NodeId) -> &[OutRow]
 }
 
 // The slots with the rows of one more input, which stand in the order of the slots.
-fn with_input(
-    alloc: Global,
-    slots: &[Slot],
-    rows: &[OutRow],
-) -> Result<Vec<Slot>, OutOfMemory>
+fn with_input(alloc: Global, slots: &[Slot], rows: &[OutRow]) -> Result<Vec<Slot>, OutOfMemory>
     ensures { (f : NodeId → Option OutRow) → AreOn f
         → rows.now ≡ filter_map f (map (λ s. s.node) slots.now)
         → IfOk result (λ filled. filled.items ≡ map (filled_by f) slots.now) }
@@ -170,7 +166,7 @@ pub(crate) fn composite_rows(
     ensures { (f : RuleNo → NodeId → Option OutRow) → ((rule : RuleNo) → AreOn (f rule))
         → AllByRecursion (λ input. rows_found parts.now input.0 ≡ filter_map (f input) nodes.now) (inputs_of info.now)
         → IfOk result (λ rows. rows.items
-            ≡ filter_map (λ n. merged_row info.now.no n (filter_map (λ input. f input n) (inputs_of info.now))) nodes.now) }
+        ≡ filter_map (λ n. merged_row info.now.no n (filter_map (λ input. f input n) (inputs_of info.now))) nodes.now) }
 {
     let slots = all_slots(alloc, info, nodes, parts)?;
     let rows = slot_rows(alloc, info.no, slots.as_slice())?;

@@ -15,3 +15,8 @@ mod rows;
 pub use judged::after_judgement;
 pub use page::audit_page;
 pub use pages::{PageWork, audit_pages};
+
+#[cfg(test)]
+mod samples;
+#[cfg(test)]
+mod tests;

@@ -54,7 +54,14 @@ fn audit_part<R: Threads + Sync, B: RuleBook + Send>(
     let half = books.len() / 2;
     let (first_pages, later_pages) = pages.split_at(share(pages.len(), half, books.len()));
     let (first_books, later_books) = books.split_at_mut(half);
-    let (first, later) = audit_both(rt, alloc, first_pages, first_books, later_pages, later_books);
+    let (first, later) = audit_both(
+        rt,
+        alloc,
+        first_pages,
+        first_books,
+        later_pages,
+        later_books,
+    );
     joined(first, later)
 }
 
@@ -67,7 +74,10 @@ fn audit_both<R: Threads + Sync, B: RuleBook + Send>(
     first_books: &mut [B],
     later_pages: &[PageWork],
     later_books: &mut [B],
-) -> (Result<Vec<Outcomes>, OutOfMemory>, Result<Vec<Outcomes>, OutOfMemory>)
+) -> (
+    Result<Vec<Outcomes>, OutOfMemory>,
+    Result<Vec<Outcomes>, OutOfMemory>,
+)
     requires some_first { 0 < length first_books.old }
     requires some_later { 0 < length later_books.old }
     ensures first { IfOk result.0

@@ -42,11 +42,7 @@ pub(crate) fn rows_found(parts: &[Part], number: u16) -> &[OutRow]
 }
 
 // The rows of a composite rule, by the parts of its inputs; none for an atomic rule.
-fn merged_rows(
-    alloc: Global,
-    part: &Part,
-    parts: &[Part],
-) -> Result<List<OutRow>, OutOfMemory>
+fn merged_rows(alloc: Global, part: &Part, parts: &[Part]) -> Result<List<OutRow>, OutOfMemory>
     ensures { (book : Book) (page : Document) (js : List Judgement) → SaysByAtomic book → AreParts book page js parts.now
         → IsPart book page js part.now → IfOk result
         (λ rows. rows ≡ (if is_atomic part.now.info then [] else composite_rows book page js part.now.info)) }
@@ -62,7 +58,7 @@ fn merged_rows(
 fn all_merged(alloc: Global, parts: &[Part]) -> Result<Vec<List<OutRow>>, OutOfMemory>
     ensures { (book : Book) (page : Document) (js : List Judgement) → SaysByAtomic book → AreParts book page js parts.now → IfOk result
         (λ groups. groups.items
-            ≡ map (λ p. if is_atomic p.info then [] else composite_rows book page js p.info) parts.now) }
+        ≡ map (λ p. if is_atomic p.info then [] else composite_rows book page js p.info) parts.now) }
 {
     let mut groups = Vec::with_capacity(alloc, parts.len())?;
     for part in parts {

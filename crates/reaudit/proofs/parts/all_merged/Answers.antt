@@ -8,4 +8,4 @@ use Rattle.reaudit.proofs.parts.all_merged.Goals as goal
 pub returns : goal.returns
 returns c =
     λ book page js says are.
-      c.loop-part.invariant book page js says are ∙ ap (map (λ (p : Part). cond (is_atomic p.info) [] (composite_rows book page js p.info))) (take_all c.loop-part.part-index c.args.parts.now (omega arith))
+    c.loop-part.invariant book page js says are ∙ ap (map (λ (p : Part). cond (is_atomic p.info) [] (composite_rows book page js p.info))) (take_all c.loop-part.part-index c.args.parts.now (omega arith))
