@@ -1,0 +1,3 @@
+pub mod Seeing
+pub mod Covering
+pub mod Placing
