@@ -1,3 +1,5 @@
 pub mod Seeing
 pub mod Covering
+pub mod Freeing
 pub mod Placing
+pub mod Deciding

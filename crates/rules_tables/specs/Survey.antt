@@ -12,9 +12,9 @@ use Rattle.rules_tables.specs.declared.grid.Area.{Area}
 use Rattle.rules_tables.specs.declared.survey.Question.{Question as LentQuestion}
 use Rattle.rules_tables.specs.declared.survey.Survey.{Survey}
 use Rattle.rules_tables.specs.declared.survey.TheConstants.{MOST_SLOTS}
-use Rattle.rules_tables.specs.Assigned.{is_assigned}
+use Rattle.rules_tables.specs.Assigned.{direction_of, is_assigned}
 use Rattle.rules_tables.specs.Grid.{area_at}
-use Rattle.rules_tables.specs.TableRows.{TableRow, is_row_group, is_table_row, row_count}
+use Rattle.rules_tables.specs.TableRows.{TableRow, is_row_group, is_table_row, row_count, table_rows}
 
 -- ---- columns
 
@@ -59,6 +59,11 @@ pub record Question : Type 0 where
   pub direction : Direction
   pub known : Option Area
   pub most : ℕ
+
+-- what is asked of the cells of a table for a header of it
+abbrev pub question : Above → Row → Option Area → Trees → Question
+question above header known table =
+    record { above = above; header = header; direction = direction_of header; known = known; most = most_columns (all_row_count table) }
 
 abbrev pub seen_question : LentQuestion → Question
 seen_question q = record { above = q.above; header = seen_row q.header.now; direction = q.direction; known = q.known; most = q.most }
@@ -117,3 +122,12 @@ after_row q row end s cells = after_cells q row end (record s { column = 0 }) ce
 abbrev pub after_rows : Question → ℕ → Noted → List TableRow → Noted
 after_rows q n s [] = s
 after_rows q n s (row ∷ rows) = after_rows q (n + 1) (after_row q n row.end s row.cells) rows
+
+-- what a pass over a table notes
+abbrev pub surveyed : Question → Trees → Noted
+surveyed q table = after_rows q 0 nothing_noted (table_rows 0 table)
+
+-- whether a cell is found once the header's place is known
+abbrev pub found_again : Above → Row → Option Area → Trees → Bool
+found_again above header None table = false
+found_again above header (Some place) table = (surveyed (question above header (Some place) table) table).found

@@ -1,10 +1,11 @@
 ghost use Rattle.std.specs.Prelude.{◌≡◌, ◌+◌, ◌≤◌, IfOk, OnOk};
 ghost use Rattle.acc_tree.specs.Seen.{seen_row, seen};
 ghost use Rattle.rules_tables.specs.TableRows.{cells_in, row_count, group_rows, table_rows};
+ghost use Rattle.rules_tables.specs.Survey.{most_columns};
 
-use crate::assigned::{Direction, is_assigned};
+use crate::assigned::{Direction, direction_of, is_assigned};
 use crate::grid::{Area, cover, next_area};
-use crate::table_rows::{is_cell, is_row_group, is_table_row, neighbours, row_count};
+use crate::table_rows::{all_row_count, is_cell, is_row_group, is_table_row, neighbours, row_count};
 use acc_tree::Above;
 use snap_tree::{Branch, Branches, OutOfMemory, Row};
 use std::alloc::Global;
@@ -12,7 +13,15 @@ use std::alloc::Global;
 /// The most slots of a grid that is searched.
 pub(crate) const MOST_SLOTS: usize = 100_000;
 
+// The greatest width of a grid of so many rows that isn't large.
+fn most_columns(rows: usize) -> usize
+    ensures { result ≡ most_columns rows }
+{
+    MOST_SLOTS / rows.max(1)
+}
+
 /// What is asked of the cells of a table.
+#[derive(Drop)]
 pub(crate) struct Question<'a> {
     /// What is above the header.
     pub(crate) above: Above,
@@ -22,6 +31,23 @@ pub(crate) struct Question<'a> {
     pub(crate) known: Option<Area>,
     /// The greatest width of a grid that isn't large.
     pub(crate) most: usize,
+}
+
+impl<'a> Question<'a> {
+    ghost use Rattle.rules_tables.specs.Survey.{question, seen_question};
+
+    /// What is asked of the cells of a table for a header of it, whose place may be known.
+    pub(crate) fn new(above: &Above, header: &'a Row, known: Option<Area>, table: &Branches<'_>) -> Self
+        ensures { seen_question result ≡ question above.now (seen_row header.now) known (seen table.now) }
+    {
+        Question {
+            above: *above,
+            header,
+            direction: direction_of(header),
+            known,
+            most: most_columns(all_row_count(table)),
+        }
+    }
 }
 
 /// What a pass over the cells of a table has noted.
@@ -41,7 +67,7 @@ pub(crate) struct Survey {
 }
 
 impl Survey {
-    ghost use Rattle.rules_tables.specs.Survey.{seen_question, noted, nothing_noted, placed_at, fitted, after_cell, after_cells, after_row, after_rows};
+    ghost use Rattle.rules_tables.specs.Survey.{seen_question, noted, nothing_noted, placed_at, fitted, after_cell, after_cells, after_row, after_rows, surveyed};
 
     /// Nothing is noted yet.
     fn new(alloc: Global) -> Self
@@ -158,7 +184,7 @@ impl Survey {
 
     /// Goes over the cells of a table, given what is below it, and places each.
     pub(crate) fn of(alloc: Global, question: &Question<'_>, table: &Branches<'_>) -> Result<Self, OutOfMemory>
-        ensures { IfOk result (λ s. noted s ≡ after_rows (seen_question question.now) 0 nothing_noted (table_rows 0 (seen table.now))) }
+        ensures { IfOk result (λ s. noted s ≡ surveyed (seen_question question.now) (seen table.now)) }
     {
         let mut survey = Survey::new(alloc);
         survey.see_table(question, table)?;
