@@ -1,5 +1,5 @@
 -- Whether `headers` refers to cells of the same table.
-use Rattle.std.specs.Prelude.{◌&&◌, not, ℕ, List, [], ◌∷◌, ◌++◌, codes, Bool, if◌then◌else◌, Option, Some, None}
+use Rattle.std.specs.Prelude.{◌&&◌, not, ℕ, List, [], ◌∷◌, ◌++◌, codes, Bool, if◌then◌else◌, Option, Some, None, IfSome, IsTrue}
 use Rattle.std.specs.List.{list_all, list_any}
 use Rattle.snap_tree.specs.declared.row.NodeId.{NodeId}
 use Rattle.snap_tree.specs.declared.row.Row.{Row}
@@ -19,7 +19,7 @@ use Rattle.rule_core.specs.declared.verdict.Verdict.{Verdict}
 use Rattle.rule_core.specs.Infos.{atomic}
 use Rattle.rule_core.specs.Findings.{met, failed, verdict_of}
 use Rattle.rules_tables.specs.TableRows.{is_cell}
-use Rattle.rules_tables.specs.Tables.{in_table, said_in_table}
+use Rattle.rules_tables.specs.Tables.{in_table, below, said_in_table}
 
 -- each `td` and `th` among these trees that stands in no table among them
 abbrev pub own_cells : Trees → List Row
@@ -27,13 +27,17 @@ own_cells empty = []
 own_cells (tree row kids after) =
     ((if is_cell row then row ∷ [] else []) ++ (if is_html (codes "table") row then [] else own_cells kids)) ++ own_cells after
 
--- it has this id, and isn't the node itself
+-- it isn't the node itself, and has this id
 abbrev pub is_other_named : NodeId → List ℕ → Row → Bool
-is_other_named n id row = is_key id (id_of row) && not (has_number n row)
+is_other_named n id row = not (has_number n row) && is_key id (id_of row)
 
 -- the word is the id of another cell of the table
 abbrev pub refers_inside : Trees → NodeId → List ℕ → Bool
 refers_inside table n word = list_any (is_other_named n word) (own_cells table)
+
+-- the same of the table of a number
+abbrev pub IsCellOf : Trees → NodeId → NodeId → List ℕ → Type 0
+IsCellOf trees table n word = IfSome (below trees table) (λ t. IsTrue (refers_inside t n word))
 
 abbrev pub refer_inside : Trees → NodeId → List (List ℕ) → Bool
 refer_inside table n words = list_all (refers_inside table n) words
