@@ -6,3 +6,6 @@ pub mod Deciding
 pub mod Tagging
 pub mod Nearest
 pub mod Referring
+pub mod Lawful
+pub mod RoleOfCell
+pub mod Judged

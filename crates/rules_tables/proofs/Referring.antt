@@ -131,7 +131,7 @@ found_after above row kids after s apart h =
     ap (λ b. cond b (Some (record { row = row; below = kids; above = above })) (option_or (sight_in s.row.id (under above row) kids) (sight_in s.row.id above after))) other
     ∙ ap (λ o. option_or o (sight_in s.row.id above after)) none ∙ h
 
-abbrev Stands : Above → Trees → Sight → Type 0
+abbrev pub Stands : Above → Trees → Sight → Type 0
 Stands above t s = StandsFree above t s ⊎ StandsIn above t s
 
 stands_root : (above : Above) (row : Row) (kids after : Trees) (s : Sight) → record { row = row; below = kids; above = above } ≡ s → is_cell s.row ≡ true → Stands above (tree row kids after) s
@@ -158,7 +158,7 @@ stands_after above row kids after s apart (inl free) = inl (record { same_table 
 stands_after above row kids after s apart (inr in_one) =
     inr (record { table = in_one.table; number_is = in_one.number_is; found = found_after above row kids after in_one.table apart in_one.found; has = in_one.has })
 
-stands : (m : NodeId) (above : Above) (t : Trees) → AreApart (rows_of t) → (s : Sight) → sight_in m above t ≡ Some s → is_cell s.row ≡ true → Stands above t s
+pub stands : (m : NodeId) (above : Above) (t : Trees) → AreApart (rows_of t) → (s : Sight) → sight_in m above t ≡ Some s → is_cell s.row ≡ true → Stands above t s
 stands m above empty apart s h c = cc
 stands m above (tree row kids after) apart s h c =
     let parts = apart_append (rows_of kids) (rows_of after) apart.1 in
@@ -183,7 +183,7 @@ apart_mapped : (rows : List Row) → AreApart rows → AreApart (map seen_row ro
 apart_mapped [] h = tt
 apart_mapped (row ∷ rows) h = (any_seen row.id rows ∙ h.0, apart_mapped rows h.1)
 
-apart_seen : (t : Trees) → AreApart (rows_of t) → AreApart (rows_of (seen t))
+pub apart_seen : (t : Trees) → AreApart (rows_of t) → AreApart (rows_of (seen t))
 apart_seen t h = subst AreApart (sym (rows_seen t)) (apart_mapped (rows_of t) h)
 
 -- ---- a cell that is found by its id

@@ -40,7 +40,7 @@ same_swapped : (a b : List ℕ) → same_folded a b ≡ true → same_folded b a
 same_swapped a b h = (bytes_eq-Decides (folded b) (folded a)).1 (sym ((bytes_eq-Decides (folded a) (folded b)).0 h))
 
 -- a text that is equal but for case has the same known tag
-same_known : (a b : List ℕ) → same_folded a b ≡ true → known_tag a ≡ known_tag b
+pub same_known : (a b : List ℕ) → same_folded a b ≡ true → known_tag a ≡ known_tag b
 same_known a b h = ap (λ w. find (λ t. bytes_eq w (folded (tag_word t))) all_tags) ((bytes_eq-Decides (folded a) (folded b)).0 h)
 
 table_known : is_table (known_tag (codes "table")) ≡ true
@@ -57,7 +57,7 @@ known_table text =
     (λ h. sym (ap is_table (same_known (codes "table") text h)) ∙ table_known)
 
 -- the known tag of an HTML element, by its body
-abbrev tag_of : Body → Option Tag
+abbrev pub tag_of : Body → Option Tag
 tag_of b = in_html (space_in b) (option_and_then known_tag (tag_in b))
 
 table_body : (b : Body) → is_table (tag_of b) ≡ is_html_body (codes "table") b

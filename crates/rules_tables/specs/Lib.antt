@@ -6,3 +6,6 @@ pub mod Tables
 pub mod Survey
 pub mod HeaderHasCells
 pub mod HeadersReferToCells
+pub mod GridLaws
+pub mod RoleLaws
+pub mod TargetLaws

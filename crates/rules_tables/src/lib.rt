@@ -7,6 +7,7 @@ mod assigned;
 mod grid;
 mod header_has_cells;
 mod headers_refer_to_cells;
+mod laws;
 mod spans;
 mod survey;
 mod table_rows;
@@ -14,3 +15,4 @@ mod tables;
 
 pub use header_has_cells::HeaderHasCells;
 pub use headers_refer_to_cells::HeadersReferToCells;
+pub use laws::{laws_of_grids, laws_of_roles, laws_of_targets};
