@@ -12,6 +12,7 @@ use Rattle.rules_tables.specs.Grid.{Placed, covers, is_covered, width, free_amon
 use Rattle.rules_tables.specs.GridLaws.{IsFirstFree, BeginApart, AllBeginApart, LiesWithin, IsWidth}
 use Rattle.rules_tables.specs.Spans.{columns, rows_within, column_span, row_span, span}
 use Rattle.rules_tables.specs.TableRows.{TableRow, is_row_group, is_table_row, cells_in, row_count, neighbours, group_rows, table_rows}
+use Rattle.rules_tables.proofs.Counting.{group_length}
 use Rattle.rules_tables.proofs.Freeing.{covered_within}
 
 -- ---- the first free column
@@ -83,14 +84,6 @@ group_ends n end (tree row kids after) h = by_row (is_table_row row) h (group_en
     by_row true h first later = (omega arith, first (omega arith))
     by_row false h first later = later h
 
-group_size : (end : ℕ) (t : Trees) → length (group_rows end t) ≡ row_count t
-group_size end empty = refl
-group_size end (tree row kids after) = by_row (is_table_row row) (group_size end after)
-  where
-    by_row : (b : Bool) → length (group_rows end after) ≡ row_count after → length (cond b (record { cells = cells_in kids; end = end } ∷ group_rows end after) (group_rows end after)) ≡ cond b (suc (row_count after)) (row_count after)
-    by_row true h = ap suc h
-    by_row false h = h
-
 table_ends : (n : ℕ) (t : Trees) → Ends n (table_rows n t)
 table_ends n empty = tt
 table_ends n (tree row kids after) = by_row (is_row_group row) (is_table_row row) (λ m. table_ends m after)
@@ -100,7 +93,7 @@ table_ends n (tree row kids after) = by_row (is_row_group row) (is_table_row row
 
     by_row : (a b : Bool) → ((m : ℕ) → Ends m (table_rows m after)) → Ends n (cond a (group_rows (n + row_count kids) kids ++ table_rows (n + row_count kids) after) (cond b (first ∷ table_rows (n + 1) after) (table_rows n after)))
     by_row true b later =
-        let size = group_size (n + row_count kids) kids in
+        let size = group_length (n + row_count kids) kids in
         ends_both n (group_rows (n + row_count kids) kids) (table_rows (n + row_count kids) after) (group_ends n (n + row_count kids) kids (omega arith))
         (subst (λ m. Ends m (table_rows (n + row_count kids) after)) (ap (λ k. n + k) (sym size)) (later (n + row_count kids)))
     by_row false true later = (omega arith, later (n + 1))

@@ -109,3 +109,6 @@ impl Rule for HeaderHasCells {
         }
     }
 }
+
+#[cfg(test)]
+mod tests;

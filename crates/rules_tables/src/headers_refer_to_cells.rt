@@ -150,3 +150,6 @@ impl Rule for HeadersReferToCells {
         }
     }
 }
+
+#[cfg(test)]
+mod tests;

@@ -191,3 +191,6 @@ impl Survey {
         Ok(survey)
     }
 }
+
+#[cfg(test)]
+mod tests;
