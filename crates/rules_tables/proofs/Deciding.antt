@@ -25,7 +25,6 @@ use Rattle.rules_tables.proofs.Placing.{saturated, found_among, Tells, survey_to
 
 -- ---- the limit
 
-
 wide_times : (w n : ℕ) → 0 < n → ltb (100000 / n) w ≡ ltb 100000 (w * n)
 wide_times w n h =
     ⊎_elim (λ (less : 100000 < w * n). lt-ltb (100000 / n) w ((div-lt_iff_lt-mul h).1 less) ∙ sym (lt-ltb 100000 (w * n) less))

@@ -70,17 +70,17 @@ fits q s placed p t e ordered begins true past = record {
 fits q s placed p t e ordered begins false short =
     let was = t.told e in
     record {
-  tells = record {
-    cells_are = one_more s.cells (length placed) t.cells_are;
-    wide_is = t.wide_is ∙ sym (ap (λ b. b || ltb q.most (width placed)) short) ∙ sym (ltb-max q.most p.area.right (width placed));
-    told = λ narrow. record {
-      columns_are = ap (λ cs. raised_all cs p.area.left (p.area.right - p.area.left) p.area.bottom) was.columns_are ∙ columns_more p placed ordered begins;
-      place_is = ap (λ o. option_or o (cond (has_number q.header.id p.cell) (Some p.area) None)) was.place_is;
-      found_is = ap (λ b. b || is_assigned q.above q.header q.direction (option_or q.known s.place) p) was.found_is ∙ ap (λ o. found_among q placed || is_assigned q.above q.header q.direction (option_or q.known o) p) was.place_is;
-    };
-  };
-  column_is = λ narrow. refl;
-}
+      tells = record {
+        cells_are = one_more s.cells (length placed) t.cells_are;
+        wide_is = t.wide_is ∙ sym (ap (λ b. b || ltb q.most (width placed)) short) ∙ sym (ltb-max q.most p.area.right (width placed));
+        told = λ narrow. record {
+          columns_are = ap (λ cs. raised_all cs p.area.left (p.area.right - p.area.left) p.area.bottom) was.columns_are ∙ columns_more p placed ordered begins;
+          place_is = ap (λ o. option_or o (cond (has_number q.header.id p.cell) (Some p.area) None)) was.place_is;
+          found_is = ap (λ b. b || is_assigned q.above q.header q.direction (option_or q.known s.place) p) was.found_is ∙ ap (λ o. found_among q placed || is_assigned q.above q.header q.direction (option_or q.known o) p) was.place_is;
+        };
+      };
+      column_is = λ narrow. refl;
+    }
 
 pub cell_told : (q : Question) (s : Noted) (placed : List Placed) (row end column : ℕ) (cell : Row) → Stands q s placed column → NoneBelow row placed → column ≤ width placed
     → Stands q (after_cell q row end s cell) (next_placed placed row end column cell ∷ placed) (next_placed placed row end column cell).area.right

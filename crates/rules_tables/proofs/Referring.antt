@@ -145,11 +145,11 @@ stands_below above row kids after s apart b e (inr in_one) =
     inr (record { table = in_one.table; number_is = in_one.number_is; found = found_below above row kids after in_one.table apart in_one.found; has = in_one.has })
 stands_below above row kids after s apart true e (inl free) =
     inr (record {
-  table = record { row = row; below = kids; above = above };
-  number_is = ap (λ (o : Option TableAbove). option_map (λ (t : TableAbove). t.node) o) (free.same_table ∙ under_is above row true e);
-  found = ap (λ b. cond b (Some (record { row = row; below = kids; above = above })) (option_or (sight_in row.id (under above row) kids) (sight_in row.id above after))) (same_id row);
-  has = free.has;
-})
+      table = record { row = row; below = kids; above = above };
+      number_is = ap (λ (o : Option TableAbove). option_map (λ (t : TableAbove). t.node) o) (free.same_table ∙ under_is above row true e);
+      found = ap (λ b. cond b (Some (record { row = row; below = kids; above = above })) (option_or (sight_in row.id (under above row) kids) (sight_in row.id above after))) (same_id row);
+      has = free.has;
+    })
 stands_below above row kids after s apart false e (inl free) =
     inl (record { same_table = free.same_table ∙ under_is above row false e; has = has_below row s.row kids after e free.has })
 

@@ -58,9 +58,7 @@ pub fn row(
 
 fn row_of(alloc: Global, id: u32, node: Node) -> Result<Row, Fail> {
     match node {
-        Node::Html(parent, tag, attrs) => {
-            row(alloc, id, parent, Space::Html, tag, attrs, true)
-        }
+        Node::Html(parent, tag, attrs) => { row(alloc, id, parent, Space::Html, tag, attrs, true) }
         Node::Unseen(parent, tag, attrs) => {
             row(alloc, id, parent, Space::Html, tag, attrs, false)
         }

@@ -55,13 +55,39 @@ static SPANS: [(&[Part], &[Place]); 14] = [
     ),
     // Blank, a unit, white space before and after the digits.
     (
-        &[Line, Cell(" ", ""), Cell("2px", ""), Cell(" 3", ""), Cell("3 ", ""), ONE],
-        &[(0, 1, 0, 1), (0, 1, 1, 2), (0, 1, 2, 5), (0, 1, 5, 6), (0, 1, 6, 7)],
+        &[
+            Line,
+            Cell(" ", ""),
+            Cell("2px", ""),
+            Cell(" 3", ""),
+            Cell("3 ", ""),
+            ONE,
+        ],
+        &[
+            (0, 1, 0, 1),
+            (0, 1, 1, 2),
+            (0, 1, 2, 5),
+            (0, 1, 5, 6),
+            (0, 1, 6, 7),
+        ],
     ),
     // Signs, a zero in front, white space of Unicode, digits that aren't ASCII.
     (
-        &[Line, Cell("+2", ""), Cell("-2", ""), Cell("02", ""), Cell("\u{a0}\t2", ""), Cell("\u{663}", "")],
-        &[(0, 1, 0, 1), (0, 1, 1, 2), (0, 1, 2, 4), (0, 1, 4, 6), (0, 1, 6, 7)],
+        &[
+            Line,
+            Cell("+2", ""),
+            Cell("-2", ""),
+            Cell("02", ""),
+            Cell("\u{a0}\t2", ""),
+            Cell("\u{663}", ""),
+        ],
+        &[
+            (0, 1, 0, 1),
+            (0, 1, 1, 2),
+            (0, 1, 2, 4),
+            (0, 1, 4, 6),
+            (0, 1, 6, 7),
+        ],
     ),
     (
         &[Line, Cell("", "2"), ONE, Line, ONE],
@@ -76,7 +102,14 @@ static SPANS: [(&[Part], &[Place]); 14] = [
         &[(0, 3, 0, 1), (0, 1, 1, 2), (1, 2, 1, 2)],
     ),
     (
-        &[Line, Cell("", " "), Cell("", "2px"), Cell("", " 2"), Line, ONE],
+        &[
+            Line,
+            Cell("", " "),
+            Cell("", "2px"),
+            Cell("", " 2"),
+            Line,
+            ONE,
+        ],
         &[(0, 1, 0, 1), (0, 1, 1, 2), (0, 2, 2, 3), (1, 2, 0, 1)],
     ),
     (&[Line, Cell("", "5")], &[(0, 1, 0, 1)]),
@@ -95,7 +128,13 @@ static PLACES: [(&[Part], &[Place]); 12] = [
     // The second cell passes over one.
     (
         &[Line, ONE, Cell("", "2"), ONE, Line, ONE, ONE],
-        &[(0, 1, 0, 1), (0, 2, 1, 2), (0, 1, 2, 3), (1, 2, 0, 1), (1, 2, 2, 3)],
+        &[
+            (0, 1, 0, 1),
+            (0, 2, 1, 2),
+            (0, 1, 2, 3),
+            (1, 2, 0, 1),
+            (1, 2, 2, 3),
+        ],
     ),
     // A cell begins in a free column and overlaps the next.
     (
@@ -112,12 +151,34 @@ static PLACES: [(&[Part], &[Place]); 12] = [
         &[(0, 1, 0, 1), (0, 2, 1, 2), (1, 3, 0, 2), (2, 3, 2, 3)],
     ),
     (
-        &[Line, ONE, Cell("", "3"), Line, Cell("2", ""), Line, ONE, ONE],
-        &[(0, 1, 0, 1), (0, 3, 1, 2), (1, 2, 0, 2), (2, 3, 0, 1), (2, 3, 2, 3)],
+        &[
+            Line,
+            ONE,
+            Cell("", "3"),
+            Line,
+            Cell("2", ""),
+            Line,
+            ONE,
+            ONE,
+        ],
+        &[
+            (0, 1, 0, 1),
+            (0, 3, 1, 2),
+            (1, 2, 0, 2),
+            (2, 3, 0, 1),
+            (2, 3, 2, 3),
+        ],
     ),
     (
         &[Line, Cell("2", "2"), ONE, Line, ONE, Line, ONE, ONE, ONE],
-        &[(0, 2, 0, 2), (0, 1, 2, 3), (1, 2, 2, 3), (2, 3, 0, 1), (2, 3, 1, 2), (2, 3, 2, 3)],
+        &[
+            (0, 2, 0, 2),
+            (0, 1, 2, 3),
+            (1, 2, 2, 3),
+            (2, 3, 0, 1),
+            (2, 3, 1, 2),
+            (2, 3, 2, 3),
+        ],
     ),
     // Over an empty row.
     (
@@ -131,7 +192,13 @@ static PLACES: [(&[Part], &[Place]); 12] = [
     ),
     (
         &[Line, Head("", ""), ONE, Line, Head("", "2"), ONE, Line, ONE],
-        &[(0, 1, 0, 1), (0, 1, 1, 2), (1, 3, 0, 1), (1, 2, 1, 2), (2, 3, 1, 2)],
+        &[
+            (0, 1, 0, 1),
+            (0, 1, 1, 2),
+            (1, 3, 0, 1),
+            (1, 2, 1, 2),
+            (2, 3, 1, 2),
+        ],
     ),
     (&[Line, Line], &[]),
 ];
@@ -139,20 +206,57 @@ static PLACES: [(&[Part], &[Place]); 12] = [
 static GROUPS: [(&[Part], &[Place]); 15] = [
     // A span ends with its group.
     (
-        &[Group("thead"), Line, Cell("", "3"), Group("tbody"), Line, ONE],
+        &[
+            Group("thead"),
+            Line,
+            Cell("", "3"),
+            Group("tbody"),
+            Line,
+            ONE,
+        ],
         &[(0, 1, 0, 1), (1, 2, 0, 1)],
     ),
     (
-        &[Group("tbody"), Line, ONE, Line, Cell("", "9"), Line, Group("tbody"), Line, ONE],
+        &[
+            Group("tbody"),
+            Line,
+            ONE,
+            Line,
+            Cell("", "9"),
+            Line,
+            Group("tbody"),
+            Line,
+            ONE,
+        ],
         &[(0, 1, 0, 1), (1, 3, 0, 1), (3, 4, 0, 1)],
     ),
     (
-        &[Group("tbody"), Line, Cell("", "0"), Line, ONE, Line, Group("tfoot"), Line, ONE],
+        &[
+            Group("tbody"),
+            Line,
+            Cell("", "0"),
+            Line,
+            ONE,
+            Line,
+            Group("tfoot"),
+            Line,
+            ONE,
+        ],
         &[(0, 3, 0, 1), (1, 2, 1, 2), (3, 4, 0, 1)],
     ),
     // Groups stay in their order.
     (
-        &[Group("tfoot"), Line, Cell("", "0"), Group("thead"), Line, ONE, Group("tbody"), Line, ONE],
+        &[
+            Group("tfoot"),
+            Line,
+            Cell("", "0"),
+            Group("thead"),
+            Line,
+            ONE,
+            Group("tbody"),
+            Line,
+            ONE,
+        ],
         &[(0, 1, 0, 1), (1, 2, 0, 1), (2, 3, 0, 1)],
     ),
     (
@@ -173,7 +277,18 @@ static GROUPS: [(&[Part], &[Place]); 15] = [
         &[(0, 1, 0, 1), (1, 2, 0, 1)],
     ),
     (
-        &[Line, Cell("", "0"), Group("tbody"), Line, ONE, Out, Line, Cell("", "0"), Line, ONE],
+        &[
+            Line,
+            Cell("", "0"),
+            Group("tbody"),
+            Line,
+            ONE,
+            Out,
+            Line,
+            Cell("", "0"),
+            Line,
+            ONE,
+        ],
         &[(0, 1, 0, 1), (1, 2, 0, 1), (2, 4, 0, 1), (3, 4, 1, 2)],
     ),
     (
@@ -181,10 +296,7 @@ static GROUPS: [(&[Part], &[Place]); 15] = [
         &[(0, 1, 0, 1), (1, 2, 0, 1)],
     ),
     // What is no row of the table, and no cell of a row.
-    (
-        &[Line, ONE, Nested, ONE],
-        &[(0, 1, 0, 1), (0, 1, 1, 2)],
-    ),
+    (&[Line, ONE, Nested, ONE], &[(0, 1, 0, 1), (0, 1, 1, 2)]),
     (&[Stray, Group("tbody"), Stray, Line, ONE], &[(0, 1, 0, 1)]),
     (&[Deep, Group("tbody"), Deep, Line, ONE], &[(0, 1, 0, 1)]),
     (&[Drawn, Line, ONE], &[(0, 1, 0, 1)]),
