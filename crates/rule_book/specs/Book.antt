@@ -28,6 +28,8 @@ use Rattle.rules_aria.specs.AriaValue.{aria_value_is_valid, aria_value_is_valid_
 use Rattle.rules_aria.specs.RequiredStates.{has_required_states, has_required_states_info}
 use Rattle.rules_aria.specs.OwnedElements.{owns_required_elements, owns_required_elements_info}
 use Rattle.rules_aria.specs.AriaHidden.{hidden_holds_no_focus, hidden_holds_no_focus_info}
+use Rattle.rules_tables.specs.HeadersReferToCells.{headers_refer_to_cells, headers_refer_to_cells_info}
+use Rattle.rules_tables.specs.HeaderHasCells.{header_has_cells, header_has_cells_info}
 
 -- ACT rule cf77f2, Bypass Blocks of Repeated Content: a composite of the four rules on the ways to bypass
 abbrev pub blocks_can_be_bypassed_info : RuleInfo
@@ -63,6 +65,8 @@ thirty =
     ∷ record { info = has_required_states_info; says = has_required_states }
     ∷ record { info = owns_required_elements_info; says = owns_required_elements }
     ∷ record { info = hidden_holds_no_focus_info; says = hidden_holds_no_focus }
+    ∷ record { info = headers_refer_to_cells_info; says = headers_refer_to_cells }
+    ∷ record { info = header_has_cells_info; says = header_has_cells }
     ∷ record { info = has_heading_info; says = has_heading }
     ∷ record { info = has_landmark_info; says = has_landmark }
     ∷ record { info = has_skip_link_info; says = has_skip_link }

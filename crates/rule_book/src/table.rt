@@ -26,7 +26,7 @@ const BLOCKS_CAN_BE_BYPASSED: RuleInfo = RuleInfo {
     inputs: [26, 27, 28, 29],
 };
 
-static INFOS: [RuleInfo; 28] = [
+static INFOS: [RuleInfo; 30] = [
     atomic!(1, b"2779a5", SelfOnly, Title),
     atomic!(2, b"c4a8a4", Title, Title),
     atomic!(3, b"b5c3f8", SelfOnly, SelfOnly),
@@ -50,6 +50,8 @@ static INFOS: [RuleInfo; 28] = [
     atomic!(21, b"4e8ab6", SelfOnly, SelfOnly),
     atomic!(22, b"bc4a75", SelfOnly, Sub),
     atomic!(23, b"6cfa84", SelfOnly, Sub),
+    atomic!(24, b"a25f45", SelfOnly, Table),
+    atomic!(25, b"d0f69e", SelfOnly, Table),
     atomic!(26, b"047fe0", Whole, Whole),
     atomic!(27, b"b40fd1", Whole, Whole),
     atomic!(28, b"ye5d6e", Whole, Whole),
