@@ -1,0 +1,5 @@
+pub mod Merged
+pub mod Latest
+pub mod PartLaws
+pub mod Judgings
+pub mod AgainLaws

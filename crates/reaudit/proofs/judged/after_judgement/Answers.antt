@@ -1,0 +1,17 @@
+use Rattle.std.proofs.Common.{◌≡◌, true, ◌∙◌, sym, ap}
+use Rattle.rule_core.specs.Infos.{rise}
+use Rattle.judge_core.specs.Books.{Book}
+use Rattle.reaudit.proofs.AgainLaws.{orderly_rise}
+use Rattle.reaudit.proofs.judged.after_judgement.Goals as goal
+
+pub returns : goal.returns
+returns g c =
+    λ page before from.
+    let book : Book = record { infos = g.B.RuleBook.infos; means = g.B.RuleBook.means } in
+    let same = c.as_slice.ensures.value ∙ c.in_ok-infos.ensures in
+    let rising = ap rise same ∙ orderly_rise g.B.RuleBook.infos g.met.B.RuleBook.orderly in
+    c.from_vec.ensures
+    ∙ c.in_ok-rows.ensures book page c.args.js.now g.met.B.RuleBook.strange (record {
+      whole = c.in_ok-parts.ensures.infos ∙ same;
+      each = c.in_ok-parts.ensures.parts book page before c.args.js.now rising same (c.as_slice-2.ensures ∙ from) c.in_ok-by_node.ensures;
+    })

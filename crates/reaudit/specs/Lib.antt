@@ -1,0 +1,6 @@
+pub mod ByNode
+pub mod Merging
+pub mod Parts
+pub mod Again
+pub mod Pages
+pub mod Samples
