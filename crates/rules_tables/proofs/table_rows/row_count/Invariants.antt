@@ -1,0 +1,12 @@
+use Rattle.std.proofs.Common.{◌≡◌, ◌+◌, ◌≤◌}
+use Rattle.snap_tree.specs.Trees.{count}
+use Rattle.acc_tree.specs.Seen.{seen}
+use Rattle.rules_tables.specs.TableRows.{row_count}
+use Rattle.rules_tables.proofs.Seeing.{lent}
+use Rattle.rules_tables.proofs.table_rows.row_count.Given as goal
+
+abbrev pub invariant-loop-next : goal.invariant-loop-next
+invariant-loop-next l = (l.rows + row_count (seen (lent l.next)) ≡ row_count (seen l.group)) × (l.rows + count (lent l.next) ≤ count l.group)
+
+abbrev pub decreases-loop-next : goal.decreases-loop-next
+decreases-loop-next l = count (lent l.next)

@@ -1,0 +1,133 @@
+-- What a pass over the cells of a table keeps: for each column the row from which on it is free, and what
+-- was asked of the cells.
+use Rattle.std.specs.Prelude.{◌||◌, ◌+◌, ◌-◌, ◌/◌, ◌^◌, nat_lt, ℕ, zero, suc, min, max, List, [], ◌∷◌, ◌++◌, length, drop, slice_index, slice_set, Bool, true, false, if◌then◌else◌, Option, Some, None}
+use Rattle.std.specs.Option.{option_or}
+use Rattle.snap_tree.specs.declared.row.Row.{Row}
+use Rattle.snap_tree.specs.Rows.{has_number}
+use Rattle.snap_tree.specs.Trees.{Trees, empty, tree}
+use Rattle.acc_tree.specs.declared.above.Above.{Above}
+use Rattle.acc_tree.specs.Seen.{seen_row}
+use Rattle.rules_tables.specs.declared.assigned.Direction.{Direction}
+use Rattle.rules_tables.specs.declared.grid.Area.{Area}
+use Rattle.rules_tables.specs.declared.survey.Question.{Question as LentQuestion}
+use Rattle.rules_tables.specs.declared.survey.Survey.{Survey}
+use Rattle.rules_tables.specs.declared.survey.TheConstants.{MOST_SLOTS}
+use Rattle.rules_tables.specs.Assigned.{direction_of, is_assigned}
+use Rattle.rules_tables.specs.Grid.{area_at}
+use Rattle.rules_tables.specs.TableRows.{TableRow, is_row_group, is_table_row, row_count, table_rows}
+
+-- ---- columns
+
+-- the first free column, of these from that number on
+abbrev pub free_from : List ℕ → ℕ → ℕ → ℕ
+free_from [] row column = column
+free_from (free ∷ columns) row column = if nat_lt row free then free_from columns row (column + 1) else column
+
+-- a column isn't free above this row; it may be the first that is new
+abbrev pub raised : List ℕ → ℕ → ℕ → List ℕ
+raised columns column bottom =
+    if nat_lt column (length columns) then slice_set columns column (max (slice_index columns column) bottom) else columns ++ bottom ∷ []
+
+-- the same of so many columns
+abbrev pub raised_all : List ℕ → ℕ → ℕ → ℕ → List ℕ
+raised_all columns left zero bottom = columns
+raised_all columns left (suc n) bottom = raised_all (raised columns left bottom) (left + 1) n bottom
+
+-- where the next cell of a row comes
+abbrev pub next_area : List ℕ → ℕ → ℕ → ℕ → Row → Area
+next_area columns row end from cell = area_at row end (free_from (drop from columns) row from) cell
+
+-- ---- the limit
+
+-- how many rows are among the children of a table and of its row groups
+abbrev pub all_row_count : Trees → ℕ
+all_row_count empty = 0
+all_row_count (tree row kids after) =
+    if is_row_group row then row_count kids + all_row_count after
+    else (if is_table_row row then suc (all_row_count after) else all_row_count after)
+
+-- the greatest width of a grid of so many rows that isn't large
+abbrev pub most_columns : ℕ → ℕ
+most_columns rows = MOST_SLOTS / max rows 1
+
+-- ---- cells
+
+-- the header that is asked for, its place where that is known, and the greatest width of a grid that isn't large
+pub record Question : Type 0 where
+  pub above : Above
+  pub header : Row
+  pub direction : Direction
+  pub known : Option Area
+  pub most : ℕ
+
+-- what is asked of the cells of a table for a header of it
+abbrev pub question : Above → Row → Option Area → Trees → Question
+question above header known table =
+    record { above = above; header = header; direction = direction_of header; known = known; most = most_columns (all_row_count table) }
+
+abbrev pub seen_question : LentQuestion → Question
+seen_question q = record { above = q.above; header = seen_row q.header.now; direction = q.direction; known = q.known; most = q.most }
+
+-- what has been noted
+pub record Noted : Type 0 where
+  pub columns : List ℕ
+  pub column : ℕ
+  pub cells : ℕ
+  pub place : Option Area
+  pub wide : Bool
+  pub found : Bool
+
+abbrev pub noted : Survey → Noted
+noted s = record { columns = s.columns.items; column = s.column; cells = s.cells; place = s.place; wide = s.wide; found = s.found }
+
+abbrev pub nothing_noted : Noted
+nothing_noted = record { columns = []; column = 0; cells = 0; place = None; wide = false; found = false }
+
+-- a count that stands still at the end of its type
+abbrev pub counted : ℕ → ℕ
+counted n = min (n + 1) (2 ^ 64 - 1)
+
+-- a cell at its place
+abbrev pub placed_at : Question → Noted → Row → Area → Noted
+placed_at q s cell a = record s {
+  columns = raised_all s.columns a.left (a.right - a.left) a.bottom;
+  column = a.right;
+  place = option_or s.place (if has_number q.header.id cell then Some a else None);
+  found = s.found || is_assigned q.above q.header q.direction (option_or q.known s.place) (record { cell = cell; area = a });
+}
+
+-- an area, unless it reaches past the limit
+abbrev pub within : ℕ → Area → Option Area
+within most a = if nat_lt most a.right then None else Some a
+
+-- a cell that reaches past the limit isn't placed, and from it on cells are only counted
+abbrev pub fitted : Question → Noted → Row → Option Area → Noted
+fitted q s cell None = record s { wide = true }
+fitted q s cell (Some a) = placed_at q s cell a
+
+abbrev pub after_cell : Question → ℕ → ℕ → Noted → Row → Noted
+after_cell q row end s cell =
+    let more = record s { cells = counted s.cells }
+    in
+    if s.wide then more else fitted q more cell (within q.most (next_area s.columns row end s.column cell))
+
+abbrev pub after_cells : Question → ℕ → ℕ → Noted → List Row → Noted
+after_cells q row end s [] = s
+after_cells q row end s (cell ∷ cells) = after_cells q row end (after_cell q row end s cell) cells
+
+-- a row begins at its first column
+abbrev pub after_row : Question → ℕ → ℕ → Noted → List Row → Noted
+after_row q row end s cells = after_cells q row end (record s { column = 0 }) cells
+
+abbrev pub after_rows : Question → ℕ → Noted → List TableRow → Noted
+after_rows q n s [] = s
+after_rows q n s (row ∷ rows) = after_rows q (n + 1) (after_row q n row.end s row.cells) rows
+
+-- what a pass over a table notes
+abbrev pub surveyed : Question → Trees → Noted
+surveyed q table = after_rows q 0 nothing_noted (table_rows 0 table)
+
+-- whether a cell is found once the header's place is known
+abbrev pub found_again : Above → Row → Option Area → Trees → Bool
+found_again above header None table = false
+found_again above header (Some place) table = (surveyed (question above header (Some place) table) table).found

@@ -1,0 +1,46 @@
+ghost use Rattle.std.specs.Prelude.{ℕ, List};
+ghost use Rattle.std.specs.List.{AllByRecursion};
+ghost use Rattle.snap_tree.specs.declared.row.NodeId.{NodeId};
+ghost use Rattle.snap_tree.specs.declared.row.Row.{Row};
+ghost use Rattle.snap_tree.specs.Trees.{Trees, Document};
+ghost use Rattle.acc_tree.specs.declared.above.Above.{Above};
+ghost use Rattle.rules_tables.specs.Grid.{Placed, first_free, grid};
+ghost use Rattle.rules_tables.specs.GridLaws.{IsFirstFree, AllBeginApart, LiesWithin, IsWidth};
+ghost use Rattle.rules_tables.specs.RoleLaws.{DependsOnTable, KeepsTable};
+ghost use Rattle.rules_tables.specs.TableRows.{table_rows};
+ghost use Rattle.rules_tables.specs.TargetLaws.{JudgesHeaders, JudgesReferences};
+
+/// Laws of grids. It does nothing: the clauses are what it is for.
+///
+/// A cell begins in the first column, not before the end of the cell before it, that no cell covers in its
+/// row. No cell covers the slot in which another one begins. Each cell covers a slot, and lies within its
+/// row group. The width is the greatest covered column plus one.
+#[tactic(auto, using(crate::proofs::Lawful::first_is_free, crate::proofs::Lawful::begin_apart, crate::proofs::Lawful::lie_within, crate::proofs::Lawful::width_is))]
+pub fn laws_of_grids()
+    ensures first { (placed : List Placed) (row from : ℕ)
+        → IsFirstFree placed row from (first_free placed row from) }
+    ensures apart { (table : Trees) → AllBeginApart (grid (table_rows 0 table)) }
+    ensures within { (table : Trees) → AllByRecursion
+        (λ p. LiesWithin (table_rows 0 table) p.area) (grid (table_rows 0 table)) }
+    ensures width { (table : Trees) → IsWidth (grid (table_rows 0 table)) }
+{}
+
+/// Laws of the roles of cells. It does nothing: the clauses are what it is for.
+///
+/// Of what is above a cell, its role depends on the nearest table alone, and this is the same for a row
+/// group, a row and a cell. So what is above a header tells the role of each cell of its table.
+#[tactic(auto, using(crate::proofs::RoleOfCell::depends_on_table, crate::proofs::RoleOfCell::keeps_table))]
+pub fn laws_of_roles()
+    ensures role { (a b : Above) (cell : Row) → DependsOnTable a b cell }
+    ensures table { (above : Above) (row : Row) → KeepsTable above row }
+{}
+
+/// Laws of targets. It does nothing: the clauses are what it is for.
+///
+/// On a well page each of the two rules has a verdict exactly where the node is a target: the nearest
+/// table that what is above a cell names stands in the page.
+#[tactic(auto, using(crate::proofs::Judged::judges_headers, crate::proofs::Judged::judges_references))]
+pub fn laws_of_targets()
+    ensures headers { (page : Document) (n : NodeId) → JudgesHeaders page n }
+    ensures references { (page : Document) (n : NodeId) → JudgesReferences page n }
+{}
