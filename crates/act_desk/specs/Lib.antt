@@ -1,7 +1,6 @@
 pub mod Told
 pub mod Streams
 pub mod Memory
-pub mod Outcomes
 pub mod TextReport
 pub mod FaultLine
 pub mod Early

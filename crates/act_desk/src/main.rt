@@ -4,7 +4,6 @@
 #![tactic(auto)]
 
 mod audit;
-mod audit_page;
 mod calls;
 mod command;
 mod early;
@@ -13,7 +12,6 @@ mod fault_line;
 mod found;
 mod mem_sink;
 mod mem_source;
-mod outcomes;
 mod read_all;
 mod run;
 mod sink;
