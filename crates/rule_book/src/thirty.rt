@@ -1,0 +1,132 @@
+ghost use Rattle.std.specs.Prelude.{◌≡◌, IfOk, slice_get};
+ghost use Rattle.rule_core.specs.Books.{said};
+ghost use Rattle.rule_book.specs.Book.{thirty};
+
+use crate::table::infos;
+use counts::next;
+use rule_core::{Rule, RuleBook, RuleInfo, RuleNo, Verdict};
+use rules_aria::{
+    AriaAttributeIsDefined, AriaValueIsValid, AutocompleteIsValid, HasRequiredStates,
+    HiddenHoldsNoFocus, OwnsRequiredElements, RoleIsValid,
+};
+use rules_names::{
+    ButtonHasName, FormFieldHasName, HeadingHasName, HeadingIsDescriptive, IframeHasName,
+    ImageButtonHasName, ImageHasName, LinkHasName, SvgImageHasName,
+};
+use rules_page::{
+    HasCollapse, HasHeadingToStart, HasLandmark, HasSkipLink, LanguageIsKnown,
+    LanguageOfPartIsKnown, PageHasLang, PageHasNoDelay, PageHasTitle, TitleIsDescriptive,
+    ViewportAllowsZoom,
+};
+use rules_tables::{HeaderHasCells, HeadersReferToCells};
+use snap_tree::{NodeId, OutOfMemory, Tree};
+use std::alloc::Global;
+use std::marker::Model;
+
+/// The book of the thirty rules. Contracts see it as the number of its judgings so far, which at the
+/// greatest `u64` stays.
+#[derive(Debug, Drop)]
+pub struct Thirty {
+    calls: u64,
+}
+
+impl Model for Thirty {
+    ghost use Rattle.std.specs.Prelude.{ℕ};
+
+    ghost Value = { ℕ };
+
+    ghost view = { λ book. book.calls };
+}
+
+impl Thirty {
+    /// A book that has judged nothing yet.
+    pub fn new() -> Self
+        ensures { result ≡ 0 }
+    {
+        Thirty { calls: 0 }
+    }
+}
+
+// What the rule of a number says of a node; nothing by a number that is no atomic rule of the book.
+fn said(alloc: Global, tree: &Tree, rule: RuleNo, n: NodeId) -> Result<Option<Verdict>, OutOfMemory>
+    ensures { IfOk result (λ verdict. verdict ≡ said thirty rule tree.now n) }
+{
+    match rule.0 {
+        1 => PageHasTitle.judge(alloc, tree, n),
+        2 => TitleIsDescriptive.judge(alloc, tree, n),
+        3 => PageHasLang.judge(alloc, tree, n),
+        4 => LanguageIsKnown.judge(alloc, tree, n),
+        5 => LanguageOfPartIsKnown.judge(alloc, tree, n),
+        6 => ViewportAllowsZoom.judge(alloc, tree, n),
+        7 => PageHasNoDelay.judge(alloc, tree, n),
+        8 => ButtonHasName.judge(alloc, tree, n),
+        9 => LinkHasName.judge(alloc, tree, n),
+        10 => ImageHasName.judge(alloc, tree, n),
+        11 => ImageButtonHasName.judge(alloc, tree, n),
+        12 => FormFieldHasName.judge(alloc, tree, n),
+        13 => IframeHasName.judge(alloc, tree, n),
+        14 => HeadingHasName.judge(alloc, tree, n),
+        15 => SvgImageHasName.judge(alloc, tree, n),
+        16 => HeadingIsDescriptive.judge(alloc, tree, n),
+        17 => AutocompleteIsValid.judge(alloc, tree, n),
+        18 => RoleIsValid.judge(alloc, tree, n),
+        19 => AriaAttributeIsDefined.judge(alloc, tree, n),
+        20 => AriaValueIsValid.judge(alloc, tree, n),
+        21 => HasRequiredStates.judge(alloc, tree, n),
+        22 => OwnsRequiredElements.judge(alloc, tree, n),
+        23 => HiddenHoldsNoFocus.judge(alloc, tree, n),
+        24 => HeadersReferToCells.judge(alloc, tree, n),
+        25 => HeaderHasCells.judge(alloc, tree, n),
+        26 => HasHeadingToStart.judge(alloc, tree, n),
+        27 => HasLandmark.judge(alloc, tree, n),
+        28 => HasSkipLink.judge(alloc, tree, n),
+        29 => HasCollapse.judge(alloc, tree, n),
+        _ => Ok(None),
+    }
+}
+
+// The info at a place, and None past the last.
+fn info_at(infos: &[RuleInfo], place: usize) -> Option<RuleInfo>
+    ensures { result ≡ slice_get infos.now place }
+{
+    infos.get(place).copied()
+}
+
+impl RuleBook for Thirty {
+    ghost use Rattle.std.specs.Prelude.{refl};
+    ghost use Rattle.std.proofs.Common.{rules};
+    ghost use Rattle.rule_core.specs.Books.{infos_of, said};
+    ghost use Rattle.rule_core.specs.BookLaws.{said_strange};
+    ghost use Rattle.rule_book.specs.Book.{thirty};
+
+    ghost means = { said thirty };
+
+    ghost infos = { infos_of thirty };
+
+    ghost calls = { λ calls. calls };
+
+    fn info(&self, place: usize) -> Option<RuleInfo> {
+        info_at(infos(), place)
+    }
+
+    fn judge(
+        &mut self,
+        alloc: Global,
+        tree: &Tree,
+        rule: RuleNo,
+        n: NodeId,
+    ) -> Result<Option<Verdict>, OutOfMemory> {
+        self.calls = next(self.calls);
+        said(alloc, tree, rule, n)
+    }
+
+    fn calls(&self) -> u64 {
+        self.calls
+    }
+
+    ghost orderly = { refl };
+
+    ghost few = { Prim.search rules };
+
+    ghost strange = { said_strange thirty };
+}
