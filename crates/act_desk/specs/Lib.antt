@@ -3,7 +3,6 @@ pub mod Streams
 pub mod Memory
 pub mod TextReport
 pub mod FaultLine
-pub mod Early
 pub mod Status
 pub mod Telling
 pub mod Audit

@@ -1,8 +1,8 @@
-//! `run` over a source and sinks in memory, with the book of the rules that are built.
-use crate::early::Early;
+//! `run` over a source and sinks in memory, with the book of the thirty rules.
 use crate::mem_sink::MemSink;
 use crate::mem_source::MemSource;
 use crate::run::run;
+use rule_book::Thirty;
 use snap_tree::{List, OutOfMemory, Text};
 use std::alloc::{AllocError, Global};
 use std::process::Abort;
@@ -101,7 +101,7 @@ fn run_to_end(
     mut out: MemSink,
     mut err: MemSink,
 ) -> Ended {
-    let mut book = Early::new();
+    let mut book = Thirty::new();
     let status = run(alloc, &words, &mut input, &mut out, &mut err, &mut book);
     Ended { status, out, err }
 }

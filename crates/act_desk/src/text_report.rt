@@ -1,6 +1,6 @@
-ghost use Rattle.std.specs.Prelude.{◌≡◌, codes, ◌++◌, ◌&&◌, IfOk, OnOk};
+ghost use Rattle.std.specs.Prelude.{◌≡◌, [], codes, ◌++◌, ◌&&◌, if◌then◌else◌, IfOk, OnOk};
 ghost use Rattle.std.specs.String.{string_bytes};
-ghost use Rattle.std.specs.List.{flat_map};
+ghost use Rattle.std.specs.List.{flat_map, list_any};
 ghost use Rattle.act_desk.specs.TextReport.{text_report, first_line, rule_lines, is_of, of_rule, is_inapplicable, is_known, outcome_word, node_line, row_line, totals, counted, totals_line, is_outcome, count_of, inapplicable};
 
 use judge_core::{OutRow, Outcomes};
@@ -68,7 +68,6 @@ fn push_rule(
 }
 
 // Adds the lines of a rule's rows.
-#[tactic(auto, using(crate::proofs::Chosen::flat_map_filter))]
 fn push_rows(
     alloc: Global,
     report: &mut Vec<u8>,
@@ -111,7 +110,13 @@ fn is_of(info: &RuleInfo, row: &OutRow) -> bool
 fn is_inapplicable(rows: &[OutRow], info: &RuleInfo) -> bool
     ensures { result ≡ is_inapplicable rows.now info.now }
 {
-    !rows.iter().any(|row| is_of(info, row))
+    !has_row(rows, info)
+}
+
+fn has_row(rows: &[OutRow], info: &RuleInfo) -> bool
+    ensures { result ≡ list_any (is_of info.now) rows.now }
+{
+    rows.iter().any(|row| is_of(info, row))
 }
 
 // Adds a rule's id and what follows it.
