@@ -4,9 +4,9 @@
 //! the rules say of themselves.
 #![tactic(auto)]
 
-mod table;
 #[cfg(test)]
-mod tests;
+mod samples;
+mod table;
 mod thirty;
 
 pub use table::{composites, infos};

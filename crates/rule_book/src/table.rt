@@ -74,3 +74,6 @@ pub fn composites() -> &'static [RuleInfo]
 {
     COMPOSITES.as_slice()
 }
+
+#[cfg(test)]
+mod tests;

@@ -130,3 +130,6 @@ impl RuleBook for Thirty {
 
     ghost strange = { said_strange thirty };
 }
+
+#[cfg(test)]
+mod tests;
