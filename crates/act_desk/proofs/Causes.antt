@@ -7,6 +7,7 @@ use Rattle.snap_json.specs.declared.fault.SnapFault.{SnapFault}
 use Rattle.snap_json.specs.declared.fault.SnapFault.TheVariants.{TooLong}
 use Rattle.snap_json.specs.declared.limits.TheConstants.{MOST_SNAPSHOT_BYTES}
 use Rattle.snap_json.specs.Pages.{sent_tree, tree_in, page_in}
+use Rattle.judge_core.specs.Books.{Book}
 use Rattle.act_desk.specs.declared.audit.TheConstants.{MOST_READ}
 use Rattle.act_desk.specs.declared.found.Found.{Found}
 use Rattle.act_desk.specs.declared.found.Found.TheVariants as found
@@ -16,7 +17,7 @@ use Rattle.act_desk.specs.Status.{OneOf}
 use Rattle.act_desk.specs.Told.{Input}
 use Rattle.act_desk.specs.Streams.{IsReadTo}
 use Rattle.act_desk.specs.Telling.{Writing, output_alone, line_alone, status_of, writing_of}
-use Rattle.act_desk.specs.Audit.{Book, IsFoundIn, GaveAll, Reports, AuditCause, TellsPage, TellsFault}
+use Rattle.act_desk.specs.Audit.{IsFoundIn, GaveAll, Reports, AuditCause, TellsPage, TellsFault}
 
 -- ---- bytes that are a snapshot are within the limit
 

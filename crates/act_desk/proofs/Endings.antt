@@ -3,6 +3,7 @@ use Rattle.std.proofs.Common.{◌≡◌, ℕ, ◌≤◌, ◌⊎◌, inl, inr, Bo
 use Rattle.counts.specs.Counts.{StoodStill, Rose}
 use Rattle.counts.proofs.CountLaws.{next_rose, still_not_risen}
 use Rattle.snap_tree.specs.Trees.{Document}
+use Rattle.judge_core.specs.Books.{Book}
 use Rattle.act_desk.specs.declared.audit.TheConstants.{MOST_READ}
 use Rattle.act_desk.specs.declared.command.Command.{Command}
 use Rattle.act_desk.specs.declared.command.Command.TheVariants.{Audit}
@@ -12,7 +13,7 @@ use Rattle.act_desk.specs.Status.{status_number, OneOf}
 use Rattle.act_desk.specs.Told.{Output, Outside}
 use Rattle.act_desk.specs.Streams.{ReadsAtMost, BrokeOff}
 use Rattle.act_desk.specs.Telling.{Writing, IsWritten, Tells}
-use Rattle.act_desk.specs.Audit.{Book, Reports, AuditCause, TellsPage, IsReported}
+use Rattle.act_desk.specs.Audit.{Reports, AuditCause, TellsPage, IsReported}
 use Rattle.act_desk.specs.Commands.{CommandCause, IsCommand, IsNoCommand, CommandBound, CommandComplete}
 use Rattle.act_desk.specs.Run.{Cause, NoFaults, IsComplete, Runs}
 use Rattle.act_desk.proofs.Causes.{same_page, refused, of_no_snapshot}

@@ -1,8 +1,5 @@
 pub mod Fronts
 pub mod Known
-pub mod RowLists
-pub mod Judged
-pub mod Grouped
-pub mod ByRule
+pub mod Chosen
 pub mod Causes
 pub mod Endings

@@ -1,12 +1,15 @@
 -- The command `audit`: why it ends with each status, and what it writes then.
-use Rattle.std.specs.Prelude.{◌≡◌, ℕ, List, [], ◌∷◌, ◌⊎◌, nat_lt, Bool, true, false, if◌then◌else◌, Some, IfSome, Ok, Err}
+use Rattle.std.specs.Prelude.{◌≡◌, ℕ, List, [], ◌∷◌, ◌⊎◌, Bool, true, false, if◌then◌else◌, Some, IfSome, Ok, Err}
+use Rattle.std.specs.List.{list_any}
 use Rattle.std.specs.Io.KnownBytes.{IsAtEnd}
 use Rattle.counts.specs.Counts.{Rose}
 use Rattle.snap_tree.specs.Trees.{Document}
 use Rattle.snap_json.specs.declared.fault.SnapFault.{SnapFault}
 use Rattle.snap_json.specs.Pages.{sent_tree}
-use Rattle.rule_core.specs.declared.info.RuleInfo.{RuleInfo}
 use Rattle.rule_core.specs.declared.verdict.Auto.TheVariants.{Failed}
+use Rattle.judge_core.specs.declared.outcomes.OutRow.{OutRow}
+use Rattle.judge_core.specs.Books.{Book}
+use Rattle.judge_core.specs.Outcomes.{outcomes}
 use Rattle.act_desk.specs.declared.audit.TheConstants.{MOST_READ}
 use Rattle.act_desk.specs.declared.found.Found.{Found}
 use Rattle.act_desk.specs.declared.found.Found.TheVariants as found
@@ -16,22 +19,19 @@ use Rattle.act_desk.specs.Status.{status_line, OneOf}
 use Rattle.act_desk.specs.Told.{Input, Outside}
 use Rattle.act_desk.specs.Streams.{IsReadTo, Took}
 use Rattle.act_desk.specs.Telling.{Writing, output_alone, line_alone}
-use Rattle.act_desk.specs.Outcomes.{Meaning, outcomes}
-use Rattle.act_desk.specs.TextReport.{text_report, count_of}
+use Rattle.act_desk.specs.TextReport.{text_report, is_outcome}
 use Rattle.act_desk.specs.FaultLine.{fault_line}
 
--- a book, as its type says: the infos of its rules, and what they say
-pub record Book : Type 0 where
-  pub infos : List RuleInfo
-  pub means : Meaning
-
--- the text report of a page's outcomes by a book
+-- the text report of a page's outcomes by a book, of which nothing was judged
 abbrev pub report_of : Book → Document → List ℕ
-report_of book page = text_report page.address book.infos (outcomes book.infos book.means page)
+report_of book page = text_report page.address book.infos (outcomes book page [])
 
 -- some final outcome is failed
+abbrev pub has_failed : List OutRow → Bool
+has_failed rows = list_any (λ row. is_outcome Failed row.last) rows
+
 abbrev pub fails : Book → Document → Bool
-fails book page = nat_lt 0 (count_of Failed (outcomes book.infos book.means page))
+fails book page = has_failed (outcomes book page [])
 
 -- What an audit finds in bytes: the report of a page, and whether some outcome is failed; or the line of
 -- the fault that they have; or want of memory.

@@ -1,11 +1,12 @@
 -- The commands: for each its words, why it ends, and which statuses can come of it.
 use Rattle.std.specs.Prelude.{◌≡◌, ℕ, List, [], ◌∷◌, codes}
+use Rattle.judge_core.specs.Books.{Book}
 use Rattle.act_desk.specs.declared.command.Command.{Command}
 use Rattle.act_desk.specs.declared.command.Command.TheVariants.{Audit}
 use Rattle.act_desk.specs.declared.status.Status.{Status}
 use Rattle.act_desk.specs.Told.{Input, Outside}
 use Rattle.act_desk.specs.Telling.{Writing}
-use Rattle.act_desk.specs.Audit.{Book, AuditCause, AuditBound, AuditComplete}
+use Rattle.act_desk.specs.Audit.{AuditCause, AuditBound, AuditComplete}
 
 -- the words of a command
 abbrev pub IsCommand : List (List ℕ) → Command → Type 0

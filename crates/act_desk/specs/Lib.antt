@@ -1,10 +1,8 @@
 pub mod Told
 pub mod Streams
 pub mod Memory
-pub mod Outcomes
 pub mod TextReport
 pub mod FaultLine
-pub mod Early
 pub mod Status
 pub mod Telling
 pub mod Audit

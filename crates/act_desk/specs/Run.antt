@@ -1,6 +1,7 @@
 -- What a run does, whatever its words are.
 use Rattle.std.specs.Prelude.{◌≡◌, ℕ, ◌≤◌, List, [], ◌∷◌, ◌⊎◌}
 use Rattle.counts.specs.Counts.{StoodStill}
+use Rattle.judge_core.specs.Books.{Book}
 use Rattle.act_desk.specs.declared.audit.TheConstants.{MOST_READ}
 use Rattle.act_desk.specs.declared.command.Command.{Command}
 use Rattle.act_desk.specs.declared.status.Status.{Status}
@@ -9,7 +10,6 @@ use Rattle.act_desk.specs.Status.{status_number, status_line, OneOf}
 use Rattle.act_desk.specs.Told.{Input, Outside}
 use Rattle.act_desk.specs.Streams.{ReadsAtMost}
 use Rattle.act_desk.specs.Telling.{Writing, line_alone, Tells}
-use Rattle.act_desk.specs.Audit.{Book}
 use Rattle.act_desk.specs.Commands.{IsCommand, IsNoCommand, CommandCause, CommandBound, CommandComplete}
 
 -- the words are no command, and nothing was read

@@ -1,15 +1,16 @@
 ghost use Rattle.std.specs.Prelude.{◌≡◌, ◌≤◌, IfOk};
 ghost use Rattle.act_desk.specs.Streams.{ReadsAtMost};
 ghost use Rattle.act_desk.specs.Telling.{status_of, writing_of};
-ghost use Rattle.act_desk.specs.Audit.{report_of, fails, IsFoundIn, AuditCause};
+ghost use Rattle.act_desk.specs.Audit.{report_of, has_failed, fails, IsFoundIn, AuditCause};
 
-use crate::audit_page::audit_page;
 use crate::fault_line::fault_line;
 use crate::found::Found;
 use crate::read_all::{ReadFault, read_all};
 use crate::source::Source;
-use crate::text_report::{count_of, text_report};
-use rule_core::{Auto, RuleBook, RuleInfo};
+use crate::text_report::{is_outcome, text_report};
+use judge_core::{OutRow, infos_of};
+use reaudit::audit_page;
+use rule_core::{Auto, RuleBook};
 use snap_json::{MOST_SNAPSHOT_BYTES, SnapFault, read_snapshot};
 use snap_tree::{List, OutOfMemory, Tree};
 use std::alloc::Global;
@@ -60,22 +61,15 @@ fn report<B: RuleBook>(
         (λ r. r.1 ≡ fails (record { infos = B.infos; means = B.means }) tree.now) }
 {
     let infos = infos_of(alloc, book)?;
-    let outcomes = audit_page(alloc, book, infos.as_slice(), tree)?;
+    let outcomes = audit_page(alloc, book, tree, &[])?;
     let report = text_report(alloc, tree.address(), infos.as_slice(), &outcomes)?;
-    let failed = count_of(Auto::Failed, outcomes.rows.as_slice()) > 0;
+    let failed = has_failed(outcomes.rows.as_slice());
     Ok((List::from_vec(report), failed))
 }
 
-// The infos of a book, by place.
-fn infos_of<B: RuleBook>(alloc: Global, book: &B) -> Result<Vec<RuleInfo>, OutOfMemory>
-    ensures { IfOk result (λ infos. infos.items ≡ B.infos) }
+// Whether some final outcome is failed.
+fn has_failed(rows: &[OutRow]) -> bool
+    ensures { result ≡ has_failed rows.now }
 {
-    let mut infos = Vec::new(alloc);
-    for place in 0..65_536 {
-        let Some(info) = book.info(place) else {
-            return Ok(infos);
-        };
-        infos.push(info)?;
-    }
-    Ok(infos)
+    rows.iter().any(|row| is_outcome(Auto::Failed, row.last))
 }

@@ -4,16 +4,13 @@
 #![tactic(auto)]
 
 mod audit;
-mod audit_page;
 mod calls;
 mod command;
-mod early;
 mod failed;
 mod fault_line;
 mod found;
 mod mem_sink;
 mod mem_source;
-mod outcomes;
 mod read_all;
 mod run;
 mod sink;
@@ -27,11 +24,11 @@ mod tests;
 mod text_report;
 mod write_all;
 
-use crate::early::Early;
 use crate::run::run;
 use crate::start::command_words;
 use crate::stream::{Reader, Writer};
 use crate::tell::tell;
+use rule_book::Thirty;
 use std::process::ExitCode;
 
 fn main(rt: HostRuntime) -> ExitCode {
@@ -42,7 +39,7 @@ fn main(rt: HostRuntime) -> ExitCode {
         Err(found) => return ExitCode::from(tell(&mut out, &mut err, &found).number()),
     };
     let mut input = Reader::new(rt.stdin());
-    let mut book = Early::new();
+    let mut book = Thirty::new();
     ExitCode::from(run(
         rt.alloc(),
         &words,

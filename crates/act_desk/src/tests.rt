@@ -1,29 +1,31 @@
-//! `run` over a source and sinks in memory, with the book of the rules that are built.
-use crate::early::Early;
+//! `run` over a source and sinks in memory, with the book of the thirty rules.
 use crate::mem_sink::MemSink;
 use crate::mem_source::MemSource;
 use crate::run::run;
+use rule_book::Thirty;
 use snap_tree::{List, OutOfMemory, Text};
 use std::alloc::{AllocError, Global};
 use std::process::Abort;
 use std::test::Fail;
 
+mod pages;
+
 const HOME: &str =
     r#"{"url":"https://example.org/","nodes":[{"n":1,"p":null,"tag":"html","attrs":[["lang","en"]]},{"n":2,"p":1,"tag":"head","f":""},{"n":3,"p":2,"tag":"title","f":""},{"n":4,"p":3,"text":"Home","f":""},{"n":5,"p":1,"tag":"body"}]}"#;
 
 const HOME_REPORT: &str =
-    "page https://example.org/\n2779a5 node 1 passed ok\nc4a8a4 node 1 cantTell judge-title\nb5c3f8 node 1 passed ok\nbf051a node 1 passed ok\nde46e4 inapplicable\nb4f0c3 inapplicable\nbc659a inapplicable\n97a4e1 inapplicable\nc487ae inapplicable\n23a2a8 inapplicable\n59796f inapplicable\ne086e5 inapplicable\ncae760 inapplicable\nffd0e9 inapplicable\n7d6734 inapplicable\nb49b2e inapplicable\n73f2c2 inapplicable\n674b10 inapplicable\n5f99a7 inapplicable\n6a7281 inapplicable\n4e8ab6 inapplicable\nbc4a75 inapplicable\n6cfa84 inapplicable\n047fe0 inapplicable\nb40fd1 inapplicable\nye5d6e inapplicable\n3e12e1 inapplicable\npassed 3 failed 0 cantTell 1 inapplicable 23\n";
+    "page https://example.org/\n2779a5 node 1 passed ok\nc4a8a4 node 1 cantTell judge-title\nb5c3f8 node 1 passed ok\nbf051a node 1 passed ok\nde46e4 inapplicable\nb4f0c3 inapplicable\nbc659a inapplicable\n97a4e1 inapplicable\nc487ae inapplicable\n23a2a8 inapplicable\n59796f inapplicable\ne086e5 inapplicable\ncae760 inapplicable\nffd0e9 inapplicable\n7d6734 inapplicable\nb49b2e inapplicable\n73f2c2 inapplicable\n674b10 inapplicable\n5f99a7 inapplicable\n6a7281 inapplicable\n4e8ab6 inapplicable\nbc4a75 inapplicable\n6cfa84 inapplicable\na25f45 inapplicable\nd0f69e inapplicable\n047fe0 inapplicable\nb40fd1 inapplicable\nye5d6e inapplicable\n3e12e1 inapplicable\ncf77f2 inapplicable\npassed 3 failed 0 cantTell 1 inapplicable 26\n";
 
 const BLANK: &str =
     r#"{"url":"https://example.org/","nodes":[{"n":1,"p":null,"tag":"html","attrs":[["lang"," "]]}]}"#;
 
 const BLANK_REPORT: &str =
-    "page https://example.org/\n2779a5 node 1 failed no-title\nc4a8a4 inapplicable\nb5c3f8 node 1 failed empty-lang\nbf051a inapplicable\nde46e4 inapplicable\nb4f0c3 inapplicable\nbc659a inapplicable\n97a4e1 inapplicable\nc487ae inapplicable\n23a2a8 inapplicable\n59796f inapplicable\ne086e5 inapplicable\ncae760 inapplicable\nffd0e9 inapplicable\n7d6734 inapplicable\nb49b2e inapplicable\n73f2c2 inapplicable\n674b10 inapplicable\n5f99a7 inapplicable\n6a7281 inapplicable\n4e8ab6 inapplicable\nbc4a75 inapplicable\n6cfa84 inapplicable\n047fe0 inapplicable\nb40fd1 inapplicable\nye5d6e inapplicable\n3e12e1 inapplicable\npassed 0 failed 2 cantTell 0 inapplicable 25\n";
+    "page https://example.org/\n2779a5 node 1 failed no-title\nc4a8a4 inapplicable\nb5c3f8 node 1 failed empty-lang\nbf051a inapplicable\nde46e4 inapplicable\nb4f0c3 inapplicable\nbc659a inapplicable\n97a4e1 inapplicable\nc487ae inapplicable\n23a2a8 inapplicable\n59796f inapplicable\ne086e5 inapplicable\ncae760 inapplicable\nffd0e9 inapplicable\n7d6734 inapplicable\nb49b2e inapplicable\n73f2c2 inapplicable\n674b10 inapplicable\n5f99a7 inapplicable\n6a7281 inapplicable\n4e8ab6 inapplicable\nbc4a75 inapplicable\n6cfa84 inapplicable\na25f45 inapplicable\nd0f69e inapplicable\n047fe0 inapplicable\nb40fd1 inapplicable\nye5d6e inapplicable\n3e12e1 inapplicable\ncf77f2 inapplicable\npassed 0 failed 2 cantTell 0 inapplicable 28\n";
 
 const PARAGRAPH: &str = r#"{"url":"https://example.org/","nodes":[{"n":1,"p":null,"tag":"p"}]}"#;
 
 const PARAGRAPH_REPORT: &str =
-    "page https://example.org/\n2779a5 inapplicable\nc4a8a4 inapplicable\nb5c3f8 inapplicable\nbf051a inapplicable\nde46e4 inapplicable\nb4f0c3 inapplicable\nbc659a inapplicable\n97a4e1 inapplicable\nc487ae inapplicable\n23a2a8 inapplicable\n59796f inapplicable\ne086e5 inapplicable\ncae760 inapplicable\nffd0e9 inapplicable\n7d6734 inapplicable\nb49b2e inapplicable\n73f2c2 inapplicable\n674b10 inapplicable\n5f99a7 inapplicable\n6a7281 inapplicable\n4e8ab6 inapplicable\nbc4a75 inapplicable\n6cfa84 inapplicable\n047fe0 inapplicable\nb40fd1 inapplicable\nye5d6e inapplicable\n3e12e1 inapplicable\npassed 0 failed 0 cantTell 0 inapplicable 27\n";
+    "page https://example.org/\n2779a5 inapplicable\nc4a8a4 inapplicable\nb5c3f8 inapplicable\nbf051a inapplicable\nde46e4 inapplicable\nb4f0c3 inapplicable\nbc659a inapplicable\n97a4e1 inapplicable\nc487ae inapplicable\n23a2a8 inapplicable\n59796f inapplicable\ne086e5 inapplicable\ncae760 inapplicable\nffd0e9 inapplicable\n7d6734 inapplicable\nb49b2e inapplicable\n73f2c2 inapplicable\n674b10 inapplicable\n5f99a7 inapplicable\n6a7281 inapplicable\n4e8ab6 inapplicable\nbc4a75 inapplicable\n6cfa84 inapplicable\na25f45 inapplicable\nd0f69e inapplicable\n047fe0 inapplicable\nb40fd1 inapplicable\nye5d6e inapplicable\n3e12e1 inapplicable\ncf77f2 inapplicable\npassed 0 failed 0 cantTell 0 inapplicable 30\n";
 
 // A run, and what it ends with.
 #[derive(Clone, Copy)]
@@ -101,7 +103,7 @@ fn run_to_end(
     mut out: MemSink,
     mut err: MemSink,
 ) -> Ended {
-    let mut book = Early::new();
+    let mut book = Thirty::new();
     let status = run(alloc, &words, &mut input, &mut out, &mut err, &mut book);
     Ended { status, out, err }
 }

@@ -1,15 +1,17 @@
-ghost use Rattle.std.specs.Prelude.{◌≡◌, ◌≤◌, ◌==◌, if◌then◌else◌, take, drop, codes, ◌++◌, length, IfOk, OnOk};
+ghost use Rattle.std.specs.Prelude.{◌≡◌, [], codes, ◌++◌, ◌&&◌, if◌then◌else◌, IfOk, OnOk};
 ghost use Rattle.std.specs.String.{string_bytes};
-ghost use Rattle.std.specs.List.{prefix_len};
-ghost use Rattle.act_desk.specs.TextReport.{AreGrouped, text_report, first_line, lines, inapplicable, is_of, rule_lines, outcome_word, node_line, row_line, totals, counted, totals_line, is_outcome, count_of};
+ghost use Rattle.std.specs.List.{flat_map, list_any};
+ghost use Rattle.act_desk.specs.TextReport.{text_report, first_line, rule_lines, is_of, of_rule, is_inapplicable, is_known, outcome_word, node_line, row_line, totals, counted, totals_line, is_outcome, count_of, inapplicable};
 
-use crate::outcomes::{OutRow, Outcomes};
+use judge_core::{OutRow, Outcomes};
 use rule_core::{Auto, RuleInfo};
 use snap_tree::{OutOfMemory, Text};
 use std::alloc::Global;
 
-/// The text report of a page: its address, the lines of each rule in the order of the infos, and the
-/// totals of the final outcomes. The rows stand by rule, in the order of the infos.
+/// The text report of a page by the rules of these infos: its address, the lines of each rule in turn,
+/// and how many final outcomes are passed, failed and cantTell, and how many rules are inapplicable. The
+/// rows of a rule come in the order of the outcomes; a row of none of the rules is passed over. Fails
+/// only for want of memory.
 #[tactic(auto, unfolding(crate::specs::TextReport::text_report))]
 pub fn text_report(
     alloc: Global,
@@ -17,36 +19,13 @@ pub fn text_report(
     infos: &[RuleInfo],
     rows: &Outcomes,
 ) -> Result<Vec<u8>, OutOfMemory>
-    requires { AreGrouped infos.now rows.now.rows }
     ensures { IfOk result (λ report. report.items ≡ text_report address.now infos.now rows.now.rows) }
 {
     let rows = rows.rows.as_slice();
-    let (mut report, inapplicable) = rule_lines_of(alloc, address, infos, rows)?;
-    push(&mut report, totals(alloc, rows, inapplicable)?.as_bytes())?;
-    Ok(report)
-}
-
-// The report but for its last line, and how many rules have no row.
-fn rule_lines_of(
-    alloc: Global,
-    address: &Text,
-    infos: &[RuleInfo],
-    rows: &[OutRow],
-) -> Result<(Vec<u8>, usize), OutOfMemory>
-    requires { AreGrouped infos.now rows.now }
-    ensures lines { IfOk result (λ r. r.0.items ≡ first_line address.now ++ lines infos.now rows.now) }
-    ensures inapplicable { IfOk result (λ r. r.1 ≡ inapplicable infos.now rows.now) }
-{
     let mut report = first_line(alloc, address)?;
-    let mut inapplicable = 0;
-    let mut rest = rows;
-    for info in infos {
-        let (of_rule, later) = split_rule(rest, info);
-        push_rule(alloc, &mut report, &info.id, of_rule)?;
-        inapplicable += without_rows(of_rule);
-        rest = later;
-    }
-    Ok((report, inapplicable))
+    push_rules(alloc, &mut report, infos, rows)?;
+    push(&mut report, totals(alloc, infos, rows)?.as_bytes())?;
+    Ok(report)
 }
 
 fn first_line(alloc: Global, address: &Text) -> Result<Vec<u8>, OutOfMemory>
@@ -58,49 +37,86 @@ fn first_line(alloc: Global, address: &Text) -> Result<Vec<u8>, OutOfMemory>
     Ok(line)
 }
 
-// The leading rows that are of a rule, and those after them.
-fn split_rule<'a>(rows: &'a [OutRow], info: &RuleInfo) -> (&'a [OutRow], &'a [OutRow])
-    ensures leading { result.0.now ≡ take (prefix_len (is_of info.now) rows.now) rows.now }
-    ensures later { result.1.now ≡ drop (prefix_len (is_of info.now) rows.now) rows.now }
+// Adds the lines of each rule.
+fn push_rules(
+    alloc: Global,
+    report: &mut Vec<u8>,
+    infos: &[RuleInfo],
+    rows: &[OutRow],
+) -> Result<(), OutOfMemory>
+    ensures { OnOk result (report.new.items ≡ report.old.items ++ flat_map (rule_lines rows.now) infos.now) }
 {
-    let count = leading(rows, info);
-    rows.split_at(count)
+    for info in infos {
+        push_rule(alloc, report, info, rows)?;
+    }
+    Ok(())
 }
 
-fn leading(rows: &[OutRow], info: &RuleInfo) -> usize
-    ensures count { result ≡ prefix_len (is_of info.now) rows.now }
-    ensures within { result ≤ length rows.now }
-{
-    rows.iter()
-        .take_while(|row| row.rule.0 == info.no.0)
-        .count()
-}
-
-// 1 where there is no row.
-fn without_rows(rows: &[OutRow]) -> usize
-    ensures count { result ≡ (if length rows.now == 0 then 1 else 0) }
-    ensures small { result ≤ 1 }
-{
-    if rows.is_empty() { 1 } else { 0 }
-}
-
-// Adds the lines of a rule with these rows.
+// Adds the lines of a rule.
 fn push_rule(
     alloc: Global,
     report: &mut Vec<u8>,
-    id: &[u8],
+    info: &RuleInfo,
     rows: &[OutRow],
 ) -> Result<(), OutOfMemory>
-    ensures { OnOk result (report.new.items ≡ report.old.items ++ rule_lines id.now rows.now) }
+    ensures { OnOk result (report.new.items ≡ report.old.items ++ rule_lines rows.now info.now) }
 {
-    if rows.is_empty() {
-        return push_line(report, id, b" inapplicable\n");
+    if is_inapplicable(rows, info) {
+        return push_line(report, &info.id, b" inapplicable\n");
     }
+    push_rows(alloc, report, info, rows)
+}
+
+// Adds the lines of a rule's rows.
+fn push_rows(
+    alloc: Global,
+    report: &mut Vec<u8>,
+    info: &RuleInfo,
+    rows: &[OutRow],
+) -> Result<(), OutOfMemory>
+    ensures { OnOk result (report.new.items
+        ≡ report.old.items ++ flat_map (λ row. info.now.id ++ row_line row) (of_rule rows.now info.now)) }
+{
     for row in rows {
-        let line = row_line(alloc, row)?;
-        push_line(report, id, line.as_bytes())?;
+        push_row(alloc, report, info, row)?;
     }
     Ok(())
+}
+
+// Adds the line of a row, where it is of the rule.
+fn push_row(
+    alloc: Global,
+    report: &mut Vec<u8>,
+    info: &RuleInfo,
+    row: &OutRow,
+) -> Result<(), OutOfMemory>
+    ensures { OnOk result (report.new.items
+        ≡ report.old.items ++ (if is_of info.now row.now then info.now.id ++ row_line row.now else [])) }
+{
+    if !is_of(info, row) {
+        return Ok(());
+    }
+    let line = row_line(alloc, row)?;
+    push_line(report, &info.id, line.as_bytes())
+}
+
+fn is_of(info: &RuleInfo, row: &OutRow) -> bool
+    ensures { result ≡ is_of info.now row.now }
+{
+    row.rule.0 == info.no.0
+}
+
+// Whether no row is of the rule.
+fn is_inapplicable(rows: &[OutRow], info: &RuleInfo) -> bool
+    ensures { result ≡ is_inapplicable rows.now info.now }
+{
+    !has_row(rows, info)
+}
+
+fn has_row(rows: &[OutRow], info: &RuleInfo) -> bool
+    ensures { result ≡ list_any (is_of info.now) rows.now }
+{
+    rows.iter().any(|row| is_of(info, row))
 }
 
 // Adds a rule's id and what follows it.
@@ -156,15 +172,15 @@ fn judge(alloc: Global, hand: &Text) -> Result<String, OutOfMemory>
 }
 
 // The last line.
-fn totals(alloc: Global, rows: &[OutRow], inapplicable: usize) -> Result<String, OutOfMemory>
-    ensures { IfOk result (λ t. string_bytes t ≡ totals rows.now inapplicable) }
+fn totals(alloc: Global, infos: &[RuleInfo], rows: &[OutRow]) -> Result<String, OutOfMemory>
+    ensures { IfOk result (λ t. string_bytes t ≡ totals infos.now rows.now) }
 {
     totals_line(
         alloc,
-        count_of(Auto::Passed, rows),
-        count_of(Auto::Failed, rows),
-        count_of(Auto::CantTell, rows),
-        inapplicable,
+        count_of(Auto::Passed, infos, rows),
+        count_of(Auto::Failed, infos, rows),
+        count_of(Auto::CantTell, infos, rows),
+        inapplicable(infos, rows),
     )
 }
 
@@ -192,18 +208,43 @@ fn counted(alloc: Global, word: &str, n: usize) -> Result<String, OutOfMemory>
     Ok(format!(in alloc; "{word} {n}")?)
 }
 
-fn is_outcome(wanted: Auto, outcome: Auto) -> bool
+/// Whether an outcome is the one that is wanted.
+pub fn is_outcome(wanted: Auto, outcome: Auto) -> bool
     ensures { result ≡ is_outcome wanted outcome }
 {
     wanted == outcome
 }
 
-/// How many rows have this final outcome.
-pub fn count_of(outcome: Auto, rows: &[OutRow]) -> usize
-    ensures { result ≡ count_of outcome rows.now }
+// Whether a row is of one of the rules.
+fn is_known(infos: &[RuleInfo], row: &OutRow) -> bool
+    ensures { result ≡ is_known infos.now row.now }
+{
+    infos.iter().any(|info| is_of(info, row))
+}
+
+// Whether a row of one of the rules has this final outcome.
+fn is_counted(outcome: Auto, infos: &[RuleInfo], row: &OutRow) -> bool
+    ensures { result ≡ (is_outcome outcome row.now.last && is_known infos.now row.now) }
+{
+    is_outcome(outcome, row.last) && is_known(infos, row)
+}
+
+// How many rows of these rules have this final outcome.
+fn count_of(outcome: Auto, infos: &[RuleInfo], rows: &[OutRow]) -> usize
+    ensures { result ≡ count_of outcome infos.now rows.now }
 {
     rows.iter()
-        .filter(|row| is_outcome(outcome, row.last))
+        .filter(|row| is_counted(outcome, infos, row))
+        .count()
+}
+
+// How many of the rules are inapplicable.
+fn inapplicable(infos: &[RuleInfo], rows: &[OutRow]) -> usize
+    ensures { result ≡ inapplicable infos.now rows.now }
+{
+    infos
+        .iter()
+        .filter(|info| is_inapplicable(rows, info))
         .count()
 }
 

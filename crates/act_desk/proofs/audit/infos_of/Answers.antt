@@ -1,6 +1,0 @@
-use Rattle.act_desk.proofs.RowLists.{take_more_some}
-use Rattle.act_desk.proofs.audit.infos_of.Goals as goal
-
-pub loop-place-preserved : goal.loop-place-preserved
-loop-place-preserved g c =
-    take_more_some g.B.RuleBook.infos c.loop-place.place c.in-Some.info c.loop-place.infos.items c.push.new.self.items c.loop-place.invariant c.in_ok-push.ensures.items c.in-Some.ensures
