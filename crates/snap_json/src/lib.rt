@@ -12,8 +12,7 @@
 //! Start with [`read_snapshot`], which answers the tree that bytes are, or the first fault; which bytes
 //! are a snapshot is one definition, `sent_tree` of `specs/Pages.antt`, with the members of a row in
 //! `specs/Fields.antt`. [`write_snapshot`] writes a tree, and what it wrote of a tree at a web address is
-//! read back, within the limits. [`raw_of`] and [`rows_of`] read a page, or rows alone, that are JSON values
-//! within a longer text. The address is a URL of the scheme http or https by the URL Standard, and
+//! read back, within the limits. The address is a URL of the scheme http or https by the URL Standard, and
 //! is kept as that standard writes it.
 #![tactic(auto)]
 
