@@ -1,27 +1,25 @@
 -- What a pass over a table notes decides what is found of a header.
-use Rattle.std.proofs.Common.{◌≡◌, ◌<◌, ◌≤◌, ◌+◌, ◌*◌, ◌/◌, ◌^◌, ℕ, zero, suc, min, max, List, [], ◌∷◌, ◌++◌, length, filter, Bool, true, false, ◌&&◌, ◌||◌, not, cond, ltb, Option, Some, None, refl, sym, ap, ◌∙◌, subst, arith, inl, inr, ⊎_elim, div-lt_iff_lt-mul, length-append}
+use Rattle.std.proofs.Common.{◌≡◌, ◌<◌, ◌≤◌, ◌*◌, ◌/◌, ◌^◌, ℕ, suc, max, List, [], ◌∷◌, length, filter, Bool, true, false, ◌&&◌, ◌||◌, not, cond, ltb, Option, Some, None, refl, sym, ap, ◌∙◌, arith, ⊎_elim, div-lt_iff_lt-mul}
 use Rattle.std.proofs.lemmas.Bool.{false≢true, or_right, or_left, or_cases, lt-ltb, le-ltb, cases_lt}
 use Rattle.std.specs.List.{list_any}
 use Rattle.std.specs.Option.{option_or}
 use Rattle.snap_tree.specs.declared.row.Row.{Row}
 use Rattle.snap_tree.specs.Rows.{has_number}
-use Rattle.snap_tree.specs.Trees.{Trees, empty, tree, count}
+use Rattle.snap_tree.specs.Trees.{Trees, count}
 use Rattle.acc_tree.specs.declared.above.Above.{Above}
 use Rattle.acc_tree.specs.declared.attributes.Attribute.TheVariants as attribute
 use Rattle.acc_tree.specs.Roles.{role_at}
 use Rattle.acc_tree.specs.Seen.{seen, is_blank_at}
-use Rattle.rule_core.specs.declared.finding.Finding.{Finding}
 use Rattle.rule_core.specs.declared.reason.Reason.TheVariants.{NoCells, LargeGrid}
 use Rattle.rule_core.specs.Findings.{met, failed, cant_tell}
-use Rattle.rules_tables.specs.declared.assigned.Direction.{Direction}
 use Rattle.rules_tables.specs.declared.grid.Area.{Area}
 use Rattle.rules_tables.specs.Assigned.{direction_of, is_led_to, is_named, is_data_role, is_assigned, place_of, assigned}
-use Rattle.rules_tables.specs.Grid.{Placed, width, next_placed, placed_cells, placed_rows, grid, slots}
+use Rattle.rules_tables.specs.Grid.{Placed, width, grid, slots}
 use Rattle.rules_tables.specs.HeaderHasCells.{cells_finding, header_finding, cell_count}
-use Rattle.rules_tables.specs.Survey.{all_row_count, Question, Noted, question, surveyed, found_again}
-use Rattle.rules_tables.specs.TableRows.{TableRow, is_row_group, is_table_row, is_cell, cells_in, row_count, neighbours, group_rows, table_rows}
+use Rattle.rules_tables.specs.Survey.{Question, Noted, question, surveyed, found_again}
+use Rattle.rules_tables.specs.TableRows.{TableRow, table_rows}
 use Rattle.rules_tables.proofs.Counting.{rows_length, rows_placed_length, rows_few, count_seen}
-use Rattle.rules_tables.proofs.Placing.{saturated, found_among, Tells, survey_told}
+use Rattle.rules_tables.proofs.Placing.{found_among, survey_told}
 
 -- ---- the limit
 

@@ -1,8 +1,8 @@
 -- The laws of grids.
-use Rattle.std.proofs.Common.{◌≡◌, ◌<◌, ◌≤◌, ◌+◌, ◌-◌, ℕ, zero, suc, min, max, List, [], ◌∷◌, ◌++◌, length, slice_get, Bool, true, false, ◌&&◌, ◌||◌, cond, leb, ltb, Option, Some, None, refl, sym, ap, ◌∙◌, subst, arith, length-append, inl, inr, ⊎_elim}
+use Rattle.std.proofs.Common.{◌≡◌, ◌<◌, ◌≤◌, ◌+◌, ◌-◌, ℕ, zero, suc, max, List, [], ◌∷◌, ◌++◌, length, slice_get, Bool, true, false, ◌&&◌, ◌||◌, cond, leb, ltb, Option, Some, None, refl, sym, ap, ◌∙◌, subst, arith, length-append, ⊎_elim}
 use Rattle.std.proofs.lemmas.Bool.{false_from_ne_true, or_parts, or_left, or_right, and_right, lt-leb, cases_lt, cases_eq}
 use Rattle.std.proofs.lemmas.Bool.Decides.{nat_tests}
-use Rattle.std.specs.List.{list_any, AllByRecursion}
+use Rattle.std.specs.List.{AllByRecursion}
 use Rattle.snap_tree.specs.declared.row.Row.{Row}
 use Rattle.snap_tree.specs.Trees.{Trees, empty, tree}
 use Rattle.acc_tree.specs.declared.attributes.Attribute.TheVariants as attribute
@@ -10,7 +10,7 @@ use Rattle.acc_tree.specs.Seen.{attr}
 use Rattle.rules_tables.specs.declared.grid.Area.{Area}
 use Rattle.rules_tables.specs.Grid.{Placed, covers, is_covered, width, free_among, first_free, next_placed, placed_cells, placed_rows, grid}
 use Rattle.rules_tables.specs.GridLaws.{IsFirstFree, BeginApart, AllBeginApart, EndThere, AreRuns, LiesWithin, IsWidth}
-use Rattle.rules_tables.specs.Spans.{columns, rows_within, column_span, row_span, span}
+use Rattle.rules_tables.specs.Spans.{columns, rows_within, span}
 use Rattle.rules_tables.specs.TableRows.{TableRow, is_row_group, is_table_row, cells_in, row_count, neighbours, group_rows, table_rows}
 use Rattle.rules_tables.proofs.Counting.{group_length}
 use Rattle.rules_tables.proofs.Freeing.{covered_within}

@@ -1,15 +1,14 @@
 -- A pass that keeps for each column the row from which on it is free places cells as the definition of the
 -- grid does, and notes of them what was asked.
-use Rattle.std.proofs.Common.{◌≡◌, ◌≤◌, ◌+◌, ◌-◌, ◌^◌, ℕ, zero, suc, min, max, List, [], ◌∷◌, length, drop, Bool, true, false, ◌||◌, cond, ltb, Option, Some, None, refl, sym, ap, ◌∙◌, subst, arith}
+use Rattle.std.proofs.Common.{◌≡◌, ◌≤◌, ◌+◌, ◌-◌, ◌^◌, ℕ, suc, min, max, List, [], ◌∷◌, length, drop, Bool, true, false, ◌||◌, cond, ltb, Some, None, refl, sym, ap, ◌∙◌, subst, arith}
 use Rattle.std.proofs.lemmas.Bool.{false≢true, or_right, le-ltb}
 use Rattle.std.proofs.lemmas.Bool.Decides.{nat_tests}
 use Rattle.std.specs.Option.{option_or}
 use Rattle.snap_tree.specs.declared.row.Row.{Row}
 use Rattle.snap_tree.specs.Rows.{has_number}
-use Rattle.rules_tables.specs.declared.grid.Area.{Area}
 use Rattle.rules_tables.specs.Assigned.{is_assigned, place_of}
-use Rattle.rules_tables.specs.Grid.{Placed, width, first_free, area_at, next_placed, placed_cells, placed_rows, grid}
-use Rattle.rules_tables.specs.Survey.{free_from, raised_all, next_area, Question, Noted, nothing_noted, counted, placed_at, within, fitted, after_cell, after_cells, after_row, after_rows}
+use Rattle.rules_tables.specs.Grid.{Placed, width, area_at, next_placed, placed_cells, placed_rows, grid}
+use Rattle.rules_tables.specs.Survey.{free_from, raised_all, next_area, Question, Noted, nothing_noted, counted, within, fitted, after_cell, after_cells, after_row, after_rows}
 use Rattle.rules_tables.specs.TableRows.{TableRow}
 use Rattle.rules_tables.proofs.Freeing.{columns_of, NoneBelow, free_is, columns_more, no_columns, free_within}
 
