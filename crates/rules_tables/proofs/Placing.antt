@@ -75,7 +75,8 @@ fits q s placed p t e ordered begins false short =
         told = λ narrow. record {
           columns_are = ap (λ cs. raised_all cs p.area.left (p.area.right - p.area.left) p.area.bottom) was.columns_are ∙ columns_more p placed ordered begins;
           place_is = ap (λ o. option_or o (cond (has_number q.header.id p.cell) (Some p.area) None)) was.place_is;
-          found_is = ap (λ b. b || is_assigned q.above q.header q.direction (option_or q.known s.place) p) was.found_is ∙ ap (λ o. found_among q placed || is_assigned q.above q.header q.direction (option_or q.known o) p) was.place_is;
+          found_is = ap (λ b. b || is_assigned q.above q.header q.direction (option_or q.known s.place) p) was.found_is
+              ∙ ap (λ o. found_among q placed || is_assigned q.above q.header q.direction (option_or q.known o) p) was.place_is;
         };
       };
       column_is = λ narrow. refl;
@@ -94,7 +95,8 @@ cell_told q s placed row end column cell st none begun = by_wide s.wide refl
         ap (λ c. area_at row end c cell) (ap (λ cs. free_from (drop s.column cs) row s.column) was.columns_are ∙ ap (λ c. free_from (drop c (columns_of placed)) row c) (st.column_is e)
         ∙ free_is row placed none (width placed) column (omega arith))
 
-    by_wide : (b : Bool) → s.wide ≡ b → Stands q (cond b (record s { cells = counted s.cells }) (fitted q (record s { cells = counted s.cells }) cell (within q.most (next_area s.columns row end s.column cell)))) (next ∷ placed) next.area.right
+    by_wide : (b : Bool) → s.wide ≡ b → Stands q (cond b (record s { cells = counted s.cells }) (fitted q (record s { cells = counted s.cells }) cell (within q.most (next_area s.columns row end s.column cell))))
+        (next ∷ placed) next.area.right
     by_wide true e = stays_wide q s placed next st.tells e
     by_wide false e =
         subst (λ a. Stands q (fitted q (record s { cells = counted s.cells }) cell (within q.most a)) (next ∷ placed) next.area.right) (sym (area_is e))
@@ -131,7 +133,8 @@ row_begins q s placed t = record {
 pub rows_told : (q : Question) (s : Noted) (placed : List Placed) (n : ℕ) (rows : List TableRow) → Tells q s placed → NoneBelow n placed → Tells q (after_rows q n s rows) (placed_rows placed n rows)
 rows_told q s placed n [] t none = t
 rows_told q s placed n (row ∷ rows) t none =
-    rows_told q (after_row q n row.end s row.cells) (placed_cells placed n row.end 0 row.cells) (n + 1) rows (cells_told q (record s { column = 0 }) placed n row.end 0 row.cells (row_begins q s placed t) none (omega arith))
+    rows_told q (after_row q n row.end s row.cells) (placed_cells placed n row.end 0 row.cells) (n + 1) rows
+    (cells_told q (record s { column = 0 }) placed n row.end 0 row.cells (row_begins q s placed t) none (omega arith))
     (none_later (placed_cells placed n row.end 0 row.cells) n (none_more placed n row.end 0 row.cells none))
 
 nothing_told : (q : Question) → Tells q nothing_noted []

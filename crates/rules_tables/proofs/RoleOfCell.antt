@@ -36,7 +36,8 @@ no_table word row differ h = other_body word (codes "table") differ row.body h
 group_no_table : (row : Row) → is_row_group row ≡ true → is_html (codes "table") row ≡ false
 group_no_table row h =
     ⊎_elim (λ (x : is_html (codes "tbody") row ≡ true). no_table (codes "tbody") row refl x)
-    (λ y. ⊎_elim (λ (x : is_html (codes "thead") row ≡ true). no_table (codes "thead") row refl x) (λ (x : is_html (codes "tfoot") row ≡ true). no_table (codes "tfoot") row refl x) (or_cases (is_html (codes "thead") row) (is_html (codes "tfoot") row) y))
+    (λ y. ⊎_elim (λ (x : is_html (codes "thead") row ≡ true). no_table (codes "thead") row refl x) (λ (x : is_html (codes "tfoot") row ≡ true). no_table (codes "tfoot") row refl x)
+    (or_cases (is_html (codes "thead") row) (is_html (codes "tfoot") row) y))
     (or_cases (is_html (codes "tbody") row) (is_html (codes "thead") row || is_html (codes "tfoot") row) h)
 
 pub keeps_table : (above : Above) (row : Row) → KeepsTable above row
