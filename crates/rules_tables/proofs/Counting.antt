@@ -14,7 +14,8 @@ pub group_length : (end : ℕ) (t : Trees) → length (group_rows end t) ≡ row
 group_length end empty = refl
 group_length end (tree row kids after) = by_row (is_table_row row) (group_length end after)
   where
-    by_row : (b : Bool) → length (group_rows end after) ≡ row_count after → length (cond b (record { cells = cells_in kids; end = end } ∷ group_rows end after) (group_rows end after)) ≡ cond b (suc (row_count after)) (row_count after)
+    by_row : (b : Bool) → length (group_rows end after) ≡ row_count after → length (cond b (record { cells = cells_in kids; end = end } ∷ group_rows end after) (group_rows end after))
+        ≡ cond b (suc (row_count after)) (row_count after)
     by_row true h = ap suc h
     by_row false h = h
 

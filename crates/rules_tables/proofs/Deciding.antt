@@ -1,27 +1,26 @@
 -- What a pass over a table notes decides what is found of a header.
-use Rattle.std.proofs.Common.{◌≡◌, ◌<◌, ◌≤◌, ◌+◌, ◌*◌, ◌/◌, ◌^◌, ℕ, zero, suc, min, max, List, [], ◌∷◌, ◌++◌, length, filter, Bool, true, false, ◌&&◌, ◌||◌, not, cond, ltb, Option, Some, None, refl, sym, ap, ◌∙◌, subst, arith, inl, inr, ⊎_elim, div-lt_iff_lt-mul, length-append}
+use Rattle.std.proofs.Common.{◌≡◌, ◌<◌, ◌≤◌, ◌*◌, ◌/◌, ◌^◌, ℕ, suc, max, List, [], ◌∷◌, length, filter, Bool, true}
+use Rattle.std.proofs.Common.{false, ◌&&◌, ◌||◌, not, cond, ltb, Option, Some, None, refl, sym, ap, ◌∙◌, arith, ⊎_elim, div-lt_iff_lt-mul}
 use Rattle.std.proofs.lemmas.Bool.{false≢true, or_right, or_left, or_cases, lt-ltb, le-ltb, cases_lt}
 use Rattle.std.specs.List.{list_any}
 use Rattle.std.specs.Option.{option_or}
 use Rattle.snap_tree.specs.declared.row.Row.{Row}
 use Rattle.snap_tree.specs.Rows.{has_number}
-use Rattle.snap_tree.specs.Trees.{Trees, empty, tree, count}
+use Rattle.snap_tree.specs.Trees.{Trees, count}
 use Rattle.acc_tree.specs.declared.above.Above.{Above}
 use Rattle.acc_tree.specs.declared.attributes.Attribute.TheVariants as attribute
 use Rattle.acc_tree.specs.Roles.{role_at}
 use Rattle.acc_tree.specs.Seen.{seen, is_blank_at}
-use Rattle.rule_core.specs.declared.finding.Finding.{Finding}
 use Rattle.rule_core.specs.declared.reason.Reason.TheVariants.{NoCells, LargeGrid}
 use Rattle.rule_core.specs.Findings.{met, failed, cant_tell}
-use Rattle.rules_tables.specs.declared.assigned.Direction.{Direction}
 use Rattle.rules_tables.specs.declared.grid.Area.{Area}
 use Rattle.rules_tables.specs.Assigned.{direction_of, is_led_to, is_named, is_data_role, is_assigned, place_of, assigned}
-use Rattle.rules_tables.specs.Grid.{Placed, width, next_placed, placed_cells, placed_rows, grid, slots}
+use Rattle.rules_tables.specs.Grid.{Placed, width, grid, slots}
 use Rattle.rules_tables.specs.HeaderHasCells.{cells_finding, header_finding, cell_count}
-use Rattle.rules_tables.specs.Survey.{all_row_count, Question, Noted, question, surveyed, found_again}
-use Rattle.rules_tables.specs.TableRows.{TableRow, is_row_group, is_table_row, is_cell, cells_in, row_count, neighbours, group_rows, table_rows}
+use Rattle.rules_tables.specs.Survey.{Question, Noted, question, surveyed, found_again}
+use Rattle.rules_tables.specs.TableRows.{TableRow, table_rows}
 use Rattle.rules_tables.proofs.Counting.{rows_length, rows_placed_length, rows_few, count_seen}
-use Rattle.rules_tables.proofs.Placing.{saturated, found_among, Tells, survey_told}
+use Rattle.rules_tables.proofs.Placing.{found_among, survey_told}
 
 -- ---- the limit
 
@@ -73,7 +72,8 @@ its_still above header None o p e h =
     anyhow (not (has_number header.id p.cell)) (is_blank_at attribute.Headers p.cell) (is_named header p.cell) (is_data_role (role_at above p.cell)) (is_led_to (direction_of header) o p.area) h
 its_still above header (Some a) o p e h = sym (ap (λ place. is_its above header place p) e) ∙ h
 
-found_holds : (above : Above) (header : Row) (most : ℕ) (placed : List Placed) (o : Option Area) → Extends (place_of header.id placed) o → found_among (asked above header None most) placed ≡ true → list_any (is_its above header o) placed ≡ true
+found_holds : (above : Above) (header : Row) (most : ℕ) (placed : List Placed) (o : Option Area) → Extends (place_of header.id placed) o → found_among (asked above header None most) placed ≡ true
+    → list_any (is_its above header o) placed ≡ true
 found_holds above header most [] o e h = h
 found_holds above header most (p ∷ placed) o e h =
     let before = extends_before (place_of header.id placed) (cond (has_number header.id p.cell) (Some p.area) None) o e in
@@ -118,7 +118,8 @@ wide_is_large : (above : Above) (header : Row) (known : Option Area) (t : Trees)
 wide_is_large above header known t =
     (survey_told (question above header known t) (table_rows 0 t)).wide_is ∙ sym (ap (λ n. ltb (100000 / max n 1) (width (the_grid t))) (rows_length 0 t)) ∙ slots_wide (table_rows 0 t)
 
-finding_is : (above : Above) (header : Row) (t : Trees) → ltb 100000 (slots (table_rows 0 t)) ≡ false → header_finding above header (table_rows 0 t) ≡ cond (list_any (is_its above header (place_of header.id (the_grid t))) (the_grid t)) met (failed NoCells)
+finding_is : (above : Above) (header : Row) (t : Trees) → ltb 100000 (slots (table_rows 0 t)) ≡ false → header_finding above header (table_rows 0 t)
+    ≡ cond (list_any (is_its above header (place_of header.id (the_grid t))) (the_grid t)) met (failed NoCells)
 finding_is above header t e =
     ap (λ b. cond b (cant_tell LargeGrid) (cells_finding (assigned above header (the_grid t)))) e ∙ any_found (is_its above header (place_of header.id (the_grid t))) (the_grid t)
 
@@ -134,19 +135,22 @@ first_found above header t s e narrow found =
     let small = not_large above header t s e narrow in
     let was = (survey_told (question above header None t) (table_rows 0 t)).told (wide_is_large above header None t ∙ small) in
     let among : found_among (question above header None t) (the_grid t) ≡ true = sym was.found_is ∙ sym (ap (λ s. s.found) e) ∙ found in
-    sym (finding_is above header t small ∙ ap (λ b. cond b met (failed NoCells)) (found_holds above header (question above header None t).most (the_grid t) (place_of header.id (the_grid t)) (whole (place_of header.id (the_grid t))) among))
+    sym (finding_is above header t small ∙ ap (λ b. cond b met (failed NoCells))
+    (found_holds above header (question above header None t).most (the_grid t) (place_of header.id (the_grid t)) (whole (place_of header.id (the_grid t))) among))
   where
     whole : (o : Option Area) → Extends o o
     whole None = tt
     whole (Some a) = refl
 
-again_is : (above : Above) (header : Row) (t : Trees) (o : Option Area) → ltb 100000 (slots (table_rows 0 t)) ≡ false → place_of header.id (the_grid t) ≡ o → found_among (question above header None t) (the_grid t) ≡ false
+again_is : (above : Above) (header : Row) (t : Trees) (o : Option Area) → ltb 100000 (slots (table_rows 0 t)) ≡ false → place_of header.id (the_grid t) ≡ o → found_among (question above header None t) (the_grid t)
+    ≡ false
     → found_again above header o t ≡ list_any (is_its above header o) (the_grid t)
 again_is above header t None small e h = sym h ∙ found_without above header (question above header None t).most (the_grid t) e
 again_is above header t (Some a) small e h =
     ((survey_told (question above header (Some a) t) (table_rows 0 t)).told (wide_is_large above header (Some a) t ∙ small)).found_is ∙ found_with above header (question above header None t).most a (the_grid t)
 
-pub second_found : (above : Above) (header : Row) (t : Trees) (s : Noted) (found : Bool) → s ≡ first_pass above header t → s.wide ≡ false → s.found ≡ false → found ≡ found_again above header s.place t → cond found met (failed NoCells) ≡ header_finding above header (table_rows 0 t)
+pub second_found : (above : Above) (header : Row) (t : Trees) (s : Noted) (found : Bool) → s ≡ first_pass above header t → s.wide ≡ false → s.found ≡ false → found ≡ found_again above header s.place t
+    → cond found met (failed NoCells) ≡ header_finding above header (table_rows 0 t)
 second_found above header t s found e narrow none again =
     let small = not_large above header t s e narrow in
     let was = (survey_told (question above header None t) (table_rows 0 t)).told (wide_is_large above header None t ∙ small) in

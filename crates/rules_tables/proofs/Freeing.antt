@@ -1,10 +1,10 @@
 -- For each column the row from which on it is free: this tells which slots are covered.
-use Rattle.std.proofs.Common.{◌≡◌, ◌<◌, ◌≤◌, ◌+◌, ◌-◌, ℕ, zero, suc, max, List, [], ◌∷◌, ◌++◌, map, length, drop, get_or, set, Bool, true, false, ◌&&◌, ◌||◌, cond, leb, ltb, refl, sym, ap, ◌∙◌, arith, inl, inr, ⊎_elim}
+use Rattle.std.proofs.Common.{◌≡◌, ◌<◌, ◌≤◌, ◌+◌, ◌-◌, ℕ, zero, suc, max, List, [], ◌∷◌, ◌++◌, map, length, drop, get_or, set, Bool, true, false, ◌&&◌, ◌||◌, cond, leb, ltb, refl, sym, ap, ◌∙◌, arith, ⊎_elim}
 use Rattle.std.proofs.lemmas.Bool.{ltb-true, ltb-false, le-ltb, cases_eq, and_parts}
 use Rattle.std.proofs.lemmas.Bool.Decides.{nat_tests}
 use Rattle.std.proofs.lemmas.List.{drop_all, drop_more, ext_get_or, get_or-set_same, get_or-set_other, get_or_push, get_or_append_left, length-set, length_push}
 use Rattle.std.proofs.lemmas.List.FromFn.{length-map-range_with_len, get_or-map-range_with_len}
-use Rattle.std.specs.List.{range_with_len, list_any}
+use Rattle.std.specs.List.{range_with_len}
 use Rattle.rules_tables.specs.declared.grid.Area.{Area}
 use Rattle.rules_tables.specs.Grid.{Placed, covers, is_covered, width, free_among}
 use Rattle.rules_tables.specs.Survey.{free_from, raised, raised_all}
@@ -81,7 +81,8 @@ free_is row placed none (suc tries) k h = by_width (ltb k (width placed)) refl (
     by_width : (b : Bool) → ltb k (width placed) ≡ b → free_from (drop (k + 1) (listed (free_at placed) (width placed))) row (k + 1) ≡ free_among tries placed row (k + 1)
         → free_from (drop k (listed (free_at placed) (width placed))) row k ≡ cond (is_covered placed row k) (free_among tries placed row (k + 1)) k
     by_width true e later =
-        free_step row k (free_at placed k) (drop (k + 1) (listed (free_at placed) (width placed))) (drop k (listed (free_at placed) (width placed))) (listed_more (free_at placed) (width placed) k (ltb-true k (width placed) e))
+        free_step row k (free_at placed k) (drop (k + 1) (listed (free_at placed) (width placed))) (drop k (listed (free_at placed) (width placed)))
+        (listed_more (free_at placed) (width placed) k (ltb-true k (width placed) e))
         ∙ ap (λ b. cond b (free_from (drop (k + 1) (listed (free_at placed) (width placed))) row (k + 1)) k) (sym (covered_is row placed none k))
         ∙ ap (λ m. cond (is_covered placed row k) m k) later
     by_width false e later =
@@ -159,7 +160,8 @@ not_begun p placed h =
     listed_is (free_at (as_far p p.area.left ∷ placed)) (max p.area.left (width placed)) (listed (free_at placed) (width placed)) (omega arith)
     (λ k within. get_or-map-range_with_len (free_at placed) 0 (width placed) k k 0 (omega arith) (omega arith) ∙ no_column p.area.left k (max p.area.bottom (free_at placed k)) (free_at placed k))
 
-pub columns_more : (p : Placed) (placed : List Placed) → p.area.left ≤ p.area.right → p.area.left ≤ width placed → raised_all (columns_of placed) p.area.left (p.area.right - p.area.left) p.area.bottom ≡ columns_of (p ∷ placed)
+pub columns_more : (p : Placed) (placed : List Placed) → p.area.left ≤ p.area.right → p.area.left ≤ width placed → raised_all (columns_of placed) p.area.left (p.area.right - p.area.left) p.area.bottom
+    ≡ columns_of (p ∷ placed)
 columns_more p placed h k =
     let e : p.area.left + (p.area.right - p.area.left) ≡ p.area.right = omega arith in
     ap (λ cs. raised_all cs p.area.left (p.area.right - p.area.left) p.area.bottom) (not_begun p placed k)

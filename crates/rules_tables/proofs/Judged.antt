@@ -1,5 +1,5 @@
 -- A target has a table, and so a verdict.
-use Rattle.std.proofs.Common.{◌≡◌, ◌&&◌, not, codes, Bool, true, false, cond, Option, Some, None, option_map, option_and_then, refl, sym, ap, ◌∙◌, inl, inr, ⊎_elim}
+use Rattle.std.proofs.Common.{◌≡◌, ◌&&◌, not, codes, Bool, true, false, cond, Option, Some, None, option_map, option_and_then, refl, sym, ap, ◌∙◌, inl, inr}
 use Rattle.std.proofs.lemmas.Bool.{false≢true, and_parts, or_right}
 use Rattle.std.specs.Option.{is_some, option_map_or}
 use Rattle.snap_tree.specs.declared.row.NodeId.{NodeId}
@@ -16,17 +16,17 @@ use Rattle.acc_tree.specs.Roles.{role_at}
 use Rattle.acc_tree.specs.Seen.{has, seen, is_blank_at}
 use Rattle.acc_tree.specs.Sights.{Sight, sight_of}
 use Rattle.rule_core.specs.declared.verdict.Verdict.{Verdict}
-use Rattle.rule_sights.specs.Nodes.{if_row, sight_where}
+use Rattle.rule_sights.specs.Nodes.{if_row}
 use Rattle.rules_tables.specs.HeaderHasCells.{is_header_role, is_header_target, header_verdict}
 use Rattle.rules_tables.specs.HeadersReferToCells.{is_headers_target, headers_verdict}
 use Rattle.rules_tables.specs.TableRows.{is_cell}
 use Rattle.rules_tables.specs.Tables.{in_table, below, below_table, is_table_role}
 use Rattle.rules_tables.specs.TargetLaws.{JudgesHeaders, JudgesReferences}
-use Rattle.rules_tables.proofs.Nearest.{table_number}
 use Rattle.rules_tables.proofs.Referring.{Stands, stands, apart_seen}
 
 -- a cell in a table has something below its table
-table_there : (t : Trees) (s : Sight) (o : Option TableAbove) → s.above.table ≡ o → option_map_or (λ (x : TableAbove). is_table_role x.role) o false ≡ true → Stands nothing_above t s → is_some (option_and_then (λ (x : TableAbove). below t x.node) o) ≡ true
+table_there : (t : Trees) (s : Sight) (o : Option TableAbove) → s.above.table ≡ o → option_map_or (λ (x : TableAbove). is_table_role x.role) o false ≡ true → Stands nothing_above t s
+    → is_some (option_and_then (λ (x : TableAbove). below t x.node) o) ≡ true
 table_there t s None e in_one at = absurd (false≢true in_one)
 table_there t s (Some x) e in_one (inl free) = let no : None ≡ Some x = sym free.same_table ∙ e in cc
 table_there t s (Some x) e in_one (inr at) =
@@ -55,11 +55,13 @@ judged_at t says target told tabled s at = by_target (target s.above s.row) refl
 judged : (t : Trees) (n : NodeId) (passes : Row → Bool) (says : Above → Row → Trees → Option Verdict) (target : Above → Row → Bool) → AreApart (rows_of t)
     → ((above : Above) (row : Row) (table : Trees) → is_some (says above row table) ≡ target above row) → ((above : Above) (row : Row) → target above row ≡ true → in_table above ≡ true)
     → ((above : Above) (row : Row) → passes row ≡ true → target above row ≡ true → is_cell row ≡ true) → (o : Option Sight) → sight_of t n ≡ o
-    → is_some (option_and_then (λ (s : Sight). option_and_then (says s.above s.row) (below_table t s.above)) (option_and_then (if_row passes) o)) ≡ option_map_or (λ (s : Sight). target s.above s.row) (option_and_then (if_row passes) o) false
+    → is_some (option_and_then (λ (s : Sight). option_and_then (says s.above s.row) (below_table t s.above)) (option_and_then (if_row passes) o))
+    ≡ option_map_or (λ (s : Sight). target s.above s.row) (option_and_then (if_row passes) o) false
 judged t n passes says target apart told tabled cells None e = refl
 judged t n passes says target apart told tabled cells (Some s) e = by_test (passes s.row) refl
   where
-    by_test : (b : Bool) → passes s.row ≡ b → is_some (option_and_then (λ (s : Sight). option_and_then (says s.above s.row) (below_table t s.above)) (cond b (Some s) None)) ≡ option_map_or (λ (s : Sight). target s.above s.row) (cond b (Some s) None) false
+    by_test : (b : Bool) → passes s.row ≡ b → is_some (option_and_then (λ (s : Sight). option_and_then (says s.above s.row) (below_table t s.above)) (cond b (Some s) None))
+        ≡ option_map_or (λ (s : Sight). target s.above s.row) (cond b (Some s) None) false
     by_test true p = judged_at t says target told tabled s (λ h. stands n nothing_above t apart s e (cells s.above s.row p h))
     by_test false p = refl
 
@@ -70,11 +72,13 @@ verdict_some false v = refl
 pub judges_headers : (page : Document) (n : NodeId) → JudgesHeaders page n
 judges_headers page n well =
     judged (seen page.trees) n (is_html (codes "th")) header_verdict is_header_target (apart_seen page.trees well.apart) (λ above row table. verdict_some (is_header_target above row) _)
-    (λ above row h. (and_parts (in_table above) (included above row) (and_parts (is_header_role (role_at above row)) (in_table above && included above row) h).1).0) (λ above row p h. or_right (is_html (codes "td") row) (is_html (codes "th") row) p)
+    (λ above row h. (and_parts (in_table above) (included above row) (and_parts (is_header_role (role_at above row)) (in_table above && included above row) h).1).0)
+    (λ above row p h. or_right (is_html (codes "td") row) (is_html (codes "th") row) p)
     (sight_of (seen page.trees) n) refl
 
 pub judges_references : (page : Document) (n : NodeId) → JudgesReferences page n
 judges_references page n well =
     judged (seen page.trees) n (has attribute.Headers) headers_verdict is_headers_target (apart_seen page.trees well.apart) (λ above row table. verdict_some (is_headers_target above row) _)
     (λ above row h. (and_parts (in_table above) (exposed above row) (and_parts (is_cell row && not (is_blank_at attribute.Headers row)) (in_table above && exposed above row) h).1).0)
-    (λ above row p h. (and_parts (is_cell row) (not (is_blank_at attribute.Headers row)) (and_parts (is_cell row && not (is_blank_at attribute.Headers row)) (in_table above && exposed above row) h).0).0) (sight_of (seen page.trees) n) refl
+    (λ above row p h. (and_parts (is_cell row) (not (is_blank_at attribute.Headers row)) (and_parts (is_cell row && not (is_blank_at attribute.Headers row)) (in_table above && exposed above row) h).0).0)
+    (sight_of (seen page.trees) n) refl

@@ -1,8 +1,9 @@
 -- The laws of grids.
-use Rattle.std.proofs.Common.{◌≡◌, ◌<◌, ◌≤◌, ◌+◌, ◌-◌, ℕ, zero, suc, min, max, List, [], ◌∷◌, ◌++◌, length, slice_get, Bool, true, false, ◌&&◌, ◌||◌, cond, leb, ltb, Option, Some, None, refl, sym, ap, ◌∙◌, subst, arith, length-append, inl, inr, ⊎_elim}
+use Rattle.std.proofs.Common.{◌≡◌, ◌<◌, ◌≤◌, ◌+◌, ◌-◌, ℕ, zero, suc, max, List, [], ◌∷◌, ◌++◌, length, slice_get, Bool, true}
+use Rattle.std.proofs.Common.{false, ◌&&◌, ◌||◌, cond, leb, ltb, Option, Some, None, refl, sym, ap, ◌∙◌, subst, arith, length-append, ⊎_elim}
 use Rattle.std.proofs.lemmas.Bool.{false_from_ne_true, or_parts, or_left, or_right, and_right, lt-leb, cases_lt, cases_eq}
 use Rattle.std.proofs.lemmas.Bool.Decides.{nat_tests}
-use Rattle.std.specs.List.{list_any, AllByRecursion}
+use Rattle.std.specs.List.{AllByRecursion}
 use Rattle.snap_tree.specs.declared.row.Row.{Row}
 use Rattle.snap_tree.specs.Trees.{Trees, empty, tree}
 use Rattle.acc_tree.specs.declared.attributes.Attribute.TheVariants as attribute
@@ -10,7 +11,7 @@ use Rattle.acc_tree.specs.Seen.{attr}
 use Rattle.rules_tables.specs.declared.grid.Area.{Area}
 use Rattle.rules_tables.specs.Grid.{Placed, covers, is_covered, width, free_among, first_free, next_placed, placed_cells, placed_rows, grid}
 use Rattle.rules_tables.specs.GridLaws.{IsFirstFree, BeginApart, AllBeginApart, EndThere, AreRuns, LiesWithin, IsWidth}
-use Rattle.rules_tables.specs.Spans.{columns, rows_within, column_span, row_span, span}
+use Rattle.rules_tables.specs.Spans.{columns, rows_within, span}
 use Rattle.rules_tables.specs.TableRows.{TableRow, is_row_group, is_table_row, cells_in, row_count, neighbours, group_rows, table_rows}
 use Rattle.rules_tables.proofs.Counting.{group_length}
 use Rattle.rules_tables.proofs.Freeing.{covered_within}
@@ -73,7 +74,8 @@ group_there : (n end : ℕ) (t : Trees) (rows : List TableRow) → n + row_count
 group_there n end empty rows h = there_past n end rows (omega arith)
 group_there n end (tree row kids after) rows h = by_row (is_table_row row) h (group_there (n + 1) end after rows) (group_there n end after rows)
   where
-    by_row : (b : Bool) → n + cond b (suc (row_count after)) (row_count after) ≡ end → (n + 1 + row_count after ≡ end → EndThere (n + 1) end (group_rows end after ++ rows)) → (n + row_count after ≡ end → EndThere n end (group_rows end after ++ rows))
+    by_row : (b : Bool) → n + cond b (suc (row_count after)) (row_count after) ≡ end → (n + 1 + row_count after ≡ end → EndThere (n + 1) end (group_rows end after ++ rows))
+        → (n + row_count after ≡ end → EndThere n end (group_rows end after ++ rows))
         → EndThere n end (cond b (record { cells = cells_in kids; end = end } ∷ group_rows end after) (group_rows end after) ++ rows)
     by_row true h first later = (λ less. refl, first (omega arith))
     by_row false h first later = later h
@@ -82,7 +84,8 @@ group_runs : (n end : ℕ) (t : Trees) (rows : List TableRow) → n + row_count 
 group_runs n end empty rows h runs = let e : end ≡ n = omega arith in subst (λ m. AreRuns m rows) e runs
 group_runs n end (tree row kids after) rows h runs = by_row (is_table_row row) h (λ e. group_there (n + 1) end after rows e) (λ e. group_runs (n + 1) end after rows e runs) (λ e. group_runs n end after rows e runs)
   where
-    by_row : (b : Bool) → n + cond b (suc (row_count after)) (row_count after) ≡ end → (n + 1 + row_count after ≡ end → EndThere (n + 1) end (group_rows end after ++ rows)) → (n + 1 + row_count after ≡ end → AreRuns (n + 1) (group_rows end after ++ rows))
+    by_row : (b : Bool) → n + cond b (suc (row_count after)) (row_count after) ≡ end → (n + 1 + row_count after ≡ end → EndThere (n + 1) end (group_rows end after ++ rows))
+        → (n + 1 + row_count after ≡ end → AreRuns (n + 1) (group_rows end after ++ rows))
         → (n + row_count after ≡ end → AreRuns n (group_rows end after ++ rows)) → AreRuns n (cond b (record { cells = cells_in kids; end = end } ∷ group_rows end after) (group_rows end after) ++ rows)
     by_row true h there first later =
         let size = length-append (group_rows end after) rows in
@@ -108,7 +111,8 @@ neighbours_few n (tree row kids after) = by_row (is_row_group row) (is_table_row
   where
     by_row : (a b : Bool) → neighbours after ≤ length (table_rows (n + 1) after) → neighbours after ≤ length (table_rows n after)
         → cond a 0 (cond b (suc (neighbours after)) (neighbours after))
-        ≤ length (cond a (group_rows (n + row_count kids) kids ++ table_rows (n + row_count kids) after) (cond b (record { cells = cells_in kids; end = n + 1 + neighbours after } ∷ table_rows (n + 1) after) (table_rows n after)))
+        ≤ length (cond a (group_rows (n + row_count kids) kids ++ table_rows (n + row_count kids) after)
+        (cond b (record { cells = cells_in kids; end = n + 1 + neighbours after } ∷ table_rows (n + 1) after) (table_rows n after)))
     by_row true b first later = omega arith
     by_row false true first later = omega arith
     by_row false false first later = later
@@ -120,7 +124,8 @@ table_runs n (tree row kids after) = by_row (is_row_group row) (is_table_row row
     first : TableRow
     first = record { cells = cells_in kids; end = n + 1 + neighbours after }
 
-    by_row : (a b : Bool) → ((m : ℕ) → AreRuns m (table_rows m after)) → AreRuns n (cond a (group_rows (n + row_count kids) kids ++ table_rows (n + row_count kids) after) (cond b (first ∷ table_rows (n + 1) after) (table_rows n after)))
+    by_row : (a b : Bool) → ((m : ℕ) → AreRuns m (table_rows m after))
+        → AreRuns n (cond a (group_rows (n + row_count kids) kids ++ table_rows (n + row_count kids) after) (cond b (first ∷ table_rows (n + 1) after) (table_rows n after)))
     by_row true b later = group_runs n (n + row_count kids) kids (table_rows (n + row_count kids) after) refl (later (n + row_count kids))
     by_row false true later =
         let few = neighbours_few (n + 1) after in (record { before = omega arith; within = omega arith; same = next_there (n + 1) after }, later (n + 1))
@@ -182,7 +187,11 @@ laid_cell rows placed row from r cell is within laid = record {
         let h = free.not_before in record { begun = l.begun; ended = λ e. let k = l.ended e in omega arith; lies = l.lies }
 
     apart : (q : Placed) → IsLaid rows row from q → covers q.area row (first_free placed row from) ≡ false → BeginApart (next_placed placed row r.end from cell) q
-    apart q l e = record { first_free = e; second_free = not_back (next_placed placed row r.end from cell).area q.area l.begun (λ same. let k = l.ended same in let h = free.not_before in let c = l.lies.has_column in omega arith) }
+    apart q l e = record {
+      first_free = e;
+      second_free = not_back (next_placed placed row r.end from cell).area q.area l.begun
+          (λ same. let k = l.ended same in let h = free.not_before in let c = l.lies.has_column in omega arith);
+    }
 
 laid_cells : (rows : List TableRow) (placed : List Placed) (row from : ℕ) (r : TableRow) (cells : List Row) → slice_get rows row ≡ Some r → row < r.end → AreLaid rows row from placed
     → (to : ℕ) × AreLaid rows row to (placed_cells placed row r.end from cells)
@@ -230,7 +239,8 @@ covers_last a h k = grind (arith, nat_tests)
 
 is_reached : (rows : List TableRow) (placed : List Placed) → AllByRecursion (λ p. LiesWithin rows p.area) placed → 0 < width placed → (row : ℕ) × (is_covered placed row (width placed - 1) ≡ true)
 is_reached rows [] h some = absurd (omega arith)
-is_reached rows (p ∷ placed) h some = ⊎_elim (λ (less : p.area.right < width placed). later less (is_reached rows placed h.1 (omega arith))) (λ (more : width placed ≤ p.area.right). here more) (cases_lt p.area.right (width placed))
+is_reached rows (p ∷ placed) h some = ⊎_elim (λ (less : p.area.right < width placed). later less (is_reached rows placed h.1 (omega arith))) (λ (more : width placed ≤ p.area.right). here more)
+    (cases_lt p.area.right (width placed))
   where
     later : p.area.right < width placed → (row : ℕ) × (is_covered placed row (width placed - 1) ≡ true) → (row : ℕ) × (is_covered (p ∷ placed) row (width (p ∷ placed) - 1) ≡ true)
     later less rest =
@@ -239,8 +249,11 @@ is_reached rows (p ∷ placed) h some = ⊎_elim (λ (less : p.area.right < widt
 
     here : width placed ≤ p.area.right → (row : ℕ) × (is_covered (p ∷ placed) row (width (p ∷ placed) - 1) ≡ true)
     here more =
-        let e : max p.area.right (width placed) - 1 ≡ p.area.right - 1 = omega arith in
-        (p.area.top, ap (λ k. covers p.area p.area.top k || is_covered placed p.area.top k) e ∙ or_left (covers p.area p.area.top (p.area.right - 1)) (is_covered placed p.area.top (p.area.right - 1)) (covers_last p.area h.0.has_row h.0.has_column))
+        let e : max p.area.right (width placed) - 1 ≡ p.area.right - 1 = omega arith in (
+          p.area.top,
+          ap (λ k. covers p.area p.area.top k || is_covered placed p.area.top k) e
+              ∙ or_left (covers p.area p.area.top (p.area.right - 1)) (is_covered placed p.area.top (p.area.right - 1)) (covers_last p.area h.0.has_row h.0.has_column),
+        )
 
 pub width_is : (t : Trees) → IsWidth (grid (table_rows 0 t))
 width_is t = record {

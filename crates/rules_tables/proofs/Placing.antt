@@ -1,15 +1,14 @@
 -- A pass that keeps for each column the row from which on it is free places cells as the definition of the
 -- grid does, and notes of them what was asked.
-use Rattle.std.proofs.Common.{◌≡◌, ◌≤◌, ◌+◌, ◌-◌, ◌^◌, ℕ, zero, suc, min, max, List, [], ◌∷◌, length, drop, Bool, true, false, ◌||◌, cond, ltb, Option, Some, None, refl, sym, ap, ◌∙◌, subst, arith}
+use Rattle.std.proofs.Common.{◌≡◌, ◌≤◌, ◌+◌, ◌-◌, ◌^◌, ℕ, suc, min, max, List, [], ◌∷◌, length, drop, Bool, true, false, ◌||◌, cond, ltb, Some, None, refl, sym, ap, ◌∙◌, subst, arith}
 use Rattle.std.proofs.lemmas.Bool.{false≢true, or_right, le-ltb}
 use Rattle.std.proofs.lemmas.Bool.Decides.{nat_tests}
 use Rattle.std.specs.Option.{option_or}
 use Rattle.snap_tree.specs.declared.row.Row.{Row}
 use Rattle.snap_tree.specs.Rows.{has_number}
-use Rattle.rules_tables.specs.declared.grid.Area.{Area}
 use Rattle.rules_tables.specs.Assigned.{is_assigned, place_of}
-use Rattle.rules_tables.specs.Grid.{Placed, width, first_free, area_at, next_placed, placed_cells, placed_rows, grid}
-use Rattle.rules_tables.specs.Survey.{free_from, raised_all, next_area, Question, Noted, nothing_noted, counted, placed_at, within, fitted, after_cell, after_cells, after_row, after_rows}
+use Rattle.rules_tables.specs.Grid.{Placed, width, area_at, next_placed, placed_cells, placed_rows, grid}
+use Rattle.rules_tables.specs.Survey.{free_from, raised_all, next_area, Question, Noted, nothing_noted, counted, within, fitted, after_cell, after_cells, after_row, after_rows}
 use Rattle.rules_tables.specs.TableRows.{TableRow}
 use Rattle.rules_tables.proofs.Freeing.{columns_of, NoneBelow, free_is, columns_more, no_columns, free_within}
 
@@ -76,7 +75,8 @@ fits q s placed p t e ordered begins false short =
         told = λ narrow. record {
           columns_are = ap (λ cs. raised_all cs p.area.left (p.area.right - p.area.left) p.area.bottom) was.columns_are ∙ columns_more p placed ordered begins;
           place_is = ap (λ o. option_or o (cond (has_number q.header.id p.cell) (Some p.area) None)) was.place_is;
-          found_is = ap (λ b. b || is_assigned q.above q.header q.direction (option_or q.known s.place) p) was.found_is ∙ ap (λ o. found_among q placed || is_assigned q.above q.header q.direction (option_or q.known o) p) was.place_is;
+          found_is = ap (λ b. b || is_assigned q.above q.header q.direction (option_or q.known s.place) p) was.found_is
+              ∙ ap (λ o. found_among q placed || is_assigned q.above q.header q.direction (option_or q.known o) p) was.place_is;
         };
       };
       column_is = λ narrow. refl;
@@ -95,7 +95,8 @@ cell_told q s placed row end column cell st none begun = by_wide s.wide refl
         ap (λ c. area_at row end c cell) (ap (λ cs. free_from (drop s.column cs) row s.column) was.columns_are ∙ ap (λ c. free_from (drop c (columns_of placed)) row c) (st.column_is e)
         ∙ free_is row placed none (width placed) column (omega arith))
 
-    by_wide : (b : Bool) → s.wide ≡ b → Stands q (cond b (record s { cells = counted s.cells }) (fitted q (record s { cells = counted s.cells }) cell (within q.most (next_area s.columns row end s.column cell)))) (next ∷ placed) next.area.right
+    by_wide : (b : Bool) → s.wide ≡ b → Stands q (cond b (record s { cells = counted s.cells }) (fitted q (record s { cells = counted s.cells }) cell (within q.most (next_area s.columns row end s.column cell))))
+        (next ∷ placed) next.area.right
     by_wide true e = stays_wide q s placed next st.tells e
     by_wide false e =
         subst (λ a. Stands q (fitted q (record s { cells = counted s.cells }) cell (within q.most a)) (next ∷ placed) next.area.right) (sym (area_is e))
@@ -132,7 +133,8 @@ row_begins q s placed t = record {
 pub rows_told : (q : Question) (s : Noted) (placed : List Placed) (n : ℕ) (rows : List TableRow) → Tells q s placed → NoneBelow n placed → Tells q (after_rows q n s rows) (placed_rows placed n rows)
 rows_told q s placed n [] t none = t
 rows_told q s placed n (row ∷ rows) t none =
-    rows_told q (after_row q n row.end s row.cells) (placed_cells placed n row.end 0 row.cells) (n + 1) rows (cells_told q (record s { column = 0 }) placed n row.end 0 row.cells (row_begins q s placed t) none (omega arith))
+    rows_told q (after_row q n row.end s row.cells) (placed_cells placed n row.end 0 row.cells) (n + 1) rows
+    (cells_told q (record s { column = 0 }) placed n row.end 0 row.cells (row_begins q s placed t) none (omega arith))
     (none_later (placed_cells placed n row.end 0 row.cells) n (none_more placed n row.end 0 row.cells none))
 
 nothing_told : (q : Question) → Tells q nothing_noted []

@@ -1,7 +1,7 @@
 -- A word that refers to a cell: an element has it as its id, and stands in the table.
-use Rattle.std.proofs.Common.{◌≡◌, ◌==◌, ℕ, suc, List, [], ◌∷◌, ◌++◌, map, length, Bool, true, false, not, ◌&&◌, ◌||◌, cond, codes, Option, Some, None, IfSome, IsTrue, option_map, refl, sym, ap, ◌∙◌, subst, arith, inl, inr, ◌⊎◌, ⊎_elim}
-use Rattle.std.proofs.lemmas.Bool.{false≢true, or_parts, or_from, or_right, or_left, eqb-true, ne_eqb}
-use Rattle.std.proofs.lemmas.Bool.Decides.{nat_tests}
+use Rattle.std.proofs.Common.{◌≡◌, ◌==◌, ℕ, suc, List, [], ◌∷◌, ◌++◌, map, length, Bool, true, false, not, ◌&&◌, ◌||◌, cond}
+use Rattle.std.proofs.Common.{codes, Option, Some, None, IfSome, IsTrue, option_map, refl, sym, ap, ◌∙◌, subst, arith, inl, inr, ◌⊎◌}
+use Rattle.std.proofs.lemmas.Bool.{false≢true, or_parts, or_right, or_left, eqb-true, ne_eqb}
 use Rattle.std.proofs.lemmas.List.Folds.{list_any-append}
 use Rattle.std.specs.List.{list_any, find}
 use Rattle.std.specs.Option.{option_or}
@@ -11,7 +11,7 @@ use Rattle.snap_tree.specs.declared.row.Row.{Row}
 use Rattle.snap_tree.specs.Grown.{is_number}
 use Rattle.snap_tree.specs.Labels.{filled, id_of, first_with_id}
 use Rattle.snap_tree.specs.Rows.{has_number, is_html, is_key}
-use Rattle.snap_tree.specs.Spots.{Spot, spot}
+use Rattle.snap_tree.specs.Spots.{spot}
 use Rattle.snap_tree.specs.Trees.{Trees, empty, tree, rows_of}
 use Rattle.snap_tree.specs.Well.{AreApart}
 use Rattle.snap_tree.proofs.Climbing.{apart_append, later_number, same_id}
@@ -20,7 +20,6 @@ use Rattle.acc_tree.specs.declared.above.TableAbove.{TableAbove}
 use Rattle.acc_tree.specs.declared.attributes.Attribute.TheVariants as attribute
 use Rattle.acc_tree.specs.Attributes.{attribute_name}
 use Rattle.acc_tree.specs.Frames.{under, nothing_above}
-use Rattle.acc_tree.specs.Roles.{role_at}
 use Rattle.acc_tree.specs.Seen.{seen_row, seen, attr}
 use Rattle.acc_tree.specs.Sights.{Sight, sight_in, sight_of, IsClimbed, above_children, summed, seen_spot}
 use Rattle.acc_tree.proofs.Finding.{id_found, rows_seen}
@@ -118,12 +117,15 @@ in_first n xs ys h = list_any-append (has_number n) xs ys ∙ or_left (list_any 
 in_second : (n : NodeId) (xs ys : List Row) → list_any (has_number n) ys ≡ true → list_any (has_number n) (xs ++ ys) ≡ true
 in_second n xs ys h = list_any-append (has_number n) xs ys ∙ or_right (list_any (has_number n) xs) (list_any (has_number n) ys) h
 
-found_below : (above : Above) (row : Row) (kids after : Trees) (s : Sight) → AreApart (row ∷ (rows_of kids ++ rows_of after)) → sight_in s.row.id (under above row) kids ≡ Some s → sight_in s.row.id above (tree row kids after) ≡ Some s
+found_below : (above : Above) (row : Row) (kids after : Trees) (s : Sight) → AreApart (row ∷ (rows_of kids ++ rows_of after)) → sight_in s.row.id (under above row) kids ≡ Some s
+    → sight_in s.row.id above (tree row kids after) ≡ Some s
 found_below above row kids after s apart h =
     let other = not_root s.row.id row (rows_of kids ++ rows_of after) apart (in_first s.row.id (rows_of kids) (rows_of after) (sight_any s.row.id (under above row) kids s h)) in
-    ap (λ b. cond b (Some (record { row = row; below = kids; above = above })) (option_or (sight_in s.row.id (under above row) kids) (sight_in s.row.id above after))) other ∙ ap (λ o. option_or o (sight_in s.row.id above after)) h
+    ap (λ b. cond b (Some (record { row = row; below = kids; above = above })) (option_or (sight_in s.row.id (under above row) kids) (sight_in s.row.id above after))) other
+    ∙ ap (λ o. option_or o (sight_in s.row.id above after)) h
 
-found_after : (above : Above) (row : Row) (kids after : Trees) (s : Sight) → AreApart (row ∷ (rows_of kids ++ rows_of after)) → sight_in s.row.id above after ≡ Some s → sight_in s.row.id above (tree row kids after) ≡ Some s
+found_after : (above : Above) (row : Row) (kids after : Trees) (s : Sight) → AreApart (row ∷ (rows_of kids ++ rows_of after)) → sight_in s.row.id above after ≡ Some s → sight_in s.row.id above (tree row kids after)
+    ≡ Some s
 found_after above row kids after s apart h =
     let there = sight_any s.row.id above after s h in
     let other = not_root s.row.id row (rows_of kids ++ rows_of after) apart (in_second s.row.id (rows_of kids) (rows_of after) there) in
@@ -140,7 +142,8 @@ stands_root above row kids after s e c =
     let free : StandsFree above (tree row kids after) (record { row = row; below = kids; above = above }) = record { same_table = refl; has = has_root row kids after cell } in
     inl (subst (StandsFree above (tree row kids after)) e free)
 
-stands_below : (above : Above) (row : Row) (kids after : Trees) (s : Sight) → AreApart (row ∷ (rows_of kids ++ rows_of after)) → (b : Bool) → is_html (codes "table") row ≡ b → Stands (under above row) kids s → Stands above (tree row kids after) s
+stands_below : (above : Above) (row : Row) (kids after : Trees) (s : Sight) → AreApart (row ∷ (rows_of kids ++ rows_of after)) → (b : Bool) → is_html (codes "table") row ≡ b → Stands (under above row) kids s
+    → Stands above (tree row kids after) s
 stands_below above row kids after s apart b e (inr in_one) =
     inr (record { table = in_one.table; number_is = in_one.number_is; found = found_below above row kids after in_one.table apart in_one.found; has = in_one.has })
 stands_below above row kids after s apart true e (inl free) =
@@ -165,7 +168,8 @@ stands m above (tree row kids after) apart s h c =
     by_number (has_number m row) (sight_in m (under above row) kids) refl h (λ x e. stands m (under above row) kids parts.0 x e) (λ e. stands m above after parts.1 s e c)
   where
     by_number : (b : Bool) (o : Option Sight) → sight_in m (under above row) kids ≡ o → cond b (Some (record { row = row; below = kids; above = above })) (option_or o (sight_in m above after)) ≡ Some s
-        → ((x : Sight) → sight_in m (under above row) kids ≡ Some x → is_cell x.row ≡ true → Stands (under above row) kids x) → (sight_in m above after ≡ Some s → Stands above after s) → Stands above (tree row kids after) s
+        → ((x : Sight) → sight_in m (under above row) kids ≡ Some x → is_cell x.row ≡ true → Stands (under above row) kids x) → (sight_in m above after ≡ Some s → Stands above after s)
+        → Stands above (tree row kids after) s
     by_number true o e h first later =
         let is : record { row = row; below = kids; above = above } ≡ s = cc in stands_root above row kids after s is c
     by_number false (Some x) e h first later =
@@ -201,7 +205,8 @@ has_it t table n id s named number (inr in_one) =
     let inside : below t table ≡ Some in_one.table.below = ap (option_map (λ (s : Sight). s.below)) there in
     subst (λ o. IfSome o (λ b. IsTrue (refers_inside b n id))) (sym inside) (in_one.has (is_other_named n id) named)
 
-pub cell_found : (t : Trees) → IsClimbed t → AreApart (rows_of t) → (table n m : NodeId) (id : List ℕ) (row : Row) → Some row ≡ option_map (λ s. s.row) (spot t m) → is_cell (seen_row row) ≡ true → is_other_named n id (seen_row row) ≡ true
+pub cell_found : (t : Trees) → IsClimbed t → AreApart (rows_of t) → (table n m : NodeId) (id : List ℕ) (row : Row) → Some row ≡ option_map (λ s. s.row) (spot t m) → is_cell (seen_row row) ≡ true
+    → is_other_named n id (seen_row row) ≡ true
     → is_number (table_number (above_children (seen t) row.parent)) table ≡ true → IsCellOf (seen t) table n id
 cell_found t climbed apart table n m id row is cell named number =
     let at = spotted t climbed m row is in
@@ -234,8 +239,10 @@ below_fails p n above (tree row kids after) s h fails =
     let parts = or_parts (list_any p (rows_of kids)) (list_any p (rows_of after)) (sym (list_any-append p (rows_of kids) (rows_of after)) ∙ rest) in
     by_number (has_number n row) (sight_in n (under above row) kids) refl h parts.0 (λ x e. below_fails p n (under above row) kids x e parts.0) (λ e. below_fails p n above after s e parts.1)
   where
-    by_number : (b : Bool) (o : Option Sight) → sight_in n (under above row) kids ≡ o → cond b (Some (record { row = row; below = kids; above = above })) (option_or o (sight_in n above after)) ≡ Some s → list_any p (rows_of kids) ≡ false
-        → ((x : Sight) → sight_in n (under above row) kids ≡ Some x → list_any p (rows_of x.below) ≡ false) → (sight_in n above after ≡ Some s → list_any p (rows_of s.below) ≡ false) → list_any p (rows_of s.below) ≡ false
+    by_number : (b : Bool) (o : Option Sight) → sight_in n (under above row) kids ≡ o → cond b (Some (record { row = row; below = kids; above = above })) (option_or o (sight_in n above after)) ≡ Some s
+        → list_any p (rows_of kids) ≡ false
+        → ((x : Sight) → sight_in n (under above row) kids ≡ Some x → list_any p (rows_of x.below) ≡ false) → (sight_in n above after ≡ Some s → list_any p (rows_of s.below) ≡ false) → list_any p (rows_of s.below)
+        ≡ false
     by_number true o e h here first later =
         let is : record { row = row; below = kids; above = above } ≡ s = cc in subst (λ (x : Sight). list_any p (rows_of x.below) ≡ false) is here
     by_number false (Some x) e h here first later = let is : x ≡ s = cc in first s (e ∙ ap Some is)

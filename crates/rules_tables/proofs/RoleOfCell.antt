@@ -1,5 +1,5 @@
 -- The role of a cell depends on the nearest table alone.
-use Rattle.std.proofs.Common.{◌≡◌, ℕ, List, codes, Bool, true, false, cond, ◌||◌, Option, Some, None, option_and_then, refl, sym, ap, ◌∙◌, inl, inr, ⊎_elim}
+use Rattle.std.proofs.Common.{◌≡◌, ℕ, List, codes, true, false, cond, ◌||◌, Some, option_and_then, refl, sym, ap, ◌∙◌, ⊎_elim}
 use Rattle.std.proofs.lemmas.Bool.{false≢true, or_cases}
 use Rattle.std.proofs.lemmas.Slice.Eq.{bytes_eq-Decides}
 use Rattle.std.specs.Option.{option_or, option_map_or}
@@ -15,10 +15,10 @@ use Rattle.acc_tree.specs.declared.above.Above.{Above}
 use Rattle.acc_tree.specs.declared.above.TableAbove.{TableAbove}
 use Rattle.acc_tree.specs.declared.tags.Tag.{Tag}
 use Rattle.acc_tree.specs.declared.tags.Tag.TheVariants as tag
-use Rattle.acc_tree.specs.Roles.{is_grid, cell_role, explicit, implicit, tag_role, role_at}
+use Rattle.acc_tree.specs.Roles.{is_grid, explicit, tag_role, role_at}
 use Rattle.acc_tree.specs.Tags.{known_tag, tag_word, html_tag}
 use Rattle.rules_tables.specs.RoleLaws.{DependsOnTable, KeepsTable}
-use Rattle.rules_tables.specs.TableRows.{is_row_group, is_table_row, is_cell}
+use Rattle.rules_tables.specs.TableRows.{is_row_group}
 use Rattle.rules_tables.proofs.Nearest.{under_is}
 use Rattle.rules_tables.proofs.Tagging.{same_known, tag_of}
 
@@ -36,7 +36,8 @@ no_table word row differ h = other_body word (codes "table") differ row.body h
 group_no_table : (row : Row) → is_row_group row ≡ true → is_html (codes "table") row ≡ false
 group_no_table row h =
     ⊎_elim (λ (x : is_html (codes "tbody") row ≡ true). no_table (codes "tbody") row refl x)
-    (λ y. ⊎_elim (λ (x : is_html (codes "thead") row ≡ true). no_table (codes "thead") row refl x) (λ (x : is_html (codes "tfoot") row ≡ true). no_table (codes "tfoot") row refl x) (or_cases (is_html (codes "thead") row) (is_html (codes "tfoot") row) y))
+    (λ y. ⊎_elim (λ (x : is_html (codes "thead") row ≡ true). no_table (codes "thead") row refl x) (λ (x : is_html (codes "tfoot") row ≡ true). no_table (codes "tfoot") row refl x)
+    (or_cases (is_html (codes "thead") row) (is_html (codes "tfoot") row) y))
     (or_cases (is_html (codes "tbody") row) (is_html (codes "thead") row || is_html (codes "tfoot") row) h)
 
 pub keeps_table : (above : Above) (row : Row) → KeepsTable above row

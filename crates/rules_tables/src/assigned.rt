@@ -3,7 +3,9 @@ ghost use Rattle.std.specs.List.{list_any};
 ghost use Rattle.std.specs.Str.{bytes_eq};
 ghost use Rattle.snap_tree.specs.Words.{words};
 ghost use Rattle.acc_tree.specs.Seen.{seen_row};
-ghost use Rattle.rules_tables.specs.Assigned.{heads_columns, by_scope, by_role, direction_of, goes_down, goes_right, is_below, is_right, is_led_to, is_named, is_data_role, is_meant, is_assigned};
+ghost use Rattle.rules_tables.specs.Assigned.{heads_columns, by_scope, by_role, direction_of};
+ghost use Rattle.rules_tables.specs.Assigned.{goes_down, goes_right, is_below, is_right, is_led_to};
+ghost use Rattle.rules_tables.specs.Assigned.{is_named, is_data_role, is_meant, is_assigned};
 ghost use Rattle.acc_tree.specs.Roles.{heads_rows};
 
 use crate::grid::Area;
@@ -117,7 +119,8 @@ fn is_named(header: &Row, cell: &Row) -> bool
 }
 
 fn is_meant(header: &Row, direction: Direction, place: Option<Area>, cell: &Row, area: Area) -> bool
-    ensures { result ≡ is_meant (seen_row header.now) direction place (record { cell = seen_row cell.now; area = area }) }
+    ensures { result ≡ is_meant (seen_row header.now) direction place
+        (record { cell = seen_row cell.now; area = area }) }
 {
     if is_blank_at(cell, Attribute::Headers) {
         is_led_to(direction, place, area)
@@ -142,7 +145,8 @@ pub(crate) fn is_assigned(
     cell: &Row,
     area: Area,
 ) -> bool
-    ensures { result ≡ is_assigned above.now (seen_row header.now) direction place (record { cell = seen_row cell.now; area = area }) }
+    ensures { result ≡ is_assigned above.now (seen_row header.now) direction place
+        (record { cell = seen_row cell.now; area = area }) }
 {
     header.id.0 != cell.id.0
         && is_meant(header, direction, place, cell, area)

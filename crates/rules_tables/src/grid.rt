@@ -72,7 +72,8 @@ fn raise(columns: &mut Vec<usize>, column: usize, bottom: usize) -> Result<(), O
 /// Notes that an area is covered: its columns are free from its bottom on.
 #[tactic(auto, using(crate::proofs::Covering::raised_more, crate::proofs::Covering::raised_end))]
 pub(crate) fn cover(columns: &mut Vec<usize>, area: Area) -> Result<(), OutOfMemory>
-    ensures { OnOk result (columns.new.items ≡ raised_all columns.old.items area.left (area.right - area.left) area.bottom) }
+    ensures { OnOk result (columns.new.items
+        ≡ raised_all columns.old.items area.left (area.right - area.left) area.bottom) }
 {
     for column in area.left..area.right {
         raise(columns, column, area.bottom)?;

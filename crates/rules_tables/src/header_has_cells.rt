@@ -1,6 +1,7 @@
 ghost use Rattle.std.specs.Prelude.{◌≡◌, ◌++◌, codes, decimal, None, IfOk};
 ghost use Rattle.acc_tree.specs.Seen.{seen_row, seen};
-ghost use Rattle.rules_tables.specs.HeaderHasCells.{is_header_role, is_header_target, header_finding, cells_text, header_verdict, header_has_cells, header_has_cells_info};
+ghost use Rattle.rules_tables.specs.HeaderHasCells.{is_header_role, is_header_target, header_finding, cells_text};
+ghost use Rattle.rules_tables.specs.HeaderHasCells.{header_verdict, header_has_cells, header_has_cells_info};
 ghost use Rattle.rules_tables.specs.Survey.{question, seen_question, noted, surveyed, found_again};
 ghost use Rattle.rules_tables.specs.TableRows.{table_rows};
 
@@ -42,7 +43,8 @@ fn found_again(
     place: Option<Area>,
     table: &Branches<'_>,
 ) -> Result<bool, OutOfMemory>
-    ensures { IfOk result (λ found. found ≡ found_again above.now (seen_row header.now) place (seen table.now)) }
+    ensures { IfOk result (λ found.
+        found ≡ found_again above.now (seen_row header.now) place (seen table.now)) }
 {
     let Some(place) = place else {
         return Ok(false);
@@ -59,8 +61,10 @@ fn finding(
     first: &Survey,
     table: &Branches<'_>,
 ) -> Result<Finding, OutOfMemory>
-    requires { noted first.now ≡ surveyed (question above.now (seen_row header.now) None (seen table.now)) (seen table.now) }
-    ensures { IfOk result (λ finding. finding ≡ header_finding above.now (seen_row header.now) (table_rows 0 (seen table.now))) }
+    requires { noted first.now
+        ≡ surveyed (question above.now (seen_row header.now) None (seen table.now)) (seen table.now) }
+    ensures { IfOk result (λ finding.
+        finding ≡ header_finding above.now (seen_row header.now) (table_rows 0 (seen table.now))) }
 {
     if first.wide {
         return Ok(Finding::cant_tell(Reason::LargeGrid));
@@ -100,7 +104,8 @@ fn verdict(
     header: &Row,
     table: &Branches<'_>,
 ) -> Result<Option<Verdict>, OutOfMemory>
-    ensures { IfOk result (λ verdict. verdict ≡ header_verdict above.now (seen_row header.now) (seen table.now)) }
+    ensures { IfOk result (λ verdict.
+        verdict ≡ header_verdict above.now (seen_row header.now) (seen table.now)) }
 {
     if !is_target(above, header) {
         return Ok(None);

@@ -3,7 +3,9 @@ ghost use Rattle.snap_tree.specs.Labels.{id_of};
 ghost use Rattle.snap_tree.specs.Rows.{is_key};
 ghost use Rattle.snap_tree.specs.Words.{words};
 ghost use Rattle.acc_tree.specs.Seen.{seen_row, seen};
-ghost use Rattle.rules_tables.specs.HeadersReferToCells.{is_other_named, refers_inside, IsCellOf, refer_inside, headers_finding, is_headers_target, headers_verdict, headers_refer_to_cells, headers_refer_to_cells_info};
+ghost use Rattle.rules_tables.specs.HeadersReferToCells.{is_other_named, refers_inside, IsCellOf, refer_inside};
+ghost use Rattle.rules_tables.specs.HeadersReferToCells.{headers_finding, is_headers_target, headers_verdict};
+ghost use Rattle.rules_tables.specs.HeadersReferToCells.{headers_refer_to_cells, headers_refer_to_cells_info};
 ghost use Rattle.rules_tables.specs.Tables.{below};
 
 use crate::table_rows::is_cell;
@@ -125,7 +127,8 @@ fn verdict(
     above: &Above,
     row: &Row,
 ) -> Result<Option<Verdict>, OutOfMemory>
-    ensures { IfOk result (λ verdict. verdict ≡ option_and_then (headers_verdict above.now (seen_row row.now)) (below (seen tree.now.trees) table)) }
+    ensures { IfOk result (λ verdict. verdict ≡ option_and_then
+        (headers_verdict above.now (seen_row row.now)) (below (seen tree.now.trees) table)) }
 {
     let Some(inside) = below(tree, table) else {
         return Ok(None);

@@ -74,7 +74,8 @@ pub(crate) struct Survey {
 }
 
 impl Survey {
-    ghost use Rattle.rules_tables.specs.Survey.{seen_question, noted, nothing_noted, placed_at, fitted, after_cell, after_cells, after_row, after_rows, surveyed};
+    ghost use Rattle.rules_tables.specs.Survey.{seen_question, noted, nothing_noted, placed_at, fitted};
+    ghost use Rattle.rules_tables.specs.Survey.{after_cell, after_row, after_rows, surveyed};
 
     /// Nothing is noted yet.
     fn new(alloc: Global) -> Self
@@ -91,7 +92,8 @@ impl Survey {
     }
 
     fn place(&mut self, question: &Question<'_>, cell: &Row, area: Area) -> Result<(), OutOfMemory>
-        ensures { OnOk result (noted self.new ≡ placed_at (seen_question question.now) (noted self.old) (seen_row cell.now) area) }
+        ensures { OnOk result (noted self.new
+            ≡ placed_at (seen_question question.now) (noted self.old) (seen_row cell.now) area) }
     {
         let place = question.known.or(self.place);
         cover(&mut self.columns, area)?;
@@ -117,7 +119,8 @@ impl Survey {
         cell: &Row,
         area: Option<Area>,
     ) -> Result<(), OutOfMemory>
-        ensures { OnOk result (noted self.new ≡ fitted (seen_question question.now) (noted self.old) (seen_row cell.now) area) }
+        ensures { OnOk result (noted self.new
+            ≡ fitted (seen_question question.now) (noted self.old) (seen_row cell.now) area) }
     {
         match area {
             Some(area) => self.place(question, cell, area),
@@ -135,7 +138,8 @@ impl Survey {
         end: usize,
         cell: &Row,
     ) -> Result<(), OutOfMemory>
-        ensures { OnOk result (noted self.new ≡ after_cell (seen_question question.now) row end (noted self.old) (seen_row cell.now)) }
+        ensures { OnOk result (noted self.new
+            ≡ after_cell (seen_question question.now) row end (noted self.old) (seen_row cell.now)) }
     {
         self.cells = self.cells.saturating_add(1);
         if self.wide {
@@ -159,7 +163,8 @@ impl Survey {
         end: usize,
         kids: Branches<'_>,
     ) -> Result<(), OutOfMemory>
-        ensures { OnOk result (noted self.new ≡ after_row (seen_question question.now) row end (noted self.old) (cells_in (seen kids.entry))) }
+        ensures { OnOk result (noted self.new ≡ after_row (seen_question question.now) row end
+            (noted self.old) (cells_in (seen kids.entry))) }
     {
         self.column = 0;
         let mut rest = kids;
@@ -180,7 +185,8 @@ impl Survey {
         group: Branches<'_>,
     ) -> Result<(), OutOfMemory>
         requires { first + row_count (seen group) ≡ end }
-        ensures { OnOk result (noted self.new ≡ after_rows (seen_question question.now) first (noted self.old) (group_rows end (seen group.entry))) }
+        ensures { OnOk result (noted self.new ≡ after_rows (seen_question question.now) first
+            (noted self.old) (group_rows end (seen group.entry))) }
     {
         let mut number = first;
         let mut rest = group;
@@ -200,7 +206,8 @@ impl Survey {
         question: &Question<'_>,
         table: &Branches<'_>,
     ) -> Result<(), OutOfMemory>
-        ensures { OnOk result (noted self.new ≡ after_rows (seen_question question.now) 0 (noted self.old) (table_rows 0 (seen table.now))) }
+        ensures { OnOk result (noted self.new ≡ after_rows (seen_question question.now) 0
+            (noted self.old) (table_rows 0 (seen table.now))) }
     {
         let _most = table.len();
         let mut number = 0;
