@@ -1,5 +1,5 @@
 -- The book of the thirty rules, in the order of their numbers.
-use Rattle.std.specs.Prelude.{List, [], ◌∷◌, filter, not, Option, None, codes}
+use Rattle.std.specs.Prelude.{List, [], ◌∷◌, filter, not, None, codes}
 use Rattle.rule_core.specs.declared.info.RuleInfo.{RuleInfo}
 use Rattle.rule_core.specs.declared.info.Class.TheVariants.{Whole}
 use Rattle.rule_core.specs.Infos.{is_atomic}
