@@ -1,5 +1,5 @@
 -- What was found before, under other judgements.
-use Rattle.std.proofs.Common.{◌≡◌, ℕ, zero, suc, ◌+◌, ◌<◌, ◌==◌, eqb, ltb, Bool, true, false, cond, ◌&&◌, List, [], ◌∷◌, ◌++◌, map, length, take, drop, get_or, Option, Some, None, IfSome, refl, sym, ap, ◌∙◌, subst, add-one, arith}
+use Rattle.std.proofs.Common.{◌≡◌, ℕ, zero, suc, ◌+◌, ◌<◌, eqb, ltb, Bool, true, false, cond, ◌&&◌, List, [], ◌∷◌, ◌++◌, map, length, take, drop, get_or, Option, Some, None, IfSome, refl, sym, ap, ◌∙◌, subst, add-one, arith}
 use Rattle.std.specs.List.{filter_map, flat_map, prefix_len, list_all, cons_option, AllByRecursion}
 use Rattle.std.specs.Option.{option_map}
 use Rattle.std.proofs.Math.Seq.{drop-append_seam, take-append_seam, drop-cons}
@@ -14,10 +14,10 @@ use Rattle.rule_core.specs.Infos.{is_atomic, rise, differ, is_id, has_atomic_inp
 use Rattle.judge_core.specs.declared.judgement.Judgement.{Judgement}
 use Rattle.judge_core.specs.declared.outcomes.OutRow.{OutRow}
 use Rattle.judge_core.specs.Books.{Book}
-use Rattle.judge_core.specs.Outcomes.{row_of, atomic_row, atomic_rows, merged_row, composite_row, composite_rows, inputs_of, rule_rows, outcomes}
+use Rattle.judge_core.specs.Outcomes.{row_of, atomic_row, atomic_rows, merged_row, composite_row, composite_rows, inputs_of, rule_rows}
 use Rattle.reaudit.specs.declared.parts.Part.{Part}
 use Rattle.reaudit.specs.Merging.{AreOn}
-use Rattle.reaudit.specs.Parts.{Suffice, rows_on}
+use Rattle.reaudit.specs.Parts.{Suffice}
 use Rattle.reaudit.specs.Again.{is_of_rule, again}
 
 -- ---- the rows of an atomic rule

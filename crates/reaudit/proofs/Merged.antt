@@ -1,7 +1,7 @@
 -- How inputs' rows merge, one input after another, in slots that stand in document order.
-use Rattle.std.proofs.Common.{◌≡◌, ◌≢◌, ℕ, zero, suc, ◌+◌, ◌<◌, ◌≤◌, ◌==◌, eqb, Bool, true, false, cond, not, ◌||◌, List, [], ◌∷◌, ◌++◌, map, filter, length, take, drop, get_or, Option, Some, None, IfSome, refl, sym, ap, ◌∙◌, subst, append-nil, add-one, arith}
+use Rattle.std.proofs.Common.{◌≡◌, ◌≢◌, ℕ, zero, suc, ◌+◌, ◌<◌, ◌==◌, eqb, Bool, true, false, cond, not, ◌||◌, List, [], ◌∷◌, ◌++◌, map, filter, length, take, drop, get_or, Option, Some, None, IfSome, refl, sym, ap, ◌∙◌, append-nil, add-one, arith}
 use Rattle.std.specs.List.{filter_map, list_any, cons_option, AllByRecursion}
-use Rattle.std.specs.Option.{option_to_list, option_map}
+use Rattle.std.specs.Option.{option_to_list}
 use Rattle.std.proofs.Math.Seq.{drop-cons}
 use Rattle.std.proofs.lemmas.List.{take_more}
 use Rattle.std.proofs.lemmas.List.Folds.{list_any-append}
@@ -14,7 +14,6 @@ use Rattle.judge_core.specs.declared.outcomes.OutRow.{OutRow}
 use Rattle.judge_core.specs.Composites.{merge, is_passed, is_open}
 use Rattle.judge_core.specs.Outcomes.{merged_row, rules_among}
 use Rattle.judge_core.proofs.Lists.{filter_map-append}
-use Rattle.reaudit.specs.declared.composite.Found.{Found}
 use Rattle.reaudit.specs.declared.composite.Slot.{Slot}
 use Rattle.reaudit.specs.Merging.{merged, with_row, head_on, after, AreOn, filled_by, slot_of, slot_row}
 

@@ -1,10 +1,9 @@
 -- The parts of a page's outcomes, put together.
-use Rattle.std.proofs.Common.{◌≡◌, ℕ, ◌+◌, ◌<◌, ◌==◌, eqb, Bool, true, false, cond, List, [], ◌∷◌, ◌++◌, map, length, take, get_or, Option, Some, None, IfSome, refl, sym, ap, ◌∙◌, subst, append-nil, arith}
+use Rattle.std.proofs.Common.{◌≡◌, ℕ, ◌+◌, ◌<◌, ◌==◌, eqb, Bool, true, false, cond, List, [], ◌∷◌, ◌++◌, map, length, take, get_or, Option, Some, None, IfSome, refl, sym, ap, ◌∙◌, append-nil, arith}
 use Rattle.std.specs.List.{filter_map, flat_map, find, zip, cons_option, AllByRecursion}
 use Rattle.std.specs.Option.{option_map, option_map_or}
 use Rattle.std.proofs.lemmas.Bool.Decides.{nat_tests}
 use Rattle.std.proofs.lemmas.List.{take_more}
-use Rattle.snap_tree.specs.declared.row.NodeId.{NodeId}
 use Rattle.snap_tree.specs.declared.row.Row.{Row}
 use Rattle.snap_tree.specs.Trees.{Document, rows_of}
 use Rattle.rule_core.specs.declared.info.RuleNo.{RuleNo}
@@ -17,7 +16,7 @@ use Rattle.judge_core.specs.Books.{Book}
 use Rattle.judge_core.specs.Outcomes.{row_of, atomic_row, atomic_rows, composite_row, composite_rows, inputs_of, rule_rows, outcomes}
 use Rattle.reaudit.specs.declared.parts.Part.{Part}
 use Rattle.reaudit.specs.Merging.{AreOn}
-use Rattle.reaudit.specs.Parts.{SaysByAtomic, rows_on, Suffice, IsPart, AreParts, rows_found}
+use Rattle.reaudit.specs.Parts.{SaysByAtomic, Suffice, IsPart, AreParts, rows_found}
 use Rattle.reaudit.proofs.Merged.{filter_map_map}
 
 -- ---- lists

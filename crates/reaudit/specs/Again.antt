@@ -1,5 +1,5 @@
 -- Rows of outcomes that were found before, with their final outcomes anew.
-use Rattle.std.specs.Prelude.{◌==◌, ◌≡◌, List, Bool}
+use Rattle.std.specs.Prelude.{◌==◌, List, Bool}
 use Rattle.rule_core.specs.declared.info.RuleNo.{RuleNo}
 use Rattle.judge_core.specs.declared.judgement.Judgement.{Judgement}
 use Rattle.judge_core.specs.declared.outcomes.OutRow.{OutRow}

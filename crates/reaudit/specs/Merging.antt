@@ -1,5 +1,5 @@
 -- How the rows of a composite rule come of its inputs' rows, one input after another.
-use Rattle.std.specs.Prelude.{◌≡◌, ◌==◌, ℕ, List, [], ◌∷◌, map, if◌then◌else◌, Option, Some, None, option_map, IfSome}
+use Rattle.std.specs.Prelude.{◌≡◌, ◌==◌, List, [], ◌∷◌, map, if◌then◌else◌, Option, Some, None, option_map, IfSome}
 use Rattle.std.specs.List.{filter_map}
 use Rattle.snap_tree.specs.declared.row.NodeId.{NodeId}
 use Rattle.rule_core.specs.declared.info.RuleNo.{RuleNo}

@@ -17,6 +17,8 @@ pub use page::audit_page;
 pub use pages::{PageWork, audit_pages};
 
 #[cfg(test)]
+mod gate;
+#[cfg(test)]
 mod samples;
 #[cfg(test)]
 mod tests;

@@ -150,9 +150,10 @@ fn pages_are_audited_in_their_order_by_any_number_of_books(rt: HostRuntime) -> R
     }
     for count in [1, 2, 3, 16] {
         let mut books = Vec::new(alloc);
-        for _ in 0..count {
+        for _ in 1..count {
             books.push(Sample::new())?;
         }
+        books.push(Sample::new())?;
         let all = audit_pages(&rt, alloc, books.as_mut_slice(), pages.as_slice())?;
         assert_eq!(rt; all.len(), CASES.len());
         for (outcomes, (said, wanted)) in all.iter().zip(CASES.as_slice()) {

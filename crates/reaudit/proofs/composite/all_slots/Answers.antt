@@ -1,4 +1,4 @@
-use Rattle.std.proofs.Common.{◌≡◌, List, arith, ◌∙◌, ap, sym, subst, take, map, length, ◌<◌}
+use Rattle.std.proofs.Common.{◌≡◌, arith, ◌∙◌, ap, sym, subst, take, map, length, ◌<◌}
 use Rattle.std.specs.List.{filter_map, AllByRecursion}
 use Rattle.judge_core.specs.Outcomes.{rules_among}
 use Rattle.reaudit.specs.Parts.{rows_found}

@@ -1,4 +1,4 @@
-use Rattle.std.proofs.Common.{◌≡◌, true, ◌∙◌, sym, ap}
+use Rattle.std.proofs.Common.{◌∙◌, ap}
 use Rattle.rule_core.specs.Infos.{rise}
 use Rattle.judge_core.specs.Books.{Book}
 use Rattle.reaudit.proofs.AgainLaws.{orderly_rise}

@@ -1,6 +1,5 @@
-use Rattle.std.proofs.Common.{◌≡◌, List, [], ◌∷◌, ◌++◌, ◌∙◌, map, ap, sym, subst, arith}
+use Rattle.std.proofs.Common.{[], ◌∷◌, ◌++◌, sym, subst, arith}
 use Rattle.std.specs.List.{AllByRecursion}
-use Rattle.reaudit.specs.declared.parts.Part.{Part}
 use Rattle.reaudit.specs.Parts.{IsPart}
 use Rattle.reaudit.proofs.PartLaws.{all_more, infos_more}
 use Rattle.reaudit.proofs.Judgings.{judged_more, judged_within}
