@@ -1,6 +1,5 @@
 -- What a pass does in steps.
-use Rattle.std.proofs.Common.{◌≡◌, ◌<◌, ◌≤◌, ◌+◌, ◌-◌, ℕ, suc, List, [], ◌∷◌, ◌++◌, Bool, true, false, refl, sym, ap, ◌∙◌, arith}
-use Rattle.snap_tree.specs.declared.row.Row.{Row}
+use Rattle.std.proofs.Common.{◌≡◌, ◌<◌, ◌≤◌, ◌+◌, ◌-◌, ℕ, suc, List, ◌++◌, Bool, true, false, refl, ap, ◌∙◌, arith}
 use Rattle.snap_tree.specs.Trees.{Trees, empty, tree}
 use Rattle.rules_tables.specs.Survey.{Question, Noted, raised, raised_all, after_row, after_rows}
 use Rattle.rules_tables.specs.TableRows.{TableRow, is_table_row, cells_in, row_count, group_rows}

@@ -1,10 +1,10 @@
 -- For each column the row from which on it is free: this tells which slots are covered.
-use Rattle.std.proofs.Common.{◌≡◌, ◌<◌, ◌≤◌, ◌+◌, ◌-◌, ℕ, zero, suc, max, List, [], ◌∷◌, ◌++◌, map, length, drop, get_or, set, Bool, true, false, ◌&&◌, ◌||◌, cond, leb, ltb, refl, sym, ap, ◌∙◌, arith, inl, inr, ⊎_elim}
+use Rattle.std.proofs.Common.{◌≡◌, ◌<◌, ◌≤◌, ◌+◌, ◌-◌, ℕ, zero, suc, max, List, [], ◌∷◌, ◌++◌, map, length, drop, get_or, set, Bool, true, false, ◌&&◌, ◌||◌, cond, leb, ltb, refl, sym, ap, ◌∙◌, arith, ⊎_elim}
 use Rattle.std.proofs.lemmas.Bool.{ltb-true, ltb-false, le-ltb, cases_eq, and_parts}
 use Rattle.std.proofs.lemmas.Bool.Decides.{nat_tests}
 use Rattle.std.proofs.lemmas.List.{drop_all, drop_more, ext_get_or, get_or-set_same, get_or-set_other, get_or_push, get_or_append_left, length-set, length_push}
 use Rattle.std.proofs.lemmas.List.FromFn.{length-map-range_with_len, get_or-map-range_with_len}
-use Rattle.std.specs.List.{range_with_len, list_any}
+use Rattle.std.specs.List.{range_with_len}
 use Rattle.rules_tables.specs.declared.grid.Area.{Area}
 use Rattle.rules_tables.specs.Grid.{Placed, covers, is_covered, width, free_among}
 use Rattle.rules_tables.specs.Survey.{free_from, raised, raised_all}

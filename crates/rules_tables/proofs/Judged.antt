@@ -1,5 +1,5 @@
 -- A target has a table, and so a verdict.
-use Rattle.std.proofs.Common.{◌≡◌, ◌&&◌, not, codes, Bool, true, false, cond, Option, Some, None, option_map, option_and_then, refl, sym, ap, ◌∙◌, inl, inr, ⊎_elim}
+use Rattle.std.proofs.Common.{◌≡◌, ◌&&◌, not, codes, Bool, true, false, cond, Option, Some, None, option_map, option_and_then, refl, sym, ap, ◌∙◌, inl, inr}
 use Rattle.std.proofs.lemmas.Bool.{false≢true, and_parts, or_right}
 use Rattle.std.specs.Option.{is_some, option_map_or}
 use Rattle.snap_tree.specs.declared.row.NodeId.{NodeId}
@@ -16,13 +16,12 @@ use Rattle.acc_tree.specs.Roles.{role_at}
 use Rattle.acc_tree.specs.Seen.{has, seen, is_blank_at}
 use Rattle.acc_tree.specs.Sights.{Sight, sight_of}
 use Rattle.rule_core.specs.declared.verdict.Verdict.{Verdict}
-use Rattle.rule_sights.specs.Nodes.{if_row, sight_where}
+use Rattle.rule_sights.specs.Nodes.{if_row}
 use Rattle.rules_tables.specs.HeaderHasCells.{is_header_role, is_header_target, header_verdict}
 use Rattle.rules_tables.specs.HeadersReferToCells.{is_headers_target, headers_verdict}
 use Rattle.rules_tables.specs.TableRows.{is_cell}
 use Rattle.rules_tables.specs.Tables.{in_table, below, below_table, is_table_role}
 use Rattle.rules_tables.specs.TargetLaws.{JudgesHeaders, JudgesReferences}
-use Rattle.rules_tables.proofs.Nearest.{table_number}
 use Rattle.rules_tables.proofs.Referring.{Stands, stands, apart_seen}
 
 -- a cell in a table has something below its table

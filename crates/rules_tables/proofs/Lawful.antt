@@ -1,17 +1,18 @@
 -- The laws of grids.
-use Rattle.std.proofs.Common.{◌≡◌, ◌<◌, ◌≤◌, ◌+◌, ◌-◌, ℕ, zero, suc, min, max, List, [], ◌∷◌, ◌++◌, length, slice_get, Bool, true, false, ◌&&◌, ◌||◌, cond, leb, ltb, Option, Some, None, refl, sym, ap, ◌∙◌, subst, arith, inl, inr, ⊎_elim}
+use Rattle.std.proofs.Common.{◌≡◌, ◌<◌, ◌≤◌, ◌+◌, ◌-◌, ℕ, zero, suc, max, List, [], ◌∷◌, ◌++◌, length, slice_get, Bool, true, false, ◌&&◌, ◌||◌, cond, leb, ltb, Option, Some, None, refl, sym, ap, ◌∙◌, subst, arith, length-append, ⊎_elim}
 use Rattle.std.proofs.lemmas.Bool.{false_from_ne_true, or_parts, or_left, or_right, and_right, lt-leb, cases_lt, cases_eq}
 use Rattle.std.proofs.lemmas.Bool.Decides.{nat_tests}
-use Rattle.std.specs.List.{list_any, AllByRecursion}
+use Rattle.std.specs.List.{AllByRecursion}
 use Rattle.snap_tree.specs.declared.row.Row.{Row}
 use Rattle.snap_tree.specs.Trees.{Trees, empty, tree}
 use Rattle.acc_tree.specs.declared.attributes.Attribute.TheVariants as attribute
 use Rattle.acc_tree.specs.Seen.{attr}
 use Rattle.rules_tables.specs.declared.grid.Area.{Area}
 use Rattle.rules_tables.specs.Grid.{Placed, covers, is_covered, width, free_among, first_free, next_placed, placed_cells, placed_rows, grid}
-use Rattle.rules_tables.specs.GridLaws.{IsFirstFree, BeginApart, AllBeginApart, LiesWithin, IsWidth}
-use Rattle.rules_tables.specs.Spans.{columns, rows_within, column_span, row_span, span}
+use Rattle.rules_tables.specs.GridLaws.{IsFirstFree, BeginApart, AllBeginApart, EndThere, AreRuns, LiesWithin, IsWidth}
+use Rattle.rules_tables.specs.Spans.{columns, rows_within, span}
 use Rattle.rules_tables.specs.TableRows.{TableRow, is_row_group, is_table_row, cells_in, row_count, neighbours, group_rows, table_rows}
+use Rattle.rules_tables.proofs.Counting.{group_length}
 use Rattle.rules_tables.proofs.Freeing.{covered_within}
 
 -- ---- the first free column
@@ -64,47 +65,70 @@ rows_cut left (Some n) = grind (arith, nat_tests)
 
 -- ---- row groups
 
--- each row has a number below that at which its row group ends
-abbrev pub Ends : ℕ → List TableRow → Type 0
-Ends n [] = Unit {0}
-Ends n (row ∷ rows) = (n < row.end) × Ends (n + 1) rows
+there_past : (n end : ℕ) (rows : List TableRow) → end ≤ n → EndThere n end rows
+there_past n end [] h = tt
+there_past n end (row ∷ rows) h = (λ less. absurd (omega arith), there_past (n + 1) end rows (omega arith))
 
-ends_both : (n : ℕ) (xs ys : List TableRow) → Ends n xs → Ends (n + length xs) ys → Ends n (xs ++ ys)
-ends_both n [] ys h k = let e : n + 0 ≡ n = omega arith in subst (λ m. Ends m ys) e k
-ends_both n (row ∷ xs) ys h k =
-    let e : n + suc (length xs) ≡ n + 1 + length xs = omega arith in (h.0, ends_both (n + 1) xs ys h.1 (subst (λ m. Ends m ys) e k))
-
-group_ends : (n end : ℕ) (t : Trees) → n + row_count t ≤ end → Ends n (group_rows end t)
-group_ends n end empty h = tt
-group_ends n end (tree row kids after) h = by_row (is_table_row row) h (group_ends (n + 1) end after) (group_ends n end after)
+group_there : (n end : ℕ) (t : Trees) (rows : List TableRow) → n + row_count t ≡ end → EndThere n end (group_rows end t ++ rows)
+group_there n end empty rows h = there_past n end rows (omega arith)
+group_there n end (tree row kids after) rows h = by_row (is_table_row row) h (group_there (n + 1) end after rows) (group_there n end after rows)
   where
-    by_row : (b : Bool) → n + cond b (suc (row_count after)) (row_count after) ≤ end → (n + 1 + row_count after ≤ end → Ends (n + 1) (group_rows end after)) → (n + row_count after ≤ end → Ends n (group_rows end after))
-        → Ends n (cond b (record { cells = cells_in kids; end = end } ∷ group_rows end after) (group_rows end after))
-    by_row true h first later = (omega arith, first (omega arith))
+    by_row : (b : Bool) → n + cond b (suc (row_count after)) (row_count after) ≡ end → (n + 1 + row_count after ≡ end → EndThere (n + 1) end (group_rows end after ++ rows)) → (n + row_count after ≡ end → EndThere n end (group_rows end after ++ rows))
+        → EndThere n end (cond b (record { cells = cells_in kids; end = end } ∷ group_rows end after) (group_rows end after) ++ rows)
+    by_row true h first later = (λ less. refl, first (omega arith))
     by_row false h first later = later h
 
-group_size : (end : ℕ) (t : Trees) → length (group_rows end t) ≡ row_count t
-group_size end empty = refl
-group_size end (tree row kids after) = by_row (is_table_row row) (group_size end after)
+group_runs : (n end : ℕ) (t : Trees) (rows : List TableRow) → n + row_count t ≡ end → AreRuns end rows → AreRuns n (group_rows end t ++ rows)
+group_runs n end empty rows h runs = let e : end ≡ n = omega arith in subst (λ m. AreRuns m rows) e runs
+group_runs n end (tree row kids after) rows h runs = by_row (is_table_row row) h (λ e. group_there (n + 1) end after rows e) (λ e. group_runs (n + 1) end after rows e runs) (λ e. group_runs n end after rows e runs)
   where
-    by_row : (b : Bool) → length (group_rows end after) ≡ row_count after → length (cond b (record { cells = cells_in kids; end = end } ∷ group_rows end after) (group_rows end after)) ≡ cond b (suc (row_count after)) (row_count after)
-    by_row true h = ap suc h
-    by_row false h = h
+    by_row : (b : Bool) → n + cond b (suc (row_count after)) (row_count after) ≡ end → (n + 1 + row_count after ≡ end → EndThere (n + 1) end (group_rows end after ++ rows)) → (n + 1 + row_count after ≡ end → AreRuns (n + 1) (group_rows end after ++ rows))
+        → (n + row_count after ≡ end → AreRuns n (group_rows end after ++ rows)) → AreRuns n (cond b (record { cells = cells_in kids; end = end } ∷ group_rows end after) (group_rows end after) ++ rows)
+    by_row true h there first later =
+        let size = length-append (group_rows end after) rows in
+        let few = group_length end after in
+        (record { before = omega arith; within = omega arith; same = there (omega arith) }, first (omega arith))
+    by_row false h there first later = later h
 
-table_ends : (n : ℕ) (t : Trees) → Ends n (table_rows n t)
-table_ends n empty = tt
-table_ends n (tree row kids after) = by_row (is_row_group row) (is_table_row row) (λ m. table_ends m after)
+next_there : (n : ℕ) (t : Trees) → EndThere n (n + neighbours t) (table_rows n t)
+next_there n empty = tt
+next_there n (tree row kids after) = by_row (is_row_group row) (is_table_row row) (next_there (n + 1) after) (next_there n after)
+  where
+    by_row : (a b : Bool) → EndThere (n + 1) (n + 1 + neighbours after) (table_rows (n + 1) after) → EndThere n (n + neighbours after) (table_rows n after)
+        → EndThere n (n + cond a 0 (cond b (suc (neighbours after)) (neighbours after)))
+        (cond a (group_rows (n + row_count kids) kids ++ table_rows (n + row_count kids) after) (cond b (record { cells = cells_in kids; end = n + 1 + neighbours after } ∷ table_rows (n + 1) after) (table_rows n after)))
+    by_row true b first later = there_past n (n + 0) (group_rows (n + row_count kids) kids ++ table_rows (n + row_count kids) after) (omega arith)
+    by_row false true first later =
+        let e : n + 1 + neighbours after ≡ n + suc (neighbours after) = omega arith in (λ less. e, subst (λ m. EndThere (n + 1) m (table_rows (n + 1) after)) e first)
+    by_row false false first later = later
+
+neighbours_few : (n : ℕ) (t : Trees) → neighbours t ≤ length (table_rows n t)
+neighbours_few n empty = omega arith
+neighbours_few n (tree row kids after) = by_row (is_row_group row) (is_table_row row) (neighbours_few (n + 1) after) (neighbours_few n after)
+  where
+    by_row : (a b : Bool) → neighbours after ≤ length (table_rows (n + 1) after) → neighbours after ≤ length (table_rows n after)
+        → cond a 0 (cond b (suc (neighbours after)) (neighbours after))
+        ≤ length (cond a (group_rows (n + row_count kids) kids ++ table_rows (n + row_count kids) after) (cond b (record { cells = cells_in kids; end = n + 1 + neighbours after } ∷ table_rows (n + 1) after) (table_rows n after)))
+    by_row true b first later = omega arith
+    by_row false true first later = omega arith
+    by_row false false first later = later
+
+table_runs : (n : ℕ) (t : Trees) → AreRuns n (table_rows n t)
+table_runs n empty = tt
+table_runs n (tree row kids after) = by_row (is_row_group row) (is_table_row row) (λ m. table_runs m after)
   where
     first : TableRow
     first = record { cells = cells_in kids; end = n + 1 + neighbours after }
 
-    by_row : (a b : Bool) → ((m : ℕ) → Ends m (table_rows m after)) → Ends n (cond a (group_rows (n + row_count kids) kids ++ table_rows (n + row_count kids) after) (cond b (first ∷ table_rows (n + 1) after) (table_rows n after)))
-    by_row true b later =
-        let size = group_size (n + row_count kids) kids in
-        ends_both n (group_rows (n + row_count kids) kids) (table_rows (n + row_count kids) after) (group_ends n (n + row_count kids) kids (omega arith))
-        (subst (λ m. Ends m (table_rows (n + row_count kids) after)) (ap (λ k. n + k) (sym size)) (later (n + row_count kids)))
-    by_row false true later = (omega arith, later (n + 1))
+    by_row : (a b : Bool) → ((m : ℕ) → AreRuns m (table_rows m after)) → AreRuns n (cond a (group_rows (n + row_count kids) kids ++ table_rows (n + row_count kids) after) (cond b (first ∷ table_rows (n + 1) after) (table_rows n after)))
+    by_row true b later = group_runs n (n + row_count kids) kids (table_rows (n + row_count kids) after) refl (later (n + row_count kids))
+    by_row false true later =
+        let few = neighbours_few (n + 1) after in (record { before = omega arith; within = omega arith; same = next_there (n + 1) after }, later (n + 1))
     by_row false false later = later n
+
+-- each row group is a run of rows
+pub groups_are_runs : (t : Trees) → AreRuns 0 (table_rows 0 t)
+groups_are_runs t = table_runs 0 t
 
 -- ---- placing a cell
 
@@ -172,21 +196,21 @@ laid_later rows placed row from laid = record { each = all_kept older placed lai
     older : (q : Placed) → IsLaid rows row from q → IsLaid rows (row + 1) 0 q
     older q l = let h = l.begun in record { begun = omega arith; ended = λ e. absurd (omega arith); lies = l.lies }
 
-laid_rows : (all : List TableRow) (placed : List Placed) (n : ℕ) (rows : List TableRow) → ((k : ℕ) → slice_get rows k ≡ slice_get all (n + k)) → Ends n rows → AreLaid all n 0 placed
+laid_rows : (all : List TableRow) (placed : List Placed) (n : ℕ) (rows : List TableRow) → ((k : ℕ) → slice_get rows k ≡ slice_get all (n + k)) → AreRuns n rows → AreLaid all n 0 placed
     → (row : ℕ) × ((from : ℕ) × AreLaid all row from (placed_rows placed n rows))
-laid_rows all placed n [] same ends laid = (n, (0, laid))
-laid_rows all placed n (row ∷ rows) same ends laid =
+laid_rows all placed n [] same runs laid = (n, (0, laid))
+laid_rows all placed n (row ∷ rows) same runs laid =
     let e : n + 0 ≡ n = omega arith in
     let is : slice_get all n ≡ Some row = sym (same 0 ∙ ap (slice_get all) e) in
-    let cells = laid_cells all placed n 0 row row.cells is ends.0 laid in
-    laid_rows all (placed_cells placed n row.end 0 row.cells) (n + 1) rows (λ k. same (suc k) ∙ ap (slice_get all) (shift k)) ends.1 (laid_later all (placed_cells placed n row.end 0 row.cells) n cells.0 cells.1)
+    let cells = laid_cells all placed n 0 row row.cells is runs.0.before laid in
+    laid_rows all (placed_cells placed n row.end 0 row.cells) (n + 1) rows (λ k. same (suc k) ∙ ap (slice_get all) (shift k)) runs.1 (laid_later all (placed_cells placed n row.end 0 row.cells) n cells.0 cells.1)
   where
     shift : (k : ℕ) → n + suc k ≡ n + 1 + k
     shift k = omega arith
 
 grid_laid : (t : Trees) → (row : ℕ) × ((from : ℕ) × AreLaid (table_rows 0 t) row from (grid (table_rows 0 t)))
 grid_laid t =
-    laid_rows (table_rows 0 t) [] 0 (table_rows 0 t) (λ k. ap (slice_get (table_rows 0 t)) (none k)) (table_ends 0 t) (record { each = tt; apart = tt })
+    laid_rows (table_rows 0 t) [] 0 (table_rows 0 t) (λ k. ap (slice_get (table_rows 0 t)) (none k)) (table_runs 0 t) (record { each = tt; apart = tt })
   where
     none : (k : ℕ) → k ≡ 0 + k
     none k = omega arith

@@ -2,6 +2,7 @@ pub mod Seeing
 pub mod Covering
 pub mod Freeing
 pub mod Placing
+pub mod Counting
 pub mod Deciding
 pub mod Tagging
 pub mod Nearest

@@ -1,5 +1,5 @@
 -- The nearest table above a node is found by the parents' numbers.
-use Rattle.std.proofs.Common.{◌≡◌, codes, Bool, true, false, cond, Option, Some, None, option_map, refl, sym, ap, ◌∙◌}
+use Rattle.std.proofs.Common.{◌≡◌, codes, Bool, true, false, cond, Option, Some, None, option_map, sym, ap, ◌∙◌}
 use Rattle.snap_tree.specs.declared.row.NodeId.{NodeId}
 use Rattle.snap_tree.specs.declared.row.Row.{Row}
 use Rattle.snap_tree.specs.Rows.{is_html}

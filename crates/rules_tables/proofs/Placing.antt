@@ -1,15 +1,14 @@
 -- A pass that keeps for each column the row from which on it is free places cells as the definition of the
 -- grid does, and notes of them what was asked.
-use Rattle.std.proofs.Common.{◌≡◌, ◌≤◌, ◌+◌, ◌-◌, ◌^◌, ℕ, zero, suc, min, max, List, [], ◌∷◌, length, drop, Bool, true, false, ◌||◌, cond, ltb, Option, Some, None, refl, sym, ap, ◌∙◌, subst, arith}
+use Rattle.std.proofs.Common.{◌≡◌, ◌≤◌, ◌+◌, ◌-◌, ◌^◌, ℕ, suc, min, max, List, [], ◌∷◌, length, drop, Bool, true, false, ◌||◌, cond, ltb, Some, None, refl, sym, ap, ◌∙◌, subst, arith}
 use Rattle.std.proofs.lemmas.Bool.{false≢true, or_right, le-ltb}
 use Rattle.std.proofs.lemmas.Bool.Decides.{nat_tests}
 use Rattle.std.specs.Option.{option_or}
 use Rattle.snap_tree.specs.declared.row.Row.{Row}
 use Rattle.snap_tree.specs.Rows.{has_number}
-use Rattle.rules_tables.specs.declared.grid.Area.{Area}
 use Rattle.rules_tables.specs.Assigned.{is_assigned, place_of}
-use Rattle.rules_tables.specs.Grid.{Placed, width, first_free, area_at, next_placed, placed_cells, placed_rows, grid}
-use Rattle.rules_tables.specs.Survey.{free_from, raised_all, next_area, Question, Noted, nothing_noted, counted, placed_at, within, fitted, after_cell, after_cells, after_row, after_rows}
+use Rattle.rules_tables.specs.Grid.{Placed, width, area_at, next_placed, placed_cells, placed_rows, grid}
+use Rattle.rules_tables.specs.Survey.{free_from, raised_all, next_area, Question, Noted, nothing_noted, counted, within, fitted, after_cell, after_cells, after_row, after_rows}
 use Rattle.rules_tables.specs.TableRows.{TableRow}
 use Rattle.rules_tables.proofs.Freeing.{columns_of, NoneBelow, free_is, columns_more, no_columns, free_within}
 
@@ -70,17 +69,17 @@ fits q s placed p t e ordered begins true past = record {
 fits q s placed p t e ordered begins false short =
     let was = t.told e in
     record {
-  tells = record {
-    cells_are = one_more s.cells (length placed) t.cells_are;
-    wide_is = t.wide_is ∙ sym (ap (λ b. b || ltb q.most (width placed)) short) ∙ sym (ltb-max q.most p.area.right (width placed));
-    told = λ narrow. record {
-      columns_are = ap (λ cs. raised_all cs p.area.left (p.area.right - p.area.left) p.area.bottom) was.columns_are ∙ columns_more p placed ordered begins;
-      place_is = ap (λ o. option_or o (cond (has_number q.header.id p.cell) (Some p.area) None)) was.place_is;
-      found_is = ap (λ b. b || is_assigned q.above q.header q.direction (option_or q.known s.place) p) was.found_is ∙ ap (λ o. found_among q placed || is_assigned q.above q.header q.direction (option_or q.known o) p) was.place_is;
-    };
-  };
-  column_is = λ narrow. refl;
-}
+      tells = record {
+        cells_are = one_more s.cells (length placed) t.cells_are;
+        wide_is = t.wide_is ∙ sym (ap (λ b. b || ltb q.most (width placed)) short) ∙ sym (ltb-max q.most p.area.right (width placed));
+        told = λ narrow. record {
+          columns_are = ap (λ cs. raised_all cs p.area.left (p.area.right - p.area.left) p.area.bottom) was.columns_are ∙ columns_more p placed ordered begins;
+          place_is = ap (λ o. option_or o (cond (has_number q.header.id p.cell) (Some p.area) None)) was.place_is;
+          found_is = ap (λ b. b || is_assigned q.above q.header q.direction (option_or q.known s.place) p) was.found_is ∙ ap (λ o. found_among q placed || is_assigned q.above q.header q.direction (option_or q.known o) p) was.place_is;
+        };
+      };
+      column_is = λ narrow. refl;
+    }
 
 pub cell_told : (q : Question) (s : Noted) (placed : List Placed) (row end column : ℕ) (cell : Row) → Stands q s placed column → NoneBelow row placed → column ≤ width placed
     → Stands q (after_cell q row end s cell) (next_placed placed row end column cell ∷ placed) (next_placed placed row end column cell).area.right

@@ -1,7 +1,6 @@
 -- A word that refers to a cell: an element has it as its id, and stands in the table.
-use Rattle.std.proofs.Common.{◌≡◌, ◌==◌, ℕ, suc, List, [], ◌∷◌, ◌++◌, map, length, Bool, true, false, not, ◌&&◌, ◌||◌, cond, codes, Option, Some, None, IfSome, IsTrue, option_map, refl, sym, ap, ◌∙◌, subst, arith, inl, inr, ◌⊎◌, ⊎_elim}
-use Rattle.std.proofs.lemmas.Bool.{false≢true, or_parts, or_from, or_right, or_left, eqb-true, ne_eqb}
-use Rattle.std.proofs.lemmas.Bool.Decides.{nat_tests}
+use Rattle.std.proofs.Common.{◌≡◌, ◌==◌, ℕ, suc, List, [], ◌∷◌, ◌++◌, map, length, Bool, true, false, not, ◌&&◌, ◌||◌, cond, codes, Option, Some, None, IfSome, IsTrue, option_map, refl, sym, ap, ◌∙◌, subst, arith, inl, inr, ◌⊎◌}
+use Rattle.std.proofs.lemmas.Bool.{false≢true, or_parts, or_right, or_left, eqb-true, ne_eqb}
 use Rattle.std.proofs.lemmas.List.Folds.{list_any-append}
 use Rattle.std.specs.List.{list_any, find}
 use Rattle.std.specs.Option.{option_or}
@@ -11,7 +10,7 @@ use Rattle.snap_tree.specs.declared.row.Row.{Row}
 use Rattle.snap_tree.specs.Grown.{is_number}
 use Rattle.snap_tree.specs.Labels.{filled, id_of, first_with_id}
 use Rattle.snap_tree.specs.Rows.{has_number, is_html, is_key}
-use Rattle.snap_tree.specs.Spots.{Spot, spot}
+use Rattle.snap_tree.specs.Spots.{spot}
 use Rattle.snap_tree.specs.Trees.{Trees, empty, tree, rows_of}
 use Rattle.snap_tree.specs.Well.{AreApart}
 use Rattle.snap_tree.proofs.Climbing.{apart_append, later_number, same_id}
@@ -20,7 +19,6 @@ use Rattle.acc_tree.specs.declared.above.TableAbove.{TableAbove}
 use Rattle.acc_tree.specs.declared.attributes.Attribute.TheVariants as attribute
 use Rattle.acc_tree.specs.Attributes.{attribute_name}
 use Rattle.acc_tree.specs.Frames.{under, nothing_above}
-use Rattle.acc_tree.specs.Roles.{role_at}
 use Rattle.acc_tree.specs.Seen.{seen_row, seen, attr}
 use Rattle.acc_tree.specs.Sights.{Sight, sight_in, sight_of, IsClimbed, above_children, summed, seen_spot}
 use Rattle.acc_tree.proofs.Finding.{id_found, rows_seen}
@@ -145,11 +143,11 @@ stands_below above row kids after s apart b e (inr in_one) =
     inr (record { table = in_one.table; number_is = in_one.number_is; found = found_below above row kids after in_one.table apart in_one.found; has = in_one.has })
 stands_below above row kids after s apart true e (inl free) =
     inr (record {
-  table = record { row = row; below = kids; above = above };
-  number_is = ap (λ (o : Option TableAbove). option_map (λ (t : TableAbove). t.node) o) (free.same_table ∙ under_is above row true e);
-  found = ap (λ b. cond b (Some (record { row = row; below = kids; above = above })) (option_or (sight_in row.id (under above row) kids) (sight_in row.id above after))) (same_id row);
-  has = free.has;
-})
+      table = record { row = row; below = kids; above = above };
+      number_is = ap (λ (o : Option TableAbove). option_map (λ (t : TableAbove). t.node) o) (free.same_table ∙ under_is above row true e);
+      found = ap (λ b. cond b (Some (record { row = row; below = kids; above = above })) (option_or (sight_in row.id (under above row) kids) (sight_in row.id above after))) (same_id row);
+      has = free.has;
+    })
 stands_below above row kids after s apart false e (inl free) =
     inl (record { same_table = free.same_table ∙ under_is above row false e; has = has_below row s.row kids after e free.has })
 

@@ -1,5 +1,5 @@
 -- The role of a cell depends on the nearest table alone.
-use Rattle.std.proofs.Common.{◌≡◌, ℕ, List, codes, Bool, true, false, cond, ◌||◌, Option, Some, None, option_and_then, refl, sym, ap, ◌∙◌, inl, inr, ⊎_elim}
+use Rattle.std.proofs.Common.{◌≡◌, ℕ, List, codes, true, false, cond, ◌||◌, Some, option_and_then, refl, sym, ap, ◌∙◌, ⊎_elim}
 use Rattle.std.proofs.lemmas.Bool.{false≢true, or_cases}
 use Rattle.std.proofs.lemmas.Slice.Eq.{bytes_eq-Decides}
 use Rattle.std.specs.Option.{option_or, option_map_or}
@@ -15,10 +15,10 @@ use Rattle.acc_tree.specs.declared.above.Above.{Above}
 use Rattle.acc_tree.specs.declared.above.TableAbove.{TableAbove}
 use Rattle.acc_tree.specs.declared.tags.Tag.{Tag}
 use Rattle.acc_tree.specs.declared.tags.Tag.TheVariants as tag
-use Rattle.acc_tree.specs.Roles.{is_grid, cell_role, explicit, implicit, tag_role, role_at}
+use Rattle.acc_tree.specs.Roles.{is_grid, explicit, tag_role, role_at}
 use Rattle.acc_tree.specs.Tags.{known_tag, tag_word, html_tag}
 use Rattle.rules_tables.specs.RoleLaws.{DependsOnTable, KeepsTable}
-use Rattle.rules_tables.specs.TableRows.{is_row_group, is_table_row, is_cell}
+use Rattle.rules_tables.specs.TableRows.{is_row_group}
 use Rattle.rules_tables.proofs.Nearest.{under_is}
 use Rattle.rules_tables.proofs.Tagging.{same_known, tag_of}
 

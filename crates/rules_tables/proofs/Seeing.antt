@@ -1,6 +1,5 @@
 -- What is seen of rows and trees says of tables what the page says itself.
 use Rattle.std.proofs.Common.{◌≡◌, ℕ, List, Option, Some, None, MatchOption, option_map, refl, sym, ap, ◌∙◌}
-use Rattle.std.specs.Option.{option_and_then}
 use Rattle.snap_tree.specs.declared.branches.Branch.{Branch}
 use Rattle.snap_tree.specs.declared.row.Body.{Body}
 use Rattle.snap_tree.specs.declared.row.Body.TheVariants.{Element, Words}
@@ -10,7 +9,7 @@ use Rattle.snap_tree.specs.Rows.{is_html, is_html_body}
 use Rattle.snap_tree.specs.Spots.{Spot, spot}
 use Rattle.snap_tree.specs.Trees.{Trees, empty, tree}
 use Rattle.acc_tree.specs.Seen.{seen_row, seen_body, seen}
-use Rattle.acc_tree.specs.Sights.{sight_of, summed, seen_spot}
+use Rattle.acc_tree.specs.Sights.{summed, seen_spot}
 use Rattle.acc_tree.proofs.Sighting.{sight_is_spot, seen_spot_is}
 use Rattle.rules_tables.specs.Tables.{below}
 

@@ -1,5 +1,5 @@
 -- Laws of grids that can be seen by eye.
-use Rattle.std.specs.Prelude.{◌≡◌, ◌<◌, ◌≤◌, ◌-◌, ℕ, List, [], ◌∷◌, slice_get, true, false, Some}
+use Rattle.std.specs.Prelude.{◌≡◌, ◌<◌, ◌≤◌, ◌+◌, ◌-◌, ℕ, List, [], ◌∷◌, length, slice_get, true, false, Some}
 use Rattle.std.specs.List.{AllByRecursion}
 use Rattle.rules_tables.specs.declared.grid.Area.{Area}
 use Rattle.rules_tables.specs.Grid.{Placed, covers, is_covered, width}
@@ -20,6 +20,23 @@ pub record BeginApart (p q : Placed) : Type 0 where
 abbrev pub AllBeginApart : List Placed → Type 0
 AllBeginApart [] = Unit {0}
 AllBeginApart (p ∷ placed) = AllByRecursion (BeginApart p) placed × AllBeginApart placed
+
+-- rows from this number on end there, as long as their numbers are below that end
+abbrev pub EndThere : ℕ → ℕ → List TableRow → Type 0
+EndThere n end [] = Unit {0}
+EndThere n end (row ∷ rows) = (n < end → row.end ≡ end) × EndThere (n + 1) end rows
+
+-- the row of this number comes before the end of its row group, which comes before that of the rows; and the
+-- rows in between end there too
+pub record BeginsRun (n : ℕ) (row : TableRow) (later : List TableRow) : Type 0 where
+  pub before : n < row.end
+  pub within : row.end ≤ n + 1 + length later
+  pub same : EndThere (n + 1) row.end later
+
+-- each row group is a run of rows
+abbrev pub AreRuns : ℕ → List TableRow → Type 0
+AreRuns n [] = Unit {0}
+AreRuns n (row ∷ rows) = BeginsRun n row rows × AreRuns (n + 1) rows
 
 -- the area has a slot, and lies within the row group of the row in which it begins
 pub record LiesWithin (rows : List TableRow) (a : Area) : Type 0 where

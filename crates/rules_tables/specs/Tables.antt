@@ -1,5 +1,5 @@
 -- The table that a cell belongs to.
-use Rattle.std.specs.Prelude.{Bool, true, false, Option, Some, None, option_map, option_and_then}
+use Rattle.std.specs.Prelude.{Bool, true, false, Option, Some, option_map, option_and_then}
 use Rattle.std.specs.Option.{option_map_or}
 use Rattle.aria_tables.specs.declared.role.Role.{Role}
 use Rattle.aria_tables.specs.declared.role.Role.TheVariants as role

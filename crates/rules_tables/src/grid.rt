@@ -45,7 +45,14 @@ fn area_within(most: usize, row: usize, end: usize, left: usize, cell: &Row) -> 
 
 /// Where the next cell of a row comes, unless it reaches past the limit. Columns are free from the row on
 /// that they say.
-pub(crate) fn next_area(columns: &[usize], most: usize, row: usize, end: usize, from: usize, cell: &Row) -> Option<Area>
+pub(crate) fn next_area(
+    columns: &[usize],
+    most: usize,
+    row: usize,
+    end: usize,
+    from: usize,
+    cell: &Row,
+) -> Option<Area>
     ensures { result ≡ within most (next_area columns.now row end from (seen_row cell.now)) }
 {
     area_within(most, row, end, first_free(columns, row, from), cell)

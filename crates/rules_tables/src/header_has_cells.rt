@@ -35,7 +35,13 @@ fn is_target(above: &Above, row: &Row) -> bool
 }
 
 // Whether a second pass finds a cell, with the header's place known from the first cell on.
-fn found_again(alloc: Global, above: &Above, header: &Row, place: Option<Area>, table: &Branches<'_>) -> Result<bool, OutOfMemory>
+fn found_again(
+    alloc: Global,
+    above: &Above,
+    header: &Row,
+    place: Option<Area>,
+    table: &Branches<'_>,
+) -> Result<bool, OutOfMemory>
     ensures { IfOk result (λ found. found ≡ found_again above.now (seen_row header.now) place (seen table.now)) }
 {
     let Some(place) = place else {
@@ -46,7 +52,13 @@ fn found_again(alloc: Global, above: &Above, header: &Row, place: Option<Area>, 
     Ok(survey.found)
 }
 
-fn finding(alloc: Global, above: &Above, header: &Row, first: &Survey, table: &Branches<'_>) -> Result<Finding, OutOfMemory>
+fn finding(
+    alloc: Global,
+    above: &Above,
+    header: &Row,
+    first: &Survey,
+    table: &Branches<'_>,
+) -> Result<Finding, OutOfMemory>
     requires { noted first.now ≡ surveyed (question above.now (seen_row header.now) None (seen table.now)) (seen table.now) }
     ensures { IfOk result (λ finding. finding ≡ header_finding above.now (seen_row header.now) (table_rows 0 (seen table.now))) }
 {
@@ -69,7 +81,12 @@ fn cells_text(alloc: Global, cells: usize) -> Result<Text, OutOfMemory>
     Ok(Text::from_string(format!(in alloc; "cells {cells}")?))
 }
 
-fn evidence(alloc: Global, question: &Question<'_>, survey: &Survey, table: &Branches<'_>) -> Result<Text, OutOfMemory>
+fn evidence(
+    alloc: Global,
+    question: &Question<'_>,
+    survey: &Survey,
+    table: &Branches<'_>,
+) -> Result<Text, OutOfMemory>
     requires { noted survey.now ≡ surveyed (seen_question question.now) (seen table.now) }
     ensures { IfOk result (λ text. text ≡ cells_text (table_rows 0 (seen table.now))) }
 {
@@ -77,7 +94,12 @@ fn evidence(alloc: Global, question: &Question<'_>, survey: &Survey, table: &Bra
     cells_text(alloc, survey.cells)
 }
 
-fn verdict(alloc: Global, above: &Above, header: &Row, table: &Branches<'_>) -> Result<Option<Verdict>, OutOfMemory>
+fn verdict(
+    alloc: Global,
+    above: &Above,
+    header: &Row,
+    table: &Branches<'_>,
+) -> Result<Option<Verdict>, OutOfMemory>
     ensures { IfOk result (λ verdict. verdict ≡ header_verdict above.now (seen_row header.now) (seen table.now)) }
 {
     if !is_target(above, header) {
@@ -109,3 +131,6 @@ impl Rule for HeaderHasCells {
         }
     }
 }
+
+#[cfg(test)]
+mod tests;

@@ -118,7 +118,13 @@ fn is_target(above: &Above, row: &Row) -> bool
         && exposed_at(above, row)
 }
 
-fn verdict(alloc: Global, tree: &Tree, table: NodeId, above: &Above, row: &Row) -> Result<Option<Verdict>, OutOfMemory>
+fn verdict(
+    alloc: Global,
+    tree: &Tree,
+    table: NodeId,
+    above: &Above,
+    row: &Row,
+) -> Result<Option<Verdict>, OutOfMemory>
     ensures { IfOk result (λ verdict. verdict ≡ option_and_then (headers_verdict above.now (seen_row row.now)) (below (seen tree.now.trees) table)) }
 {
     let Some(inside) = below(tree, table) else {
@@ -150,3 +156,6 @@ impl Rule for HeadersReferToCells {
         }
     }
 }
+
+#[cfg(test)]
+mod tests;

@@ -5,7 +5,7 @@ ghost use Rattle.snap_tree.specs.declared.row.Row.{Row};
 ghost use Rattle.snap_tree.specs.Trees.{Trees, Document};
 ghost use Rattle.acc_tree.specs.declared.above.Above.{Above};
 ghost use Rattle.rules_tables.specs.Grid.{Placed, first_free, grid};
-ghost use Rattle.rules_tables.specs.GridLaws.{IsFirstFree, AllBeginApart, LiesWithin, IsWidth};
+ghost use Rattle.rules_tables.specs.GridLaws.{IsFirstFree, AllBeginApart, AreRuns, LiesWithin, IsWidth};
 ghost use Rattle.rules_tables.specs.RoleLaws.{DependsOnTable, KeepsTable};
 ghost use Rattle.rules_tables.specs.TableRows.{table_rows};
 ghost use Rattle.rules_tables.specs.TargetLaws.{JudgesHeaders, JudgesReferences};
@@ -13,13 +13,14 @@ ghost use Rattle.rules_tables.specs.TargetLaws.{JudgesHeaders, JudgesReferences}
 /// Laws of grids. It does nothing: the clauses are what it is for.
 ///
 /// A cell begins in the first column, not before the end of the cell before it, that no cell covers in its
-/// row. No cell covers the slot in which another one begins. Each cell covers a slot, and lies within its
-/// row group. The width is the greatest covered column plus one.
-#[tactic(auto, using(crate::proofs::Lawful::first_is_free, crate::proofs::Lawful::begin_apart, crate::proofs::Lawful::lie_within, crate::proofs::Lawful::width_is))]
+/// row. No cell covers the slot in which another one begins. Each row group is a run of rows; each cell covers
+/// a slot, and lies within its row group. The width is the greatest covered column plus one.
+#[tactic(auto, using(crate::proofs::Lawful::first_is_free, crate::proofs::Lawful::begin_apart, crate::proofs::Lawful::groups_are_runs, crate::proofs::Lawful::lie_within, crate::proofs::Lawful::width_is))]
 pub fn laws_of_grids()
     ensures first { (placed : List Placed) (row from : ℕ)
         → IsFirstFree placed row from (first_free placed row from) }
     ensures apart { (table : Trees) → AllBeginApart (grid (table_rows 0 table)) }
+    ensures runs { (table : Trees) → AreRuns 0 (table_rows 0 table) }
     ensures within { (table : Trees) → AllByRecursion
         (λ p. LiesWithin (table_rows 0 table) p.area) (grid (table_rows 0 table)) }
     ensures width { (table : Trees) → IsWidth (grid (table_rows 0 table)) }

@@ -5,7 +5,9 @@ ghost use Rattle.rules_tables.specs.Survey.{most_columns};
 
 use crate::assigned::{Direction, direction_of, is_assigned};
 use crate::grid::{Area, cover, next_area};
-use crate::table_rows::{all_row_count, is_cell, is_row_group, is_table_row, neighbours, row_count};
+use crate::table_rows::{
+    all_row_count, is_cell, is_row_group, is_table_row, neighbours, row_count,
+};
 use acc_tree::Above;
 use snap_tree::{Branch, Branches, OutOfMemory, Row};
 use std::alloc::Global;
@@ -37,7 +39,12 @@ impl<'a> Question<'a> {
     ghost use Rattle.rules_tables.specs.Survey.{question, seen_question};
 
     /// What is asked of the cells of a table for a header of it, whose place may be known.
-    pub(crate) fn new(above: &Above, header: &'a Row, known: Option<Area>, table: &Branches<'_>) -> Self
+    pub(crate) fn new(
+        above: &Above,
+        header: &'a Row,
+        known: Option<Area>,
+        table: &Branches<'_>,
+    ) -> Self
         ensures { seen_question result ≡ question above.now (seen_row header.now) known (seen table.now) }
     {
         Question {
@@ -104,7 +111,12 @@ impl Survey {
         Ok(())
     }
 
-    fn fit(&mut self, question: &Question<'_>, cell: &Row, area: Option<Area>) -> Result<(), OutOfMemory>
+    fn fit(
+        &mut self,
+        question: &Question<'_>,
+        cell: &Row,
+        area: Option<Area>,
+    ) -> Result<(), OutOfMemory>
         ensures { OnOk result (noted self.new ≡ fitted (seen_question question.now) (noted self.old) (seen_row cell.now) area) }
     {
         match area {
@@ -116,18 +128,37 @@ impl Survey {
         }
     }
 
-    fn see_cell(&mut self, question: &Question<'_>, row: usize, end: usize, cell: &Row) -> Result<(), OutOfMemory>
+    fn see_cell(
+        &mut self,
+        question: &Question<'_>,
+        row: usize,
+        end: usize,
+        cell: &Row,
+    ) -> Result<(), OutOfMemory>
         ensures { OnOk result (noted self.new ≡ after_cell (seen_question question.now) row end (noted self.old) (seen_row cell.now)) }
     {
         self.cells = self.cells.saturating_add(1);
         if self.wide {
             return Ok(());
         }
-        let area = next_area(self.columns.as_slice(), question.most, row, end, self.column, cell);
+        let area = next_area(
+            self.columns.as_slice(),
+            question.most,
+            row,
+            end,
+            self.column,
+            cell,
+        );
         self.fit(question, cell, area)
     }
 
-    fn see_row(&mut self, question: &Question<'_>, row: usize, end: usize, kids: Branches<'_>) -> Result<(), OutOfMemory>
+    fn see_row(
+        &mut self,
+        question: &Question<'_>,
+        row: usize,
+        end: usize,
+        kids: Branches<'_>,
+    ) -> Result<(), OutOfMemory>
         ensures { OnOk result (noted self.new ≡ after_row (seen_question question.now) row end (noted self.old) (cells_in (seen kids.entry))) }
     {
         self.column = 0;
@@ -141,7 +172,13 @@ impl Survey {
         Ok(())
     }
 
-    fn see_group(&mut self, question: &Question<'_>, first: usize, end: usize, group: Branches<'_>) -> Result<(), OutOfMemory>
+    fn see_group(
+        &mut self,
+        question: &Question<'_>,
+        first: usize,
+        end: usize,
+        group: Branches<'_>,
+    ) -> Result<(), OutOfMemory>
         requires { first + row_count (seen group) ≡ end }
         ensures { OnOk result (noted self.new ≡ after_rows (seen_question question.now) first (noted self.old) (group_rows end (seen group.entry))) }
     {
@@ -158,7 +195,11 @@ impl Survey {
     }
 
     #[tactic(auto, using(crate::proofs::Covering::after_both, crate::proofs::Seeing::lent_first))]
-    fn see_table(&mut self, question: &Question<'_>, table: &Branches<'_>) -> Result<(), OutOfMemory>
+    fn see_table(
+        &mut self,
+        question: &Question<'_>,
+        table: &Branches<'_>,
+    ) -> Result<(), OutOfMemory>
         ensures { OnOk result (noted self.new ≡ after_rows (seen_question question.now) 0 (noted self.old) (table_rows 0 (seen table.now))) }
     {
         let _most = table.len();
@@ -183,7 +224,11 @@ impl Survey {
     }
 
     /// Goes over the cells of a table, given what is below it, and places each.
-    pub(crate) fn of(alloc: Global, question: &Question<'_>, table: &Branches<'_>) -> Result<Self, OutOfMemory>
+    pub(crate) fn of(
+        alloc: Global,
+        question: &Question<'_>,
+        table: &Branches<'_>,
+    ) -> Result<Self, OutOfMemory>
         ensures { IfOk result (λ s. noted s ≡ surveyed (seen_question question.now) (seen table.now)) }
     {
         let mut survey = Survey::new(alloc);
@@ -191,3 +236,6 @@ impl Survey {
         Ok(survey)
     }
 }
+
+#[cfg(test)]
+mod tests;

@@ -1,4 +1,4 @@
-use Rattle.std.proofs.Common.{true, false, sym, ap, ◌∙◌, cond}
+use Rattle.std.proofs.Common.{sym, ap, ◌∙◌, cond}
 use Rattle.acc_tree.specs.Seen.{seen_row, seen}
 use Rattle.rule_core.specs.declared.reason.Reason.TheVariants.{NoCells}
 use Rattle.rule_core.specs.Findings.{met, failed}

@@ -1,8 +1,5 @@
-use Rattle.std.proofs.Common.{codes, sym, ap, ◌∙◌}
-use Rattle.snap_tree.specs.Rows.{is_html}
-use Rattle.acc_tree.specs.Seen.{seen_row, seen}
-use Rattle.acc_tree.specs.Sights.{above_children}
-use Rattle.rules_tables.proofs.Nearest.{table_number, at_table, past_node, past_stranger}
+use Rattle.std.proofs.Common.{sym, ◌∙◌}
+use Rattle.rules_tables.proofs.Nearest.{at_table, past_node, past_stranger}
 use Rattle.rules_tables.proofs.tables.+nearest_table.Goals as goal
 
 pub returns-in-Some-node : goal.returns-in-Some-node
