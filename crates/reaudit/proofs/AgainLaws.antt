@@ -19,6 +19,8 @@ use Rattle.reaudit.specs.declared.parts.Part.{Part}
 use Rattle.reaudit.specs.Merging.{AreOn}
 use Rattle.reaudit.specs.Parts.{Suffice}
 use Rattle.reaudit.specs.Again.{is_of_rule, again}
+use Rattle.reaudit.proofs.Merged.{same}
+use Rattle.reaudit.proofs.PartLaws.{all_map}
 
 -- ---- the rows of an atomic rule
 
@@ -83,10 +85,6 @@ turned : (P : NodeId → RuleNo → Type 0) (Q : NodeId → Type 0) (inputs : Li
 turned P Q [] h = tt
 turned P Q (input ∷ inputs) h = (λ n q. (h n q).0, turned P Q inputs (λ n q. (h n q).1))
 
-all_map : {X : Type 0} {P Q : X → Type 0} → ((x : X) → P x → Q x) → (xs : List X) → AllByRecursion P xs → AllByRecursion Q xs
-all_map each [] all = tt
-all_map each (x ∷ xs) all = (each x all.0, all_map each xs all.1)
-
 pub still_suffice : (book : Book) (page : Document) (before js : List Judgement) (part : Part) → part.nodes ≡ map (λ (r : OutRow). r.node) (composite_rows book page before part.info) → Suffice book page js part
 still_suffice book page before js part is =
     let f = composite_row book page before part.info in
@@ -140,9 +138,6 @@ rows_own book page js info = kind (is_atomic info)
     kind : (b : Bool) → AllByRecursion (Of info.no) (cond b (atomic_rows book page js info.no) (composite_rows book page js info))
     kind true = filtered_of info.no (atomic_row book page js info.no) (λ n. of_verdict n (book.means info.no page n)) (rows_of page.trees)
     kind false = filtered_of info.no (composite_row book page js info) (λ n. of_merged n (filter_map (λ input. atomic_row book page js input n) (inputs_of info))) (rows_of page.trees)
-
-same : (n : ℕ) → eqb n n ≡ true
-same n = grind (arith, nat_tests)
 
 other : (m n : ℕ) → ltb m n ≡ true → eqb n m ≡ false
 other m n below = grind (arith, nat_tests)

@@ -14,6 +14,7 @@ use Rattle.judge_core.specs.declared.outcomes.OutRow.{OutRow}
 use Rattle.judge_core.specs.Composites.{merge, is_passed, is_open}
 use Rattle.judge_core.specs.Outcomes.{merged_row, rules_among}
 use Rattle.judge_core.proofs.Lists.{filter_map-append}
+use Rattle.judge_core.proofs.Merging.{one_alone}
 use Rattle.reaudit.specs.declared.composite.Slot.{Slot}
 use Rattle.reaudit.specs.Merging.{merged, with_row, head_on, after, AreOn, filled_by, slot_of, slot_row}
 
@@ -37,11 +38,6 @@ merge_more xs y =
     ∙ ap (λ b. by_tests (list_any is_passed xs || (is_passed y || false)) b) (list_any-append is_open xs (y ∷ []))
     ∙ two (list_any is_passed xs) (list_any is_open xs) y
 
-one_alone : (y : Auto) → merge (y ∷ []) ≡ y
-one_alone Passed = refl
-one_alone Failed = refl
-one_alone CantTell = refl
-
 map_more : {X Y : Type 0} (f : X → Y) (xs : List X) (y : X) → map f (xs ++ y ∷ []) ≡ map f xs ++ f y ∷ []
 map_more f [] y = refl
 map_more f (x ∷ xs) y = ap (λ l. f x ∷ l) (map_more f xs y)
@@ -59,10 +55,10 @@ merged_more (x ∷ rows) (Some y) =
 
 -- ---- one node more
 
-same_number : (m n : ℕ) → eqb m n ≡ true → m ≡ n
+pub same_number : (m n : ℕ) → eqb m n ≡ true → m ≡ n
 same_number m n h = grind (arith, nat_tests)
 
-same : (n : ℕ) → eqb n n ≡ true
+pub same : (n : ℕ) → eqb n n ≡ true
 same n = grind (arith, nat_tests)
 
 -- rows of nodes that have one don't begin on a node that has none

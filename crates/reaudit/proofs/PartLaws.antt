@@ -17,7 +17,7 @@ use Rattle.judge_core.specs.Outcomes.{row_of, atomic_row, atomic_rows, composite
 use Rattle.reaudit.specs.declared.parts.Part.{Part}
 use Rattle.reaudit.specs.Merging.{AreOn}
 use Rattle.reaudit.specs.Parts.{SaysByAtomic, Suffice, IsPart, AreParts, rows_found}
-use Rattle.reaudit.proofs.Merged.{filter_map_map}
+use Rattle.reaudit.proofs.Merged.{filter_map_map, same_number}
 
 -- ---- lists
 
@@ -25,7 +25,7 @@ all_of : {X : Type 0} {P : X → Type 0} → ((x : X) → P x) → (xs : List X)
 all_of each [] = tt
 all_of each (x ∷ xs) = (each x, all_of each xs)
 
-all_map : {X : Type 0} {P Q : X → Type 0} → ((x : X) → P x → Q x) → (xs : List X) → AllByRecursion P xs → AllByRecursion Q xs
+pub all_map : {X : Type 0} {P Q : X → Type 0} → ((x : X) → P x → Q x) → (xs : List X) → AllByRecursion P xs → AllByRecursion Q xs
 all_map each [] all = tt
 all_map each (x ∷ xs) all = (each x all.0, all_map each xs all.1)
 
@@ -36,9 +36,6 @@ all_more P (x ∷ xs) y all last = (all.0, all_more P xs y all.1 last)
 filter_map_none : {X Y : Type 0} (f : X → Option Y) (xs : List X) → ((x : X) → f x ≡ None) → filter_map f xs ≡ []
 filter_map_none f [] none = refl
 filter_map_none f (x ∷ xs) none = ap (λ o. cons_option o (filter_map f xs)) (none x) ∙ filter_map_none f xs none
-
-same_number : (m n : ℕ) → eqb m n ≡ true → m ≡ n
-same_number m n h = grind (arith, nat_tests)
 
 -- ---- the nodes of a page suffice for every composite rule
 

@@ -1,4 +1,4 @@
-use Rattle.std.proofs.Common.{[], ◌∷◌, ◌++◌, sym, subst, arith}
+use Rattle.std.proofs.Common.{◌≡◌, [], ◌∷◌, ◌++◌, sym, subst, arith}
 use Rattle.std.specs.List.{AllByRecursion}
 use Rattle.reaudit.specs.Parts.{IsPart}
 use Rattle.reaudit.proofs.PartLaws.{all_more, infos_more}
@@ -19,6 +19,7 @@ loop-info-preserved g c =
       infos_more c.args.infos.now at.info-index _ at.parts.items _ c.in_ok-part_of.field-0 (omega arith) at.invariant.0 c.in_ok-push.ensures.items c.in_ok-part_of.ensures.info,
       λ js has.
           let P = IsPart (record { infos = g.B.RuleBook.infos; means = g.B.RuleBook.means }) c.args.tree.now js in
-          subst (AllByRecursion P) {x = at.parts.items ++ c.in_ok-part_of.field-0 ∷ []} (sym c.in_ok-push.ensures.items) (all_more P at.parts.items _ (at.invariant.1 js has) (c.in_ok-part_of.ensures.part js has)),
+          let grown : c.push.new.self.items ≡ at.parts.items ++ c.in_ok-part_of.field-0 ∷ [] = c.in_ok-push.ensures.items in
+          subst (AllByRecursion P) (sym grown) (all_more P at.parts.items _ (at.invariant.1 js has) (c.in_ok-part_of.ensures.part js has)),
       judged_more c.args.infos.now g.B.RuleBook.means c.args.tree.now at.info-index _ _ _ _ (omega arith) at.invariant.2 c.part_of.ensures.counted,
     )
