@@ -413,7 +413,7 @@ static CELLS: [Case; 16] = [
         2,
         NO_OTHER,
     ),
-    // Of a cell that is named twice the first id counts for nothing: the words are compared.
+    // An element before the table has the id too.
     (
         &[
             Html(0, "p", &[("id", "b")]),
