@@ -1,3 +1,4 @@
 pub mod Judging
 pub mod Merging
 pub mod Lists
+pub mod Equal

@@ -3,3 +3,4 @@ pub mod Composites
 pub mod Books
 pub mod Outcomes
 pub mod RowLookups
+pub mod Equality

@@ -5,7 +5,7 @@ use rule_core::{Auto, RuleNo};
 use snap_tree::{NodeId, Text};
 
 /// What a person said of a rule on a node, where the rule alone can't tell.
-#[derive(Debug, Drop)]
+#[derive(Debug, Drop, PartialEq, Eq)]
 pub struct Judgement {
     pub rule: RuleNo,
     pub node: NodeId,

@@ -1,4 +1,5 @@
 ghost use Rattle.std.specs.Prelude.{◌≡◌, ℕ, List, [], ◌∷◌, ◌++◌, ◌||◌, Some, true, false, slice_get};
+ghost use Rattle.std.specs.Bool.{Decides};
 ghost use Rattle.std.specs.Option.{option_and_then};
 ghost use Rattle.std.specs.List.Sorted.{IsPermutation};
 ghost use Rattle.snap_tree.specs.declared.row.NodeId.{NodeId};
@@ -8,6 +9,9 @@ ghost use Rattle.rule_core.specs.declared.verdict.Auto.TheVariants.{Passed, Fail
 ghost use Rattle.judge_core.specs.declared.judgement.Judgement.{Judgement};
 ghost use Rattle.judge_core.specs.Judgements.{is_of, latest, last_place, final};
 ghost use Rattle.judge_core.specs.Composites.{merge};
+ghost use Rattle.judge_core.specs.Equality.{same_judgement, same_row, same_outcomes};
+ghost use Rattle.judge_core.specs.declared.outcomes.OutRow.{OutRow};
+ghost use Rattle.judge_core.specs.declared.outcomes.Outcomes.{Outcomes};
 
 /// Laws of judgements. It does nothing: the clauses are what it is for.
 ///
@@ -42,4 +46,14 @@ pub fn laws_of_merging()
     ensures any_order { (one other : List Auto) → IsPermutation one other → merge one ≡ merge other }
     ensures twice { (outcome : Auto) (others : List Auto)
         → merge (outcome ∷ outcome ∷ others) ≡ merge (outcome ∷ others) }
+{}
+
+/// Laws of equality. It does nothing: the clauses are what it is for.
+///
+/// Judgements, rows of outcomes, and outcomes are equal, as `==` says, exactly where they are the same.
+#[tactic(auto, using(crate::proofs::Equal::judgements_decide, crate::proofs::Equal::rows_decide, crate::proofs::Equal::outcomes_decide))]
+pub fn laws_of_equality()
+    ensures judgements { (a b : Judgement) → Decides (same_judgement a b) (a ≡ b) }
+    ensures rows { (a b : OutRow) → Decides (same_row a b) (a ≡ b) }
+    ensures outcomes { (a b : Outcomes) → Decides (same_outcomes a b) (a ≡ b) }
 {}

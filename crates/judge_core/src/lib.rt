@@ -17,5 +17,5 @@ pub use evidence::evidence_digest;
 pub use finals::final_outcome;
 pub use infos::infos_of;
 pub use judgement::Judgement;
-pub use laws::{laws_of_judgements, laws_of_merging};
+pub use laws::{laws_of_equality, laws_of_judgements, laws_of_merging};
 pub use outcomes::{Final, OutRow, Outcomes};

@@ -6,7 +6,7 @@ use rule_core::{Auto, Reason, RuleNo};
 use snap_tree::{List, NodeId, Text};
 
 /// The outcome of a rule on a node.
-#[derive(Debug, Drop)]
+#[derive(Debug, Drop, PartialEq, Eq)]
 pub struct OutRow {
     pub rule: RuleNo,
     pub node: NodeId,
@@ -21,7 +21,7 @@ pub struct OutRow {
 }
 
 /// A final outcome, and who judged: nobody, an empty text, where no judgement counts.
-#[derive(Debug, Drop)]
+#[derive(Debug, Drop, PartialEq, Eq)]
 pub struct Final {
     pub last: Auto,
     pub hand: Text,
@@ -29,7 +29,7 @@ pub struct Final {
 
 /// The outcomes of a page: the rows of each rule of a book in the order of their numbers, and of each
 /// rule in document order. A rule without a row is inapplicable.
-#[derive(Debug, Drop)]
+#[derive(Debug, Drop, PartialEq, Eq)]
 pub struct Outcomes {
     pub rows: List<OutRow>,
 }
