@@ -68,9 +68,10 @@ heading_line (b ∷ name) = Some (brief (b ∷ name))
 abbrev pub with_name : List ℕ → List ℕ → List ℕ
 with_name word name = word ++ 32 ∷ brief name
 
-abbrev pub landmark_line : Option Role → List ℕ → Option (List ℕ)
-landmark_line None name = None
-landmark_line (Some r) name = if is_landmark r then Some (with_name (word_of r) name) else None
+-- the line of a node of this role, which is included or not: of an included landmark
+abbrev pub landmark_line : Bool → Option Role → List ℕ → Option (List ℕ)
+landmark_line is_included None name = None
+landmark_line is_included (Some r) name = if is_landmark r && is_included then Some (with_name (word_of r) name) else None
 
 abbrev pub skip_line : Trees → List ℕ → List ℕ → Option (List ℕ)
 skip_line t name href = if leads_inside t href then Some (with_name href name) else None
@@ -80,30 +81,34 @@ abbrev pub collapses : Above → Row → Bool
 collapses above row =
     is_summary (html_tag row) || (is_button (role_at above row) && has (attribute.Aria aria.Expanded) row)
 
--- the line of an included node, for each of the four
+-- the line of a node that has this name, where it counts, for each of the four
 
+-- an included heading with a name
 abbrev pub of_heading : Above → Row → List ℕ → Option (List ℕ)
-of_heading above row name = if is_heading (role_at above row) then heading_line name else None
+of_heading above row name = if is_heading (role_at above row) && included above row then heading_line name else None
 
+-- an included landmark
 abbrev pub of_landmark : Above → Row → List ℕ → Option (List ℕ)
-of_landmark above row name = landmark_line (role_at above row) name
+of_landmark above row name = landmark_line (included above row) (role_at above row) name
 
+-- an included link that the Tab key reaches and that leads to an element of the page
 abbrev pub of_skip_link : Trees → Above → Row → List ℕ → Option (List ℕ)
 of_skip_link t above row name =
-    if row.facts.tabbable && is_link (role_at above row) then option_and_then (skip_line t name) (attr attribute.Href row) else None
+    if row.facts.tabbable && is_link (role_at above row) && included above row then option_and_then (skip_line t name) (attr attribute.Href row) else None
 
+-- an included node that collapses, and that the Tab key reaches
 abbrev pub of_collapse : Above → Row → List ℕ → Option (List ℕ)
-of_collapse above row name = if row.facts.tabbable && collapses above row then Some (brief name) else None
+of_collapse above row name = if row.facts.tabbable && collapses above row && included above row then Some (brief name) else None
 
--- the line of an included node, where it counts
 abbrev pub line_of : Bypass → Trees → Above → Row → List ℕ → Option (List ℕ)
 line_of bypass.Heading t above row name = of_heading above row name
 line_of bypass.Landmark t above row name = of_landmark above row name
 line_of bypass.SkipLink t above row name = of_skip_link t above row name
 line_of bypass.Collapse t above row name = of_collapse above row name
 
+-- the line of a node, where it counts
 abbrev pub line_at : Bypass → Trees → Above → Row → Option (List ℕ)
-line_at b t above row = if included above row then line_of b t above row (name_of t row.id).text else None
+line_at b t above row = line_of b t above row (name_of t row.id).text
 
 abbrev pub one : Option (List ℕ) → List (List ℕ)
 one None = []

@@ -4,7 +4,7 @@ ghost use Rattle.std.specs.String.{string_bytes};
 ghost use Rattle.snap_tree.specs.Trees.{rows_of};
 ghost use Rattle.acc_tree.specs.Seen.{seen_row, seen};
 ghost use Rattle.acc_name.specs.Names.{name_of};
-ghost use Rattle.rules_page.specs.Bypass.{is_heading, is_link, is_button, is_summary, fragment, leads_inside, heading_line, with_name, collapses, of_heading, of_landmark, of_skip_link, of_collapse, line_of, one, line_at, lines, behind, lack, question, lines_verdict, has_stop, trees_verdict};
+ghost use Rattle.rules_page.specs.Bypass.{is_heading, is_link, is_button, is_summary, fragment, leads_inside, heading_line, with_name, collapses, of_heading, of_landmark, of_skip_link, of_collapse, one, line_at, lines, behind, lack, question, lines_verdict, has_stop, trees_verdict};
 
 use acc_name::name;
 use acc_tree::{
@@ -103,7 +103,7 @@ fn of_heading(
 ) -> Result<Option<Text>, OutOfMemory>
     ensures { IfOk result (λ line. line ≡ of_heading above.now (seen_row row.now) (name_of (seen tree.now.trees) row.now.id).text) }
 {
-    if !is_heading(role_at(above, row)) {
+    if !(is_heading(role_at(above, row)) && included_at(above, row)) {
         return Ok(None);
     }
     heading_line(alloc, &name(alloc, tree, row.id)?.text)
@@ -118,7 +118,7 @@ fn of_landmark(
     ensures { IfOk result (λ line. line ≡ of_landmark above.now (seen_row row.now) (name_of (seen tree.now.trees) row.now.id).text) }
 {
     match role_at(above, row) {
-        Some(role) if is_landmark(role) => {
+        Some(role) if is_landmark(role) && included_at(above, row) => {
             let name = name(alloc, tree, row.id)?;
             Ok(Some(with_name(alloc, role.word(), &name.text)?))
         }
@@ -134,7 +134,7 @@ fn of_skip_link(
 ) -> Result<Option<Text>, OutOfMemory>
     ensures { IfOk result (λ line. line ≡ of_skip_link (seen tree.now.trees) above.now (seen_row row.now) (name_of (seen tree.now.trees) row.now.id).text) }
 {
-    if !(row.facts.tabbable && is_link(role_at(above, row))) {
+    if !(row.facts.tabbable && is_link(role_at(above, row)) && included_at(above, row)) {
         return Ok(None);
     }
     match attr(row, Attribute::Href) {
@@ -154,7 +154,7 @@ fn of_collapse(
 ) -> Result<Option<Text>, OutOfMemory>
     ensures { IfOk result (λ line. line ≡ of_collapse above.now (seen_row row.now) (name_of (seen tree.now.trees) row.now.id).text) }
 {
-    if !(row.facts.tabbable && collapses(above, row)) {
+    if !(row.facts.tabbable && collapses(above, row) && included_at(above, row)) {
         return Ok(None);
     }
     let name = name(alloc, tree, row.id)?;
@@ -162,24 +162,8 @@ fn of_collapse(
 }
 
 impl Bypass {
-    fn line_of(
-        self,
-        alloc: Global,
-        tree: &Tree,
-        above: &Above,
-        row: &Row,
-    ) -> Result<Option<Text>, OutOfMemory>
-        ensures { IfOk result (λ line. line ≡ line_of self (seen tree.now.trees) above.now (seen_row row.now) (name_of (seen tree.now.trees) row.now.id).text) }
-    {
-        match self {
-            Bypass::Heading => of_heading(alloc, tree, above, row),
-            Bypass::Landmark => of_landmark(alloc, tree, above, row),
-            Bypass::SkipLink => of_skip_link(alloc, tree, above, row),
-            Bypass::Collapse => of_collapse(alloc, tree, above, row),
-        }
-    }
-
-    // The line of a node, where it counts.
+    // The line of a node, where it counts. Most nodes don't, so the dear question whether a node is
+    // included comes after those that rule out most.
     fn line_at(
         self,
         alloc: Global,
@@ -189,10 +173,11 @@ impl Bypass {
     ) -> Result<Option<Text>, OutOfMemory>
         ensures { IfOk result (λ line. line ≡ line_at self (seen tree.now.trees) above.now (seen_row row.now)) }
     {
-        if included_at(above, row) {
-            self.line_of(alloc, tree, above, row)
-        } else {
-            Ok(None)
+        match self {
+            Bypass::Heading => of_heading(alloc, tree, above, row),
+            Bypass::Landmark => of_landmark(alloc, tree, above, row),
+            Bypass::SkipLink => of_skip_link(alloc, tree, above, row),
+            Bypass::Collapse => of_collapse(alloc, tree, above, row),
         }
     }
 
@@ -214,6 +199,7 @@ impl Bypass {
     }
 
     // Adds the lines of the nodes that count, where this is above the trees.
+    #[tactic(auto, using(crate::proofs::Leaves::no_lines))]
     fn add_lines(
         self,
         found: &mut Vec<Text>,
@@ -227,8 +213,10 @@ impl Bypass {
         let mut rest = trees;
         while let Some(branch) = rest.first() {
             self.add_line(found, alloc, tree, above, branch.row)?;
-            let kids_above = under(above, branch.row);
-            self.add_lines(found, alloc, tree, &kids_above, branch.kids)?;
+            if !branch.kids.is_empty() {
+                let kids_above = under(above, branch.row);
+                self.add_lines(found, alloc, tree, &kids_above, branch.kids)?;
+            }
             rest = branch.after;
         }
         Ok(())
