@@ -1,7 +1,7 @@
 -- A source and a sink in memory.
 use Rattle.std.specs.Prelude.{◌==◌, ℕ, ◌-◌, min, max, List, ◌++◌, length, take, drop, Bool, if◌then◌else◌, ◌||◌, Some}
-use Rattle.std.specs.List.{list_any}
 use Rattle.counts.specs.Counts.{next}
+use Rattle.named_calls.specs.Calls.{is_named}
 use Rattle.act_desk.specs.Told.{Input, Output}
 
 -- a source: the bytes left, the most that a read gives, the numbers of the reads that fail, and how
@@ -16,10 +16,6 @@ pub record Given : Type 0 where
 -- what it tells
 abbrev pub given_told : Given → Input
 given_told s = record { faults = s.faults; left = Some s.left }
-
--- the list names the call after so many
-abbrev pub is_named : List ℕ → ℕ → Bool
-is_named fails calls = list_any (λ k. k == next calls) fails
 
 -- how many bytes a read gives that doesn't fail
 abbrev pub given : Given → ℕ → ℕ

@@ -4,7 +4,6 @@
 #![tactic(auto)]
 
 mod audit;
-mod calls;
 mod command;
 mod failed;
 mod fault_line;

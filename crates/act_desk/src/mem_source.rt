@@ -1,11 +1,12 @@
 ghost use Rattle.std.specs.Prelude.{◌≡◌, ◌-◌, ◌≤◌, min, max, ◌<◌, [], length, take, drop, IsErr, IfOk, IsTrue, ◌↔◌};
-ghost use Rattle.act_desk.specs.Memory.{given_told, is_named, given, after_read};
+ghost use Rattle.named_calls.specs.Calls.{is_named};
+ghost use Rattle.act_desk.specs.Memory.{given_told, given, after_read};
 ghost use Rattle.act_desk.specs.Streams.{Reads};
 
-use crate::calls::is_named;
 use crate::failed::Failed;
 use crate::source::Source;
 use counts::next;
+use named_calls::is_named;
 use snap_tree::List;
 use std::marker::Model;
 
