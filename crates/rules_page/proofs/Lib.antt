@@ -3,4 +3,3 @@ pub mod Saturating
 pub mod Cutting
 pub mod Fragments
 pub mod Stopping
-pub mod Leaves

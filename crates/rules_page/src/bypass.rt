@@ -199,7 +199,6 @@ impl Bypass {
     }
 
     // Adds the lines of the nodes that count, where this is above the trees.
-    #[tactic(auto, using(crate::proofs::Leaves::no_lines))]
     fn add_lines(
         self,
         found: &mut Vec<Text>,
@@ -213,10 +212,8 @@ impl Bypass {
         let mut rest = trees;
         while let Some(branch) = rest.first() {
             self.add_line(found, alloc, tree, above, branch.row)?;
-            if !branch.kids.is_empty() {
-                let kids_above = under(above, branch.row);
-                self.add_lines(found, alloc, tree, &kids_above, branch.kids)?;
-            }
+            let kids_above = under(above, branch.row);
+            self.add_lines(found, alloc, tree, &kids_above, branch.kids)?;
             rest = branch.after;
         }
         Ok(())
