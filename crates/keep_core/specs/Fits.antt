@@ -1,0 +1,75 @@
+-- What fits: rows that may be put, and rows that are answered.
+use Rattle.std.specs.Prelude.{◌≡◌, ℕ, ◌-◌, ◌^◌, ◌≤◌, List, IsTrue, IsSome}
+use Rattle.std.specs.List.{All, AllPairs}
+use Rattle.web_address.specs.Address.{IsWebAddress}
+use Rattle.named_rows.specs.ByName.{IsInOrder}
+use Rattle.keep_core.specs.declared.member.Member.{Member}
+use Rattle.keep_core.specs.declared.site.Site.{Site}
+use Rattle.keep_core.specs.declared.page.PageHead.{PageHead}
+use Rattle.keep_core.specs.declared.page.Page.{Page}
+use Rattle.keep_core.specs.declared.page.PagePut.{PagePut}
+use Rattle.keep_core.specs.declared.change.Change.{Change}
+use Rattle.keep_core.specs.declared.change.Change.TheVariants.{PutSite, PutPages, DropPage, AddJudgement}
+use Rattle.keep_core.specs.declared.tables.KeptPage.{KeptPage}
+use Rattle.keep_core.specs.declared.tables.KeptSite.{KeptSite}
+use Rattle.keep_core.specs.Names.{is_name}
+use Rattle.keep_core.specs.Tables.{Tables, site_name, page_name, kept_site, kept_page}
+
+-- the greatest counter and revision
+abbrev pub most_revisions : ℕ
+most_revisions = 2 ^ 63 - 1
+
+-- ---- rows
+
+-- the users are distinct and stand in byte order
+pub record FitsSite (site : Site) : Type 0 where
+  pub name : IsTrue (is_name site.name)
+  pub counter : site.counter ≤ most_revisions
+  pub users : All (λ (m : Member). IsTrue (is_name m.user)) site.members
+  pub in_order : IsInOrder (λ (m : Member). m.user) site.members
+
+pub record FitsHead (head : PageHead) : Type 0 where
+  pub page : IsTrue (is_name head.page)
+  pub rev : head.rev ≤ most_revisions
+
+pub record FitsPage (page : Page) : Type 0 where
+  pub head : FitsHead page.head
+  pub address : IsWebAddress page.tree.address
+
+-- heads in byte order of their pages, which are distinct
+pub record FitsHeads (heads : List PageHead) : Type 0 where
+  pub each : All FitsHead heads
+  pub in_order : IsInOrder (λ (h : PageHead). h.page) heads
+
+-- ---- batches
+
+pub record FitsPages (site : List ℕ) (counter : ℕ) (pages : List PagePut) : Type 0 where
+  pub name : IsTrue (is_name site)
+  pub within : counter ≤ most_revisions
+  pub each : All (λ (p : PagePut). FitsPage p.page) pages
+  pub distinct : AllPairs (λ (p q : PagePut). p.page.head.page ≡ q.page.head.page → ⊥) pages
+
+abbrev pub Fits : Change → Type 0
+Fits (PutSite site) = FitsSite site
+Fits (PutPages site counter pages) = FitsPages site counter pages
+Fits (DropPage site page) = IsTrue (is_name site) × IsTrue (is_name page)
+Fits (AddJudgement site page judgement outcomes) = IsTrue (is_name site) × IsTrue (is_name page)
+
+-- what a change is made of is kept: the site of pages that are put, and the page of a judgement
+abbrev pub IsThere : Change → Tables → Type 0
+IsThere (PutSite site) tables = Unit {0}
+IsThere (PutPages site counter pages) tables = IsSome (kept_site site tables)
+IsThere (DropPage site page) tables = Unit {0}
+IsThere (AddJudgement site page judgement outcomes) tables = IsSome (kept_page site page tables)
+
+-- ---- tables
+
+pub record FitsKept (s : KeptSite) : Type 0 where
+  pub site : FitsSite s.site
+  pub pages : All (λ (p : KeptPage). FitsPage p.page) s.pages
+  pub in_order : IsInOrder page_name s.pages
+
+-- tables of rows that fit, in their order
+pub record FitTables (tables : Tables) : Type 0 where
+  pub each : All FitsKept tables
+  pub in_order : IsInOrder site_name tables

@@ -1,0 +1,121 @@
+ghost use Rattle.std.specs.Prelude.{◌≡◌, IfOk, map, take};
+ghost use Rattle.std.specs.Option.{option_copied};
+ghost use Rattle.named_rows.specs.ByName.{at, IsInOrder};
+ghost use Rattle.keep_core.specs.Tables.{page_name, judgements_in, outcomes_in, site_of, page_of, heads_of, judgements_of, outcomes_of, kept_page};
+ghost use Rattle.keep_core.specs.Fits.{FitTables};
+
+use crate::page::{Page, PageHead};
+use crate::site::Site;
+use crate::tables::{KeptPage, KeptSite};
+use judge_core::{Judgement, Outcomes};
+use named_rows::Rows;
+use snap_tree::{Duplicate, List, OutOfMemory, Text};
+use std::alloc::Global;
+
+/// The row of a site.
+pub fn site_row(
+    alloc: Global,
+    sites: &Rows<KeptSite>,
+    site: &Text,
+) -> Result<Option<Site>, OutOfMemory>
+    requires { FitTables sites.now }
+    ensures { IfOk result (λ found. found ≡ site_of site.now sites.now) }
+{
+    match sites.get(site) {
+        Some(kept) => Ok(Some(kept.site.copy(alloc)?)),
+        None => Ok(None),
+    }
+}
+
+// A page with what is kept of it.
+fn kept_page<'a>(sites: &'a Rows<KeptSite>, site: &Text, page: &Text) -> Option<&'a KeptPage>
+    requires { FitTables sites.now }
+    ensures { option_copied result ≡ kept_page site.now page.now sites.now }
+{
+    match sites.get(site) {
+        Some(kept) => kept.pages.get(page),
+        None => None,
+    }
+}
+
+/// A page.
+pub fn page_row(
+    alloc: Global,
+    sites: &Rows<KeptSite>,
+    site: &Text,
+    page: &Text,
+) -> Result<Option<Page>, OutOfMemory>
+    requires { FitTables sites.now }
+    ensures { IfOk result (λ found. found ≡ page_of site.now page.now sites.now) }
+{
+    match kept_page(sites, site, page) {
+        Some(kept) => Ok(Some(kept.page.copy(alloc)?)),
+        None => Ok(None),
+    }
+}
+
+/// The heads of a site's pages.
+pub fn heads(
+    alloc: Global,
+    sites: &Rows<KeptSite>,
+    site: &Text,
+) -> Result<List<PageHead>, OutOfMemory>
+    requires { FitTables sites.now }
+    ensures { IfOk result (λ heads. heads ≡ heads_of site.now sites.now) }
+{
+    match sites.get(site) {
+        Some(kept) => heads_among(alloc, kept.pages.as_slice()),
+        None => Ok(List::from_vec(Vec::new(alloc))),
+    }
+}
+
+fn heads_among(alloc: Global, pages: &[KeptPage]) -> Result<List<PageHead>, OutOfMemory>
+    ensures { IfOk result (λ heads. heads ≡ map (λ p. p.page.head) pages.now) }
+{
+    let mut heads = Vec::with_capacity(alloc, pages.len())?;
+    for kept in pages {
+        heads.push(kept.page.head.copy(alloc)?)?;
+    }
+    Ok(List::from_vec(heads))
+}
+
+/// The judgements of a page.
+pub fn judgements(
+    alloc: Global,
+    sites: &Rows<KeptSite>,
+    site: &Text,
+    page: &Text,
+) -> Result<List<Judgement>, OutOfMemory>
+    requires { FitTables sites.now }
+    ensures { IfOk result (λ js. js ≡ judgements_of site.now page.now sites.now) }
+{
+    judgements_in(alloc, kept_page(sites, site, page))
+}
+
+/// The judgements that are kept of a page; none of a strange one.
+pub fn judgements_in(alloc: Global, kept: Option<&KeptPage>) -> Result<List<Judgement>, OutOfMemory>
+    ensures { IfOk result (λ js. js ≡ judgements_in (option_copied kept.entry)) }
+{
+    match kept {
+        Some(kept) => kept.judgements.copy(alloc),
+        None => Ok(List::from_vec(Vec::new(alloc))),
+    }
+}
+
+/// The outcomes of a page.
+pub fn outcomes(
+    alloc: Global,
+    sites: &Rows<KeptSite>,
+    site: &Text,
+    page: &Text,
+) -> Result<Outcomes, OutOfMemory>
+    requires { FitTables sites.now }
+    ensures { IfOk result (λ outcomes. outcomes ≡ outcomes_of site.now page.now sites.now) }
+{
+    match kept_page(sites, site, page) {
+        Some(kept) => kept.outcomes.copy(alloc),
+        None => Ok(Outcomes {
+            rows: List::from_vec(Vec::new(alloc)),
+        }),
+    }
+}

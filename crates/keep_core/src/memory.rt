@@ -1,0 +1,156 @@
+ghost use Rattle.std.specs.Prelude.{◌≡◌, ◌≤◌, [], Some, true, false, IfSome, IfOk, OnErr, MatchResult};
+ghost use Rattle.counts.specs.Counts.{Rose};
+ghost use Rattle.keep_core.specs.declared.fault.KeepFault.TheVariants as keep;
+ghost use Rattle.keep_core.specs.Tables.{site_of, page_of, heads_of, judgements_of, outcomes_of};
+ghost use Rattle.keep_core.specs.Fits.{Fits, FitsSite, FitsPage, FitsHeads, IsThere};
+ghost use Rattle.keep_core.specs.Keeping.{Reads, Makes, CountsFaults};
+ghost use Rattle.keep_core.specs.Memory.{Memory, fails_next, after_call, after_change, FailsByList};
+
+use crate::change::Batch;
+use crate::fault::KeepFault;
+use crate::keeper::Keeper;
+use crate::page::{Page, PageHead};
+use crate::site::Site;
+use crate::tables::KeptSite;
+use crate::{edits, lookups};
+use counts::next;
+use judge_core::{Judgement, Outcomes};
+use named_calls::is_named;
+use named_rows::Rows;
+use snap_tree::{Duplicate, List, Text};
+use std::alloc::Global;
+use std::marker::Model;
+
+/// A keeper in memory. It starts empty, always tells its tables, and wants memory for copies of what it keeps
+/// and answers.
+#[derive(Drop)]
+pub struct MemoryKeeper {
+    sites: Rows<KeptSite>,
+    fails: List<u64>,
+    calls: u64,
+    faults: u64,
+}
+
+impl Model for MemoryKeeper {
+    ghost use Rattle.keep_core.specs.Memory.{Memory};
+    ghost use Rattle.std.specs.Coded.{codes};
+    ghost use Rattle.snap_tree.specs.Codes.{coded_document};
+
+    ghost Value = { Memory };
+
+    ghost coded = { Prim.hlevel (codes, coded_document) };
+
+    ghost use Rattle.keep_core.specs.Fits.{FitTables};
+
+    ghost view = { λ k. record { tables = k.sites; fails = k.fails; calls = k.calls; faults = k.faults } };
+
+    ghost invariant = { λ k. FitTables k.sites };
+}
+
+impl MemoryKeeper {
+    /// A keeper of nothing. Its calls are counted from 1, and those that `fails` names fail. It takes no
+    /// memory.
+    pub fn new(alloc: Global, fails: List<u64>) -> Self
+        ensures { result ≡ record { tables = []; fails = fails; calls = 0; faults = 0 } }
+    {
+        MemoryKeeper {
+            sites: Rows::new(alloc),
+            fails,
+            calls: 0,
+            faults: 0,
+        }
+    }
+
+    // Counts a call, and fails where the list names it.
+    fn count_call(&mut self) -> Result<(), KeepFault>
+        ensures fails { MatchResult result (λ _. fails_next self.old ≡ false) (λ fault. (fault ≡ keep.Failed) × (fails_next self.old ≡ true)) }
+        ensures never_falls { self.old.faults ≤ self.new.faults }
+        ensures rose { OnErr result (Rose self.old.faults self.new.faults) }
+        ensures after { self.new ≡ after_call self.old }
+    {
+        let fails = is_named(self.fails.as_slice(), self.calls);
+        self.calls = next(self.calls);
+        if fails {
+            self.faults = next(self.faults);
+            return Err(KeepFault::Failed);
+        }
+        Ok(())
+    }
+}
+
+impl Keeper for MemoryKeeper {
+    ghost tables = { λ k. Some k.tables };
+
+    ghost faults = { λ k. k.faults };
+
+    /// Fails exactly where the list names the call, as each call does.
+    fn site(&mut self, alloc: Global, site: &Text) -> Result<Option<Site>, KeepFault>
+        ensures reads { Reads (site_of site.now) (Some self.old.tables) (Some self.new.tables) result }
+        ensures fits { IfOk result (λ found. IfSome found FitsSite) }
+        ensures faults { CountsFaults self.old.faults self.new.faults result }
+        ensures fails { FailsByList self.old result }
+        ensures after { self.new ≡ after_call self.old }
+    {
+        self.count_call()?;
+        Ok(lookups::site_row(alloc, &self.sites, site)?)
+    }
+
+    fn load(&mut self, alloc: Global, site: &Text, page: &Text) -> Result<Option<Page>, KeepFault>
+        ensures reads { Reads (page_of site.now page.now) (Some self.old.tables) (Some self.new.tables) result }
+        ensures fits { IfOk result (λ found. IfSome found FitsPage) }
+        ensures faults { CountsFaults self.old.faults self.new.faults result }
+        ensures fails { FailsByList self.old result }
+        ensures after { self.new ≡ after_call self.old }
+    {
+        self.count_call()?;
+        Ok(lookups::page_row(alloc, &self.sites, site, page)?)
+    }
+
+    fn list(&mut self, alloc: Global, site: &Text) -> Result<List<PageHead>, KeepFault>
+        ensures reads { Reads (heads_of site.now) (Some self.old.tables) (Some self.new.tables) result }
+        ensures fits { IfOk result FitsHeads }
+        ensures faults { CountsFaults self.old.faults self.new.faults result }
+        ensures fails { FailsByList self.old result }
+        ensures after { self.new ≡ after_call self.old }
+    {
+        self.count_call()?;
+        Ok(lookups::heads(alloc, &self.sites, site)?)
+    }
+
+    fn judgements(
+        &mut self,
+        alloc: Global,
+        site: &Text,
+        page: &Text,
+    ) -> Result<List<Judgement>, KeepFault>
+        ensures reads { Reads (judgements_of site.now page.now) (Some self.old.tables) (Some self.new.tables) result }
+        ensures faults { CountsFaults self.old.faults self.new.faults result }
+        ensures fails { FailsByList self.old result }
+        ensures after { self.new ≡ after_call self.old }
+    {
+        self.count_call()?;
+        Ok(lookups::judgements(alloc, &self.sites, site, page)?)
+    }
+
+    fn outcomes(&mut self, alloc: Global, site: &Text, page: &Text) -> Result<Outcomes, KeepFault>
+        ensures reads { Reads (outcomes_of site.now page.now) (Some self.old.tables) (Some self.new.tables) result }
+        ensures faults { CountsFaults self.old.faults self.new.faults result }
+        ensures fails { FailsByList self.old result }
+        ensures after { self.new ≡ after_call self.old }
+    {
+        self.count_call()?;
+        Ok(lookups::outcomes(alloc, &self.sites, site, page)?)
+    }
+
+    fn apply(&mut self, alloc: Global, batch: &Batch) -> Result<(), KeepFault>
+        requires fits { Fits batch.now.change }
+        ensures makes { Makes batch.now.change (Some self.old.tables) (Some self.new.tables) result }
+        ensures faults { CountsFaults self.old.faults self.new.faults result }
+        ensures fails { FailsByList self.old result }
+        ensures after { self.new ≡ after_change batch.now.change self.old result }
+    {
+        self.count_call()?;
+        edits::make(alloc, &mut self.sites, &batch.change)?;
+        Ok(())
+    }
+}

@@ -1,0 +1,36 @@
+use crate::page::Page;
+use crate::site::Site;
+use judge_core::{Judgement, Outcomes};
+use named_rows::{Named, Rows};
+use snap_tree::{List, Text};
+
+/// A page with what is kept of it: its judgements in order of acceptance, and its outcomes.
+#[derive(Drop)]
+pub struct KeptPage {
+    pub page: Page,
+    pub judgements: List<Judgement>,
+    pub outcomes: Outcomes,
+}
+
+/// A site with its pages, in byte order of their names.
+#[derive(Drop)]
+pub struct KeptSite {
+    pub site: Site,
+    pub pages: Rows<KeptPage>,
+}
+
+impl Named for KeptPage {
+    ghost name = { λ p. p.page.head.page };
+
+    fn name(&self) -> &Text {
+        &self.page.head.page
+    }
+}
+
+impl Named for KeptSite {
+    ghost name = { λ s. s.site.name };
+
+    fn name(&self) -> &Text {
+        &self.site.name
+    }
+}
