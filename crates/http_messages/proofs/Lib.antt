@@ -1,0 +1,7 @@
+pub mod Numbers
+pub mod Marks
+pub mod HeadLaws
+pub mod TalkLaws
+pub mod ReadingLaws
+pub mod MessageLaws
+pub mod TalkExists

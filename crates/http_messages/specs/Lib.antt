@@ -1,0 +1,9 @@
+pub mod Faults
+pub mod Framing
+pub mod Blocks
+pub mod Heads
+pub mod Parsing
+pub mod Items
+pub mod Talk
+pub mod Reading
+pub mod Messages

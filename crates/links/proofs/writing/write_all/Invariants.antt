@@ -1,0 +1,18 @@
+use Rattle.std.proofs.Common.{◌≡◌, length, take, ◌-◌, ◌≤◌}
+use Rattle.links.specs.Wires.{Wrote}
+use Rattle.links.proofs.writing.write_all.Given as goal
+
+abbrev pub invariant-loop-at : goal.invariant-loop-at
+invariant-loop-at g l =
+    let wire = g.L.Link.wire in
+    let reads = g.L.Link.reads in
+    let faults = g.L.Link.faults in
+    record {
+      within : l.at ≤ length l.bytes;
+      wrote : Wrote (take l.at l.bytes) (wire l.initial.link) (wire l.link);
+      kept : reads l.link ≡ reads l.initial.link;
+      never_falls : faults l.initial.link ≤ faults l.link;
+    }
+
+abbrev pub decreases-loop-at : goal.decreases-loop-at
+decreases-loop-at g l = length l.bytes - l.at

@@ -1,0 +1,4 @@
+pub mod Wires
+pub mod Doors
+pub mod Memory
+pub mod Ends

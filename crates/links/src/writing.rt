@@ -1,0 +1,21 @@
+ghost use Rattle.std.specs.Prelude.{◌≡◌, OnOk, OnErr};
+ghost use Rattle.links.specs.Wires.{Wrote, WroteFront, Counts};
+
+use crate::failed::Failed;
+use crate::link::Link;
+
+/// Writes all the bytes, or a front of them where the link fails. A link that failed isn't written again.
+pub fn write_all<L: Link>(link: &mut L, bytes: &[u8]) -> Result<(), Failed>
+    ensures wrote { OnOk result (Wrote bytes.now (L.wire link.old) (L.wire link.new)) }
+    ensures broke_off { OnErr result (WroteFront bytes.now (L.wire link.old) (L.wire link.new)) }
+    ensures kept { L.reads link.new ≡ L.reads link.old }
+    ensures counts { Counts (L.faults link.old) (L.faults link.new) result }
+{
+    let mut at = 0;
+    while at < bytes.len() {
+        let (_, rest) = bytes.split_at(at);
+        let n = link.write(rest)?;
+        at += n;
+    }
+    Ok(())
+}
