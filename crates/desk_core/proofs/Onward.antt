@@ -1,0 +1,170 @@
+-- One way through a keeper after another.
+use Rattle.std.proofs.Common.{◌≡◌, ℕ, length, map, ◌<◌, ◌≤◌, List, true, Option, Some, None, Result, Ok, Err, IfSome, IfOk, IsErrOf, ◌⊎◌, inl, inr, refl, sym, ap, subst, ◌∙◌, arith}
+use Rattle.std.proofs.lemmas.List.{length-map}
+use Rattle.counts.specs.Counts.{greatest, Rose}
+use Rattle.judge_core.specs.Books.{Book}
+use Rattle.keep_core.specs.declared.change.Change.{Change}
+use Rattle.keep_core.specs.declared.site.Site.{Site}
+use Rattle.keep_core.specs.declared.tables.KeptPage.{KeptPage}
+use Rattle.keep_core.specs.declared.tables.KeptSite.{KeptSite}
+use Rattle.keep_core.specs.Tables.{Tables, kept_site, pages_of, site_of}
+use Rattle.keep_core.specs.Fits.{Fits, FitsSite, FitsPage, IsThere}
+use Rattle.desk_core.specs.declared.decided.Decided.{Decided}
+use Rattle.desk_core.specs.declared.refusal.Needed.{Needed}
+use Rattle.desk_core.specs.declared.refusal.Needed.TheVariants.{Editor}
+use Rattle.desk_core.specs.declared.refusal.Refusal.{Refusal}
+use Rattle.desk_core.specs.declared.refusal.Refusal.TheVariants as refusal
+use Rattle.desk_core.specs.Refusals.{Decision, on}
+use Rattle.desk_core.specs.State.{PageState, SiteState, State, page_state, site_state, state_of, site_at, page_at}
+use Rattle.desk_core.specs.Rights.{entering, on_page}
+use Rattle.desk_core.specs.Steps.{Request, decided}
+use Rattle.desk_core.specs.Soundness.{IsSound}
+use Rattle.desk_core.specs.Serving.{Stands, Agrees, Admits, OnlyReads, IsIn, Enters, Finds, FindsKept, Surveys, Decides, page_in}
+use Rattle.desk_core.proofs.Views.{site_seen}
+use Rattle.desk_core.proofs.Deciding.{Brings, brought}
+use Rattle.desk_core.proofs.Fitted.{IfAnyFits}
+use Rattle.desk_core.proofs.Kept.{IfAnyIsThere, decided_is_there}
+use Rattle.desk_core.proofs.Ways.{not_allowed, entered, followed, page_is, pages_are}
+
+rose_from : (from at to : ℕ) → from ≤ at → Rose at to → Rose from to
+rose_from from at to le (inl less) = inl (omega arith)
+rose_from from at to le (inr is) = inr is
+
+-- what is read after other reading is read after what came before
+pub thence : {A B : Type 0} (old mid new : Option Tables) (from at to : ℕ) (r : Result A Refusal) (s : Result B Refusal)
+    → OnlyReads old mid from at r → OnlyReads mid new at to s → OnlyReads old new from to s
+thence old mid new from at to r s earlier later = record {
+  stays = λ t told. earlier.stays t (later.stays t told);
+  never_falls = omega (arith, earlier.never_falls, later.never_falls);
+  failed = λ e. rose_from from at to earlier.never_falls (later.failed e);
+}
+
+-- reading whose answer isn't the keeper's fault
+pub only_read : {A B : Type 0} (old new : Option Tables) (from to : ℕ) (r : Result A Refusal) (s : Result B Refusal)
+    → (IsErrOf s refusal.KeeperFault → IsErrOf r refusal.KeeperFault) → OnlyReads old new from to r → OnlyReads old new from to s
+only_read old new from to r s unless reads = record { stays = reads.stays; never_falls = reads.never_falls; failed = λ e. reads.failed (unless e) }
+
+-- a refusal that stands where no keeper is asked stands anywhere, and it isn't the keeper's fault
+pub stands_anywhere : (r : Refusal) (decision : Decision) → Stands ⊥ r decision → Stands (Unit {0}) r decision
+stands_anywhere refusal.KeeperFault decision stands = tt
+stands_anywhere refusal.OutOfMemory decision stands = tt
+stands_anywhere refusal.NoSite decision stands = stands
+stands_anywhere refusal.SiteExists decision stands = stands
+stands_anywhere (refusal.NotAllowed leave) decision stands = stands
+stands_anywhere refusal.NoPage decision stands = stands
+stands_anywhere (refusal.PageLimit limit) decision stands = stands
+stands_anywhere (refusal.StaleRevision current page) decision stands = stands
+stands_anywhere (refusal.TreeFault fault page) decision stands = stands
+stands_anywhere (refusal.EditFault index kind) decision stands = stands
+stands_anywhere refusal.NoTarget decision stands = stands
+stands_anywhere (refusal.NotOpen automatic) decision stands = stands
+stands_anywhere refusal.SameHand decision stands = stands
+stands_anywhere (refusal.EvidenceMoved current) decision stands = stands
+
+pub agrees_anywhere : (result : Result Decided Refusal) (decision : Decision) → Agrees ⊥ result decision → Agrees (Unit {0}) result decision
+agrees_anywhere (Ok d) decision agrees = agrees
+agrees_anywhere (Err r) decision agrees = stands_anywhere r decision agrees
+
+pub not_fault : (result : Result Decided Refusal) (decision : Decision) → Agrees ⊥ result decision → IsErrOf result refusal.KeeperFault → ⊥
+not_fault result decision agrees is = let P : Result Decided Refusal → Type 0 = λ r. Agrees ⊥ r decision in subst P is agrees
+
+-- an answer that agrees with what is decided agrees with what that is
+pub agrees_with : (result : Result Decided Refusal) (decision other : Decision) → other ≡ decision → Agrees ⊥ result decision → Agrees (Unit {0}) result other
+agrees_with result decision other is agrees = subst (Agrees (Unit {0}) result) (sym is) (agrees_anywhere result decision agrees)
+
+-- a change that is decided fits, and is of rows that are there
+pub fits_by : (result : Result Decided Refusal) (decision : Decision) → Agrees ⊥ result decision → Brings IfAnyFits decision → IfOk result (λ d. IfSome d.change Fits)
+fits_by (Ok d) decision agrees brings = brought IfAnyFits decision d agrees brings
+fits_by (Err r) decision agrees brings = tt
+
+untold : (change : Option Change) → IfSome change (λ c. IfSome None (IsThere c))
+untold None = tt
+untold (Some change) = tt
+
+there_at : (t : Tables) (change : Option Change) → IfAnyIsThere t change → IfSome change (λ c. IfSome (Some t) (IsThere c))
+there_at t None there = tt
+there_at t (Some change) there = there
+
+there_by : (book : Book) (request : Request) (new : Option Tables) (result : Result Decided Refusal)
+    → ((t : Tables) → new ≡ Some t → Agrees ⊥ result (decided book request (state_of t)))
+    → IfOk result (λ d. IfSome d.change (λ change. IfSome new (IsThere change)))
+there_by book request None (Ok d) agrees = untold d.change
+there_by book request None (Err r) agrees = tt
+there_by book request (Some t) (Ok d) agrees =
+    there_at t d.change (brought (IfAnyIsThere t) (decided book request (state_of t)) d (agrees t refl) (decided_is_there t book request))
+there_by book request (Some t) (Err r) agrees = tt
+
+pub agrees_as : (result : Result Decided Refusal) (decision other : Decision) → other ≡ decision → Agrees ⊥ result decision → Agrees ⊥ result other
+agrees_as result decision other is agrees = subst (Agrees ⊥ result) (sym is) agrees
+
+-- a request whose answer is what is decided, whatever else is kept
+pub decides_by : {A : Type 0} (book : Book) (request : Request) (old new : Option Tables) (before now : ℕ) (r : Result A Refusal) (result : Result Decided Refusal) (decision : Decision)
+    → OnlyReads old new before now r → Agrees ⊥ result decision → Brings IfAnyFits decision
+    → ((t : Tables) → new ≡ Some t → decided book request (state_of t) ≡ decision)
+    → Decides book request old new before now result
+decides_by book request old new before now r result decision reads agrees brings is = record {
+  reads = only_read old new before now r result (λ e. absurd (not_fault result decision agrees e)) reads;
+  agrees = λ t told sound. agrees_with result decision (decided book request (state_of t)) (is t told) agrees;
+  fits = fits_by result decision agrees brings;
+  there = there_by book request new result (λ t told. agrees_as result decision (decided book request (state_of t)) (is t told) agrees);
+}
+
+-- a refusal of one reading is a refusal of any
+pub read_as : {A B : Type 0} (old new : Option Tables) (before now : ℕ) (r : Refusal) → OnlyReads {A = A} old new before now (Err r) → OnlyReads {A = B} old new before now (Err r)
+read_as {A} {B} old new before now r reads = only_read old new before now (let e : Result A Refusal = Err r in e) (let e : Result B Refusal = Err r in e) (λ e. cc) reads
+
+-- the row of a site that the caller may enter, and the refusal of one that the caller mayn't
+pub admitted : (leave : Needed) (caller name : List ℕ) (site : Site) (old new : Option Tables) (before now : ℕ) (result : Result Site Refusal)
+    → ((t : Tables) → new ≡ Some t → old ≡ Some t) → before ≤ now → FitsSite site → ((t : Tables) → new ≡ Some t → site_of name t ≡ Some site) → Admits leave caller site result
+    → Enters leave caller name old new before now result
+admitted leave caller name site old new before now (Ok given) stays never_falls fits kept admits = record {
+  reads = record { stays = stays; never_falls = never_falls; failed = λ e. cc };
+  fits = subst FitsSite admits.0 fits;
+  found = λ t told. record { kept = kept t told ∙ ap Some admits.0; may_do = admits.1 };
+  refused = tt;
+}
+admitted leave caller name site old new before now (Err r) stays never_falls fits kept admits = record {
+  reads = record { stays = stays; never_falls = never_falls; failed = λ e. let is : r ≡ refusal.NotAllowed leave = admits.0 in cc };
+  fits = tt;
+  found = tt;
+  refused =
+      λ t told next.
+      let e = not_allowed leave caller name t site next (kept t told) admits.1 in
+      subst (λ s. Stands (Unit {0}) s (entering leave caller (site_at name (state_of t)) next)) (sym admits.0) e;
+}
+
+module _ (book : Book) (request : Request) (leave : Needed) (site page : List ℕ) (next : Site → PageState → Decision)
+    (is : (t : Tables) → decided book request (state_of t) ≡ entering leave request.caller (site_at site (state_of t)) (λ s. on_page page s (next s.site))) where
+  pub found_next : (t : Tables) (found : Site) (p : PageState) → IsIn leave request.caller site found t → page_in site page t ≡ Some p
+      → decided book request (state_of t) ≡ next found p
+  found_next t found p entered there =
+      is t ∙ followed leave request.caller site page t found (Some p) (λ s. next s.site) (next found p) entered there (λ k kept same. ap (λ (s : Site). next s p) same)
+
+  -- a request about a page that was found is decided
+  pub decides_found : (old new : Option Tables) (before now : ℕ) (found : Site) (p : PageState) (result : Result Decided Refusal)
+      → Finds leave request.caller site page old new before now (Ok (found, p)) → Agrees ⊥ result (next found p) → Brings IfAnyFits (next found p)
+      → Decides book request old new before now result
+  decides_found old new before now found p result finds agrees brings =
+      decides_by book request old new before now (let r : Result (Site × PageState) Refusal = Ok (found, p) in r) result (next found p) finds.reads agrees brings
+      (λ t told. found_next t found p (finds.found t told).0 (finds.found t told).1)
+
+  -- and one about a page that wasn't is refused
+  pub decides_not_found : (old new : Option Tables) (before now : ℕ) (r : Refusal) → Finds leave request.caller site page old new before now (Err r)
+      → Decides book request old new before now (Err r)
+  decides_not_found old new before now r finds = record {
+    reads = read_as old new before now r finds.reads;
+    agrees = λ t told sound. subst (Stands (Unit {0}) r) (sym (is t)) (finds.refused t told (λ s. next s.site));
+    fits = tt;
+    there = tt;
+  }
+
+-- what is decided on putting a page is that by what was found before
+pub surveyed : (caller site page : List ℕ) (t : Tables) (found : Site) (kept : Option PageState) (count : ℕ) (next : Site → Option PageState → ℕ → Decision)
+    → IsIn Editor caller site found t → page_in site page t ≡ kept → length (pages_of site t) ≡ count
+    → entering Editor caller (site_at site (state_of t)) (λ s. next s.site (page_at page s.pages) (length s.pages)) ≡ next found kept count
+surveyed caller site page t found kept count next is there many =
+    entered Editor caller site t found (λ s. next s.site (page_at page s.pages) (length s.pages)) (next found kept count) is
+    (λ k has same.
+    ap (λ (s : Site). next s (page_at page (site_state k).pages) (length (site_state k).pages)) same
+    ∙ (ap (λ (o : Option PageState). next found o (length (site_state k).pages)) (page_is site page t k has ∙ there)
+    ∙ ap (λ n. next found kept n) (length-map k.pages page_state ∙ (ap length (sym (pages_are site t k has)) ∙ many))))

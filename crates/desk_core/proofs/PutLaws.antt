@@ -1,0 +1,39 @@
+-- What is decided on a page where nothing stands against it.
+use Rattle.std.proofs.Common.{◌≡◌, ℕ, ◌+◌, ◌==◌, List, true, Option, Some, None, Result, Ok, Err, option_map, refl, sym, ap, subst, ◌∙◌, eq-eqb}
+use Rattle.std.specs.Option.{option_map_or}
+use Rattle.snap_tree.specs.declared.row.Raw.{Raw}
+use Rattle.snap_tree.specs.declared.fault.TreeFault.{TreeFault}
+use Rattle.snap_tree.specs.Trees.{Document}
+use Rattle.snap_tree.specs.Grown.{page_of}
+use Rattle.snap_tree.specs.Faults.{tree_fault}
+use Rattle.judge_core.specs.Books.{Book}
+use Rattle.keep_core.specs.declared.site.Site.{Site}
+use Rattle.desk_core.specs.declared.refusal.Limit.TheVariants as limit
+use Rattle.desk_core.specs.declared.refusal.Refusal.{Refusal}
+use Rattle.desk_core.specs.declared.refusal.Refusal.TheVariants as refusal
+use Rattle.desk_core.specs.Refusals.{Decision, unless, unless_refused}
+use Rattle.desk_core.specs.State.{PageState}
+use Rattle.desk_core.specs.Pages.{rev_of, judged, has_room, has_revisions, current, built, renewed, put_page}
+use Rattle.desk_core.specs.Serving.{Stands}
+
+pub current_is : (rev : ℕ) (kept : Option PageState) (next : Decision) → rev ≡ rev_of kept → current rev kept next ≡ next
+current_is rev kept next is = ap (λ b. unless b (refusal.StaleRevision (rev_of kept) None) next) (eq-eqb rev (rev_of kept) is)
+
+pub built_is : (page : Option (List ℕ)) (raw : Raw) (next : Document → Decision) (tree : Document) → tree ≡ page_of raw → tree_fault raw.rows ≡ None → built page raw next ≡ next tree
+built_is page raw next tree is none =
+    ap (λ (o : Option TreeFault). unless_refused (option_map_or (λ fault. Some (refusal.TreeFault fault page)) o None) (next (page_of raw))) none ∙ ap next (sym is)
+
+module _ (book : Book) (site caller page : List ℕ) (rev : ℕ) (raw : Raw) (s : Site) (kept : Option PageState) (pages : ℕ)
+    (room : has_room kept pages ≡ true) (more : has_revisions s.counter 1 ≡ true) (same : rev ≡ rev_of kept) where
+  put_at : put_page book site caller page rev raw s kept pages ≡ built None raw (renewed book site caller page s.counter (judged kept))
+  put_at =
+      let next = built None raw (renewed book site caller page s.counter (judged kept)) in
+      ap (λ b. unless b (refusal.PageLimit limit.Pages) (unless (has_revisions s.counter 1) (refusal.PageLimit limit.Revisions) (current rev kept next))) room
+      ∙ (ap (λ b. unless b (refusal.PageLimit limit.Revisions) (current rev kept next)) more ∙ current_is rev kept next same)
+
+  pub put_is : (tree : Document) → tree ≡ page_of raw → tree_fault raw.rows ≡ None
+      → put_page book site caller page rev raw s kept pages ≡ renewed book site caller page s.counter (judged kept) tree
+  put_is tree is none = put_at ∙ built_is None raw (renewed book site caller page s.counter (judged kept)) tree is none
+
+  pub put_refused : (r : Refusal) → Stands ⊥ r (built None raw (renewed book site caller page s.counter (judged kept))) → Stands ⊥ r (put_page book site caller page rev raw s kept pages)
+  put_refused r stands = subst (Stands ⊥ r) (sym put_at) stands

@@ -1,0 +1,84 @@
+-- What is decided on reading a page: what is shown of it is true where the tables are sound.
+use Rattle.std.proofs.Common.{◌≡◌, ℕ, List, Option, Some, None, option_map, Result, Ok, Err, IfSome, refl, sym, ap, subst, ◌∙◌}
+use Rattle.judge_core.specs.Books.{Book}
+use Rattle.named_rows.specs.ByName.{at}
+use Rattle.named_rows.proofs.Lookups.{all_at}
+use Rattle.judge_core.specs.declared.outcomes.Outcomes.{Outcomes}
+use Rattle.judge_core.specs.declared.outcomes.OutRow.{OutRow}
+use Rattle.judge_core.specs.Outcomes.{outcomes}
+use Rattle.keep_core.specs.declared.site.Site.{Site}
+use Rattle.keep_core.specs.declared.page.SitePage.{SitePage}
+use Rattle.keep_core.specs.declared.tables.KeptPage.{KeptPage}
+use Rattle.keep_core.specs.declared.tables.KeptSite.{KeptSite}
+use Rattle.keep_core.specs.Tables.{Tables, site_name, page_name, kept_site, kept_page, pages_in, outcomes_of, outcomes_in}
+use Rattle.keep_core.specs.Fits.{Fits, IsThere}
+use Rattle.desk_core.specs.declared.decided.Decided.{Decided}
+use Rattle.desk_core.specs.declared.reply.Reply.{Reply}
+use Rattle.desk_core.specs.declared.refusal.Needed.TheVariants.{Reader}
+use Rattle.desk_core.specs.declared.refusal.Refusal.{Refusal}
+use Rattle.desk_core.specs.declared.refusal.Refusal.TheVariants.{KeeperFault}
+use Rattle.desk_core.specs.Refusals.{Decision}
+use Rattle.desk_core.specs.State.{PageState, page_state, state_of, site_at}
+use Rattle.desk_core.specs.Reading.{answered, site_page}
+use Rattle.desk_core.specs.Steps.{Request, read_page, decided}
+use Rattle.desk_core.specs.Soundness.{IsSound, IsSoundSite, IsSoundPage}
+use Rattle.desk_core.specs.Serving.{Stands, OnlyReads, IsIn, IsTrueTo, ReadsPage, Decides, page_in}
+use Rattle.desk_core.proofs.Ways.{followed}
+use Rattle.desk_core.proofs.Onward.{only_read, read_as}
+
+if_some : {X : Type 0} (P Q : X → Type 0) (o : Option X) → ((x : X) → P x → Q x) → IfSome o P → IfSome o Q
+if_some P Q None follows holds = tt
+if_some P Q (Some x) follows holds = follows x holds
+
+true_in : (book : Book) (page : List ℕ) (o : Option KeptSite) → IfSome o (IsSoundSite book) → IfSome (at page_name page (pages_in o)) (IsTrueTo book)
+true_in book page None sound = tt
+true_in book page (Some s) sound =
+    if_some (IsSoundPage book) (IsTrueTo book) (at page_name page s.pages) (λ p is. is.told) (all_at page_name (IsSoundPage book) page s.pages sound.pages)
+
+-- what is kept of a page is true in sound tables
+pub page_is_true : (book : Book) (t : Tables) → IsSound book t → (site page : List ℕ) → IfSome (kept_page site page t) (IsTrueTo book)
+page_is_true book t sound site page = true_in book page (kept_site site t) (all_at site_name (IsSoundSite book) site t sound.sites)
+
+true_by : (book : Book) (o : Option KeptPage) (kept : KeptPage) → IfSome o (IsTrueTo book) → option_map page_state o ≡ Some (page_state kept) → outcomes_in o ≡ kept.outcomes → IsTrueTo book kept
+true_by book None kept holds is has = cc
+true_by book (Some k) kept holds is has =
+    let same : page_state k ≡ page_state kept = cc in
+    sym (ap (λ (o : Outcomes). o.rows) has) ∙ (holds ∙ ap (λ (s : PageState). outcomes book s.page.tree s.judgements) same)
+
+-- and so is what was read of one
+pub found_is_true : (book : Book) (t : Tables) → IsSound book t → (site page : List ℕ) (kept : KeptPage) → page_in site page t ≡ Some (page_state kept) → outcomes_of site page t ≡ kept.outcomes → IsTrueTo book kept
+found_is_true book t sound site page kept is has = true_by book (kept_page site page t) kept (page_is_true book t sound site page) is has
+
+-- what is shown of a page that is true to its outcomes
+pub shown_is : (book : Book) (kept : KeptPage) (shown : SitePage) → shown ≡ record { head = kept.page.head; address = kept.page.tree.address; outcomes = kept.outcomes } → IsTrueTo book kept
+    → site_page book (page_state kept) ≡ shown
+shown_is book kept shown is holds =
+    ap (λ (rows : List OutRow). let p : SitePage = record { head = kept.page.head; address = kept.page.tree.address; outcomes = record { rows = rows } } in p) (sym holds) ∙ sym is
+
+pub read_shows : (book : Book) (caller site page : List ℕ) (t : Tables) (s : Site) (kept : KeptPage) (shown : SitePage) → IsSound book t → IsIn Reader caller site s t
+    → page_in site page t ≡ Some (page_state kept) → outcomes_of site page t ≡ kept.outcomes
+    → shown ≡ record { head = kept.page.head; address = kept.page.tree.address; outcomes = kept.outcomes }
+    → (reply : SitePage → Reply) → read_page caller page (site_at site (state_of t)) (λ p. reply (site_page book p)) ≡ answered (reply shown)
+read_shows book caller site page t s kept shown sound is there has same reply =
+    followed Reader caller site page t s (Some (page_state kept)) (λ _ p. answered (reply (site_page book p))) (answered (reply shown)) is there
+    (λ k at_site same_site. ap (λ (p : SitePage). answered (reply p)) (shown_is book kept shown same (found_is_true book t sound site page kept there has)))
+
+module _ (book : Book) (request : Request) (site page : List ℕ) (reply : SitePage → Reply)
+    (is : (t : Tables) → decided book request (state_of t) ≡ read_page request.caller page (site_at site (state_of t)) (λ p. reply (site_page book p))) where
+  pub decides_read : (old new : Option Tables) (before now : ℕ) (shown : SitePage) (d : Decided) → d ≡ record { change = None; reply = reply shown }
+      → ReadsPage book request.caller site page old new before now (Ok shown) → Decides book request old new before now (Ok d)
+  decides_read old new before now shown d same reads = record {
+    reads = only_read old new before now (let r : Result SitePage Refusal = Ok shown in r) (let r : Result Decided Refusal = Ok d in r) (λ e. cc) reads.reads;
+    agrees = λ t told sound. is t ∙ (reads.shows t told sound reply ∙ ap Ok (sym same));
+    fits = let P : Decided → Type 0 = λ e. IfSome e.change Fits in subst P (sym same) tt;
+    there = let P : Decided → Type 0 = λ e. IfSome e.change (λ change. IfSome new (IsThere change)) in subst P (sym same) tt;
+  }
+
+  pub decides_not_read : (old new : Option Tables) (before now : ℕ) (r : Refusal) → ReadsPage book request.caller site page old new before now (Err r)
+      → Decides book request old new before now (Err r)
+  decides_not_read old new before now r reads = record {
+    reads = read_as old new before now r reads.reads;
+    agrees = λ t told sound. subst (Stands (Unit {0}) r) (sym (is t)) (reads.shows t told sound reply);
+    fits = tt;
+    there = tt;
+  }

@@ -1,0 +1,89 @@
+-- All other sites stay as they are, whatever is asked of one.
+use Rattle.std.proofs.Common.{◌≡◌, ℕ, List, length, Bool, true, Option, Some, None, Result, Ok, Err, refl, sym, ap, ◌∙◌}
+use Rattle.judge_core.specs.Books.{Book}
+use Rattle.named_rows.specs.ByName.{at, take_row, with_row}
+use Rattle.named_rows.proofs.Lookups.{at_put_other, at_with_row_other}
+use Rattle.keep_core.specs.declared.site.Site.{Site}
+use Rattle.keep_core.specs.declared.page.PagePut.{PagePut}
+use Rattle.keep_core.specs.declared.change.Change.{Change}
+use Rattle.keep_core.specs.declared.change.Change.TheVariants.{PutSite, PutPages, DropPage, AddJudgement}
+use Rattle.desk_core.specs.declared.command.Command.{Command}
+use Rattle.desk_core.specs.declared.command.Command.TheVariants as command
+use Rattle.desk_core.specs.declared.refusal.Needed.TheVariants as needed
+use Rattle.desk_core.specs.declared.reply.Reply.{Reply}
+use Rattle.desk_core.specs.Refusals.{Decision}
+use Rattle.desk_core.specs.State.{PageState, SiteState, State, page_name, site_name, page_at, site_at}
+use Rattle.desk_core.specs.Pages.{put_page, edit_page, drop_page}
+use Rattle.desk_core.specs.Imports.{import}
+use Rattle.desk_core.specs.Judging.{judge}
+use Rattle.desk_core.specs.Reading.{answered}
+use Rattle.desk_core.specs.Changes.{with_counter, with_pages, in_pages, with_judgement, changed, after}
+use Rattle.desk_core.specs.Steps.{Request, site_of, read_page, read_site, decision, decided, stepped, step}
+use Rattle.desk_core.proofs.Deciding.{Brings, entering_brings, on_page_brings, put_site_brings, put_member_brings, put_page_brings, edit_page_brings, drop_page_brings, import_brings, judge_brings}
+
+-- the site that a change names
+abbrev pub site_in : Change → List ℕ
+site_in (PutSite site) = site.name
+site_in (PutPages site counter puts) = site
+site_in (DropPage site page) = site
+site_in (AddJudgement site page j outcomes) = site
+
+-- a change leaves the sites that it doesn't name
+others_stay : (n : List ℕ) (c : Change) (state : State) → (n ≡ site_in c → ⊥) → site_at n (changed c state) ≡ site_at n state
+others_stay n (PutSite site) state other = at_put_other site_name n _ state other
+others_stay n (PutPages site counter puts) state other =
+    at_with_row_other site_name site (λ s. record { site = with_counter counter s.site; pages = with_pages puts s.pages }) (λ _ _. refl) n state other
+others_stay n (DropPage site page) state other = at_with_row_other site_name site (in_pages (take_row page_name page)) (λ _ _. refl) n state other
+others_stay n (AddJudgement site page j outcomes) state other =
+    at_with_row_other site_name site (in_pages (with_row page_name page (with_judgement j))) (λ _ _. refl) n state other
+
+-- ---- what is decided names the site of the request
+
+abbrev pub Names : List ℕ → Option Change → Type 0
+Names site None = Unit {0}
+Names site (Some c) = site_in c ≡ site
+
+module _ (caller site : List ℕ) (kept : Option SiteState) where
+  page_names : (page : List ℕ) (reply : PageState → Reply) → Brings (Names site) (read_page caller page kept reply)
+  page_names page reply =
+      entering_brings (Names site) needed.Reader caller kept _ (λ s _ _. on_page_brings (Names site) page s (λ p. answered (reply p)) (λ _ _. tt))
+
+  site_names : (reply : SiteState → Reply) → Brings (Names site) (read_site caller kept reply)
+  site_names reply = entering_brings (Names site) needed.Reader caller kept _ (λ _ _ _. tt)
+
+names_by : (book : Book) (caller : List ℕ) (c : Command) (kept : Option SiteState) → Brings (Names (site_of c)) (decision book caller c kept)
+names_by book caller (command.PutSite site) kept = put_site_brings (Names site) site caller kept (λ _. refl)
+names_by book caller (command.PutMember site user held) kept =
+    entering_brings (Names site) needed.Owner caller kept _ (λ s _ _. put_member_brings (Names site) site caller user held s.site (λ _. refl))
+names_by book caller (command.PutPage site page rev raw) kept =
+    entering_brings (Names site) needed.Editor caller kept _ (λ s _ _.
+    put_page_brings (Names site) book site caller page rev raw s.site (page_at page s.pages) (length s.pages) (λ _ _ _ _. refl))
+names_by book caller (command.DropPage site page rev) kept =
+    entering_brings (Names site) needed.Editor caller kept _ (λ s _ _.
+    on_page_brings (Names site) page s (drop_page site page rev) (λ p _. drop_page_brings (Names site) site page rev p (λ _. refl)))
+names_by book caller (command.EditPage site page rev edits) kept =
+    entering_brings (Names site) needed.Editor caller kept _ (λ s _ _.
+    on_page_brings (Names site) page s (edit_page book site caller page rev edits s.site) (λ p _.
+    edit_page_brings (Names site) book site caller page rev edits s.site p (λ _ _ _ _. refl)))
+names_by book caller (command.GetPage site page) kept = page_names caller site kept page _
+names_by book caller (command.GetOutcomes site page) kept = page_names caller site kept page _
+names_by book caller (command.GetReport site page) kept = page_names caller site kept page _
+names_by book caller (command.GetEarl site page) kept = page_names caller site kept page _
+names_by book caller (command.GetNames site page) kept = page_names caller site kept page _
+
+stays_after : (n site : List ℕ) (change : Option Change) (state : State) → Names site change → (n ≡ site → ⊥) → site_at n (after change state) ≡ site_at n state
+stays_after n site None state names other = refl
+stays_after n site (Some c) state names other = others_stay n c state (λ same. other (same ∙ names))
+
+stays_stepped : (n site : List ℕ) (decision : Decision) (state : State) → Brings (Names site) decision → (n ≡ site → ⊥) → site_at n (stepped state decision).0 ≡ site_at n state
+stays_stepped n site (Ok d) state names other = stays_after n site d.change state names other
+stays_stepped n site (Err refusal) state names other = refl
+
+-- a request leaves all sites but the one that it names
+pub other_sites_stay : (book : Book) (q : Request) (state : State) (n : List ℕ) → (n ≡ site_of q.command → ⊥) → site_at n (step book state q).0 ≡ site_at n state
+other_sites_stay book q state n other =
+    stays_stepped n (site_of q.command) (decided book q state) state (names_by book q.caller q.command (site_at (site_of q.command) state)) other
+
+-- what is decided depends on the row of the named site alone
+pub decided_by_site : (book : Book) (q : Request) (one other : State) → site_at (site_of q.command) one ≡ site_at (site_of q.command) other → decided book q one ≡ decided book q other
+decided_by_site book q one other same = ap (decision book q.caller q.command) same

@@ -1,0 +1,110 @@
+-- What follows from what is read of the tables: of a site's row, and of a page.
+use Rattle.std.proofs.Common.{◌≡◌, ℕ, List, map, length, Bool, true, false, Option, Some, None, option_map, Result, Ok, Err, refl, sym, ap, subst, ◌∙◌}
+use Rattle.named_rows.specs.ByName.{at}
+use Rattle.keep_core.specs.declared.fault.KeepFault.{KeepFault}
+use Rattle.keep_core.specs.declared.fault.KeepFault.TheVariants as keep
+use Rattle.keep_core.specs.declared.page.Page.{Page}
+use Rattle.keep_core.specs.declared.site.Site.{Site}
+use Rattle.keep_core.specs.declared.tables.KeptPage.{KeptPage}
+use Rattle.keep_core.specs.declared.tables.KeptSite.{KeptSite}
+use Rattle.keep_core.specs.Tables.{Tables, kept_site, kept_page, pages_in, pages_of, site_of, page_of, judgements_of, judgements_in}
+use Rattle.keep_core.specs.Tables as kept
+use Rattle.judge_core.specs.declared.judgement.Judgement.{Judgement}
+use Rattle.desk_core.specs.declared.refusal.Needed.{Needed}
+use Rattle.desk_core.specs.declared.refusal.Refusal.{Refusal}
+use Rattle.desk_core.specs.declared.refusal.Refusal.TheVariants.{NoSite, NotAllowed, NoPage}
+use Rattle.desk_core.specs.Refusals.{Decision, of_keep_fault, unless, on}
+use Rattle.desk_core.specs.State.{PageState, SiteState, page_state, site_state, state_of, site_at, page_at}
+use Rattle.desk_core.specs.Rights.{may, role_of, allowed, entering, on_page}
+use Rattle.desk_core.specs.Serving.{Stands, IsIn, page_in}
+use Rattle.desk_core.proofs.Views.{site_seen, page_seen}
+
+-- a keeper's fault stands in the place of any decision
+pub fault_stands : (fault : KeepFault) (decision : Decision) → Stands (Unit {0}) (of_keep_fault fault) decision
+fault_stands keep.Failed decision = tt
+fault_stands keep.OutOfMemory decision = tt
+
+no_site_by : (leave : Needed) (caller : List ℕ) (o : Option KeptSite) (next : SiteState → Decision) → option_map (λ (k : KeptSite). k.site) o ≡ None
+    → entering leave caller (option_map site_state o) next ≡ Err NoSite
+no_site_by leave caller None next is = refl
+no_site_by leave caller (Some k) next is = cc
+
+-- a site that isn't kept isn't entered
+pub no_site : (leave : Needed) (caller name : List ℕ) (t : Tables) (next : SiteState → Decision) → site_of name t ≡ None
+    → entering leave caller (site_at name (state_of t)) next ≡ Err NoSite
+no_site leave caller name t next is = ap (λ o. entering leave caller o next) (site_seen name t) ∙ no_site_by leave caller (kept_site name t) next is
+
+some_inside : {X : Type 0} (x y : X) → Some x ≡ Some y → x ≡ y
+some_inside x y e = cc
+
+not_allowed_by : (leave : Needed) (caller : List ℕ) (o : Option KeptSite) (site : Site) (next : SiteState → Decision) → option_map (λ (k : KeptSite). k.site) o ≡ Some site
+    → may leave (role_of caller site.members) ≡ false → entering leave caller (option_map site_state o) next ≡ Err (NotAllowed leave)
+not_allowed_by leave caller None site next is isnt = cc
+not_allowed_by leave caller (Some k) site next is isnt =
+    let same : k.site ≡ site = some_inside k.site site is in
+    ap (λ (s : Site). unless (may leave (role_of caller s.members)) (NotAllowed leave) (next (site_state k))) same
+    ∙ ap (λ b. unless b (NotAllowed leave) (next (site_state k))) isnt
+
+-- nor one in which the caller hasn't the leave
+pub not_allowed : (leave : Needed) (caller name : List ℕ) (t : Tables) (site : Site) (next : SiteState → Decision) → site_of name t ≡ Some site
+    → may leave (role_of caller site.members) ≡ false → entering leave caller (site_at name (state_of t)) next ≡ Err (NotAllowed leave)
+not_allowed leave caller name t site next is isnt =
+    ap (λ o. entering leave caller o next) (site_seen name t) ∙ not_allowed_by leave caller (kept_site name t) site next is isnt
+
+entered_by : (leave : Needed) (caller : List ℕ) (o : Option KeptSite) (site : Site) (next : SiteState → Decision) (decision : Decision)
+    → option_map (λ (k : KeptSite). k.site) o ≡ Some site → may leave (role_of caller site.members) ≡ true
+    → ((k : KeptSite) → o ≡ Some k → k.site ≡ site → next (site_state k) ≡ decision)
+    → entering leave caller (option_map site_state o) next ≡ decision
+entered_by leave caller None site next decision is holds follows = cc
+entered_by leave caller (Some k) site next decision is holds follows =
+    let same : k.site ≡ site = some_inside k.site site is in
+    ap (λ (s : Site). unless (may leave (role_of caller s.members)) (NotAllowed leave) (next (site_state k))) same
+    ∙ (ap (λ b. unless b (NotAllowed leave) (next (site_state k))) holds ∙ follows k refl same)
+
+-- what follows in a site that is entered is what is decided
+pub entered : (leave : Needed) (caller name : List ℕ) (t : Tables) (site : Site) (next : SiteState → Decision) (decision : Decision)
+    → IsIn leave caller name site t
+    → ((k : KeptSite) → kept_site name t ≡ Some k → k.site ≡ site → next (site_state k) ≡ decision)
+    → entering leave caller (site_at name (state_of t)) next ≡ decision
+entered leave caller name t site next decision is follows =
+    ap (λ o. entering leave caller o next) (site_seen name t)
+    ∙ entered_by leave caller (kept_site name t) site next decision is.kept is.may_do follows
+
+-- the pages of a site that is kept
+pub pages_are : (name : List ℕ) (t : Tables) (k : KeptSite) → kept_site name t ≡ Some k → pages_of name t ≡ k.pages
+pages_are name t k is = ap pages_in is
+
+-- the state of a page is what is read of it
+pub page_is : (name page : List ℕ) (t : Tables) (k : KeptSite) → kept_site name t ≡ Some k → page_at page (site_state k).pages ≡ page_in name page t
+page_is name page t k is =
+    page_seen page k.pages ∙ sym (ap (λ pages. option_map page_state (at kept.page_name page pages)) (pages_are name t k is))
+
+no_page_by : (o : Option KeptPage) → option_map (λ (p : KeptPage). p.page) o ≡ None → option_map page_state o ≡ None
+no_page_by None is = refl
+no_page_by (Some p) is = cc
+
+-- a page that isn't loaded isn't there
+pub no_page : (name page : List ℕ) (t : Tables) → page_of name page t ≡ None → page_in name page t ≡ None
+no_page name page t is = no_page_by (kept_page name page t) is
+
+a_page_by : (o : Option KeptPage) (p : Page) (js : List Judgement) → option_map (λ (p : KeptPage). p.page) o ≡ Some p → judgements_in o ≡ js
+    → option_map page_state o ≡ Some (record { page = p; judgements = js })
+a_page_by None p js is has = cc
+a_page_by (Some k) p js is has =
+    let same : k.page ≡ p = cc in
+    ap (λ (q : Page). Some (let s : PageState = record { page = q; judgements = k.judgements } in s)) same
+    ∙ ap (λ l. Some (let s : PageState = record { page = p; judgements = l } in s)) has
+
+-- and one that is loaded is there, with the judgements that are read of it
+pub a_page : (name page : List ℕ) (t : Tables) (p : Page) (js : List Judgement) → page_of name page t ≡ Some p → judgements_of name page t ≡ js
+    → page_in name page t ≡ Some (record { page = p; judgements = js })
+a_page name page t p js is has = a_page_by (kept_page name page t) p js is has
+
+-- what follows on a page of a site that is entered is what is decided
+pub followed : (leave : Needed) (caller name page : List ℕ) (t : Tables) (site : Site) (found : Option PageState) (next : SiteState → PageState → Decision) (decision : Decision)
+    → IsIn leave caller name site t → page_in name page t ≡ found
+    → ((k : KeptSite) → kept_site name t ≡ Some k → k.site ≡ site → on found NoPage (next (site_state k)) ≡ decision)
+    → entering leave caller (site_at name (state_of t)) (λ s. on_page page s (next s)) ≡ decision
+followed leave caller name page t site found next decision is there follows =
+    entered leave caller name t site (λ s. on_page page s (next s)) decision is
+    (λ k kept same. ap (λ o. on o NoPage (next (site_state k))) (page_is name page t k kept ∙ there) ∙ follows k kept same)

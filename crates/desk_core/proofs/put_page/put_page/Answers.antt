@@ -1,0 +1,31 @@
+use Rattle.std.proofs.Common.{◌≡◌, ap, sym, subst, refl, ◌∙◌, length}
+use Rattle.keep_core.specs.declared.site.Site.{Site}
+use Rattle.judge_core.specs.Books.{Book}
+use Rattle.desk_core.specs.declared.command.Command.TheVariants.{PutPage}
+use Rattle.desk_core.specs.declared.refusal.Needed.TheVariants.{Editor}
+use Rattle.desk_core.specs.Steps.{Request}
+use Rattle.desk_core.specs.State.{page_at}
+use Rattle.desk_core.specs.Pages.{put_page}
+use Rattle.desk_core.proofs.Fitted.{put_page_fits}
+use Rattle.desk_core.proofs.Onward.{decides_by, surveyed, read_as}
+use Rattle.desk_core.proofs.put_page.put_page.Goals as goal
+
+pub returns-in-Ok-clause-decides : goal.returns-in-Ok-clause-decides
+returns-in-Ok-clause-decides g c =
+    let book : Book = record { infos = g.B.RuleBook.infos; means = g.B.RuleBook.means } in
+    let sent = c.args.sent in
+    let at = c.in-Ok.survey in
+    let request : Request = record { caller = c.args.caller.now; command = PutPage sent.site sent.page sent.rev c.args.raw } in
+    decides_by book request _ _ _ _ _ c.decide.result (put_page book sent.site c.args.caller.now sent.page sent.rev c.args.raw at.site at.kept at.pages)
+    c.in-Ok.ensures.reads c.decide.ensures.decided (put_page_fits book sent.site c.args.caller.now sent.page sent.rev c.args.raw at.site at.kept at.pages c.requires.site c.requires.page c.requires.address)
+    (λ t told.
+    let found = c.in-Ok.ensures.found t told in
+    surveyed c.args.caller.now sent.site sent.page t at.site at.kept at.pages (put_page book sent.site c.args.caller.now sent.page sent.rev c.args.raw) found.0 found.1 found.2)
+
+pub returns-in-Err-clause-decides : goal.returns-in-Err-clause-decides
+returns-in-Err-clause-decides g c = record {
+  reads = read_as _ _ _ _ _ c.in-Err.ensures.reads;
+  agrees = λ t told sound. c.in-Err.ensures.refused t told _;
+  fits = tt;
+  there = tt;
+}

@@ -1,0 +1,44 @@
+-- How many judgings a request may cost: those of the pages that it audits.
+use Rattle.std.specs.Prelude.{ℕ, List, sum_by, option_map, Option, Some, None, Result, Ok, Err}
+use Rattle.std.specs.Option.{option_map_or}
+use Rattle.snap_tree.specs.declared.row.Raw.{Raw}
+use Rattle.snap_tree.specs.Trees.{Trees, Document, with_trees}
+use Rattle.snap_tree.specs.Grown.{page_of}
+use Rattle.snap_tree.specs.Faults.{tree_fault}
+use Rattle.snap_edit.specs.declared.edit.Edit.{Edit}
+use Rattle.snap_edit.specs.declared.fault.EditFault.{EditFault}
+use Rattle.snap_edit.specs.Edits.{edited_all}
+use Rattle.judge_core.specs.Books.{Book}
+use Rattle.judge_core.specs.Outcomes.{judgings}
+use Rattle.desk_core.specs.declared.command.Entry.{Entry}
+use Rattle.desk_core.specs.declared.command.Command.{Command}
+use Rattle.desk_core.specs.declared.command.Command.TheVariants as command
+use Rattle.desk_core.specs.Imports.{first_fault}
+use Rattle.desk_core.specs.State.{PageState, SiteState, State, page_at, site_at}
+use Rattle.desk_core.specs.Steps.{Request}
+
+-- a page that is put is audited where its rows make a tree
+abbrev pub put_judgings : Book → Raw → ℕ
+put_judgings book raw = option_map_or (λ fault. 0) (tree_fault raw.rows) (judgings book (page_of raw))
+
+-- pages of an import are audited where the rows of each make one
+abbrev pub import_judgings : Book → List Entry → ℕ
+import_judgings book entries = option_map_or (λ refusal. 0) (first_fault entries) (sum_by (λ e. judgings book (page_of e.raw)) entries)
+
+abbrev pub edited_judgings : Book → Document → Result Trees EditFault → ℕ
+edited_judgings book page (Ok t) = judgings book (with_trees page t)
+edited_judgings book page (Err fault) = 0
+
+-- an edited page is audited where the edits can be carried out
+abbrev pub edit_judgings : Book → List Edit → PageState → ℕ
+edit_judgings book edits p = edited_judgings book p.page.tree (edited_all p.page.tree.trees edits)
+
+abbrev pub at_page : List ℕ → Option SiteState → (PageState → ℕ) → ℕ
+at_page page None f = 0
+at_page page (Some s) f = option_map_or f (page_at page s.pages) 0
+
+-- the judgings of a command in the site that it names
+abbrev pub command_judgings : Book → Command → Option SiteState → ℕ
+command_judgings book (command.PutPage site page rev raw) kept = put_judgings book raw
+command_judgings book (command.EditPage site page rev edits) kept = at_page page kept (edit_judgings book edits)
+command_judgings book other kept = 0

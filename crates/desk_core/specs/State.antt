@@ -1,0 +1,37 @@
+-- What the desk keeps, without the outcomes: those are of each page's tree and judgements.
+use Rattle.std.specs.Prelude.{ℕ, List, map, Option}
+use Rattle.keep_core.specs.declared.site.Site.{Site}
+pub use Rattle.desk_core.specs.declared.page_state.PageState.{PageState}
+use Rattle.keep_core.specs.declared.tables.KeptPage.{KeptPage}
+use Rattle.keep_core.specs.declared.tables.KeptSite.{KeptSite}
+use Rattle.named_rows.specs.ByName.{at}
+
+-- a site with its pages
+pub record SiteState : Type 0 where
+  pub site : Site
+  pub pages : List PageState
+
+abbrev pub State : Type 0
+State = List SiteState
+
+abbrev pub page_state : KeptPage → PageState
+page_state kept = record { page = kept.page; judgements = kept.judgements }
+
+abbrev pub site_state : KeptSite → SiteState
+site_state kept = record { site = kept.site; pages = map page_state kept.pages }
+
+-- the state that tables give
+abbrev pub state_of : List KeptSite → State
+state_of tables = map site_state tables
+
+abbrev pub page_name : PageState → List ℕ
+page_name p = p.page.head.page
+
+abbrev pub site_name : SiteState → List ℕ
+site_name s = s.site.name
+
+abbrev pub page_at : List ℕ → List PageState → Option PageState
+page_at name pages = at page_name name pages
+
+abbrev pub site_at : List ℕ → State → Option SiteState
+site_at name state = at site_name name state

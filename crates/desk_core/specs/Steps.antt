@@ -1,0 +1,71 @@
+-- The machine: one request is one step, from what is kept to what is kept after it, with a reply.
+use Rattle.std.specs.Prelude.{ℕ, List, length, Option, Ok, Err}
+use Rattle.judge_core.specs.Books.{Book}
+use Rattle.desk_core.specs.declared.command.Command.{Command}
+use Rattle.desk_core.specs.declared.command.Command.TheVariants as command
+use Rattle.desk_core.specs.declared.refusal.Needed.TheVariants as needed
+use Rattle.desk_core.specs.declared.reply.Reply.{Reply}
+use Rattle.desk_core.specs.declared.reply.Reply.TheVariants as reply
+use Rattle.desk_core.specs.Refusals.{Decision}
+use Rattle.desk_core.specs.State.{State, PageState, SiteState, page_at, site_at}
+use Rattle.desk_core.specs.Rights.{entering, on_page}
+use Rattle.desk_core.specs.Members.{put_site, put_member}
+use Rattle.desk_core.specs.Pages.{put_page, edit_page, drop_page}
+use Rattle.desk_core.specs.Imports.{import}
+use Rattle.desk_core.specs.Judging.{judge}
+use Rattle.desk_core.specs.Reading.{answered, site_page, sheet}
+use Rattle.desk_core.specs.Changes.{after}
+
+-- a request: who asks, and what
+pub record Request : Type 0 where
+  pub caller : List ℕ
+  pub command : Command
+
+-- the site of a command
+abbrev pub site_of : Command → List ℕ
+site_of (command.PutSite site) = site
+site_of (command.PutMember site user held) = site
+site_of (command.PutPage site page rev raw) = site
+site_of (command.GetPage site page) = site
+site_of (command.DropPage site page rev) = site
+site_of (command.EditPage site page rev edits) = site
+site_of (command.GetOutcomes site page) = site
+site_of (command.GetReport site page) = site
+site_of (command.GetEarl site page) = site
+site_of (command.GetNames site page) = site
+
+-- what any member may: to ask for a page, and for a site
+abbrev pub read_page : List ℕ → List ℕ → Option SiteState → (PageState → Reply) → Decision
+read_page caller page kept reply = entering needed.Reader caller kept (λ s. on_page page s (λ p. answered (reply p)))
+
+abbrev pub read_site : List ℕ → Option SiteState → (SiteState → Reply) → Decision
+read_site caller kept reply = entering needed.Reader caller kept (λ s. answered (reply s))
+
+-- what is decided on a command in the site that it names, where that is kept
+abbrev pub decision : Book → List ℕ → Command → Option SiteState → Decision
+decision book caller (command.PutSite site) kept = put_site site caller kept
+decision book caller (command.PutMember site user held) kept =
+    entering needed.Owner caller kept (λ s. put_member site caller user held s.site)
+decision book caller (command.PutPage site page rev raw) kept =
+    entering needed.Editor caller kept (λ s. put_page book site caller page rev raw s.site (page_at page s.pages) (length s.pages))
+decision book caller (command.DropPage site page rev) kept =
+    entering needed.Editor caller kept (λ s. on_page page s (drop_page site page rev))
+decision book caller (command.EditPage site page rev edits) kept =
+    entering needed.Editor caller kept (λ s. on_page page s (edit_page book site caller page rev edits s.site))
+decision book caller (command.GetPage site page) kept = read_page caller page kept (λ p. reply.Page p.page)
+decision book caller (command.GetOutcomes site page) kept = read_page caller page kept (λ p. reply.Outcomes (site_page book p))
+decision book caller (command.GetReport site page) kept = read_page caller page kept (λ p. reply.Report (site_page book p))
+decision book caller (command.GetEarl site page) kept = read_page caller page kept (λ p. reply.Earl (site_page book p))
+decision book caller (command.GetNames site page) kept = read_page caller page kept (λ p. reply.Names p.page.tree)
+
+-- what is decided on a request in a state: it depends on the rows of the named site alone
+abbrev pub decided : Book → Request → State → Decision
+decided book request state = decision book request.caller request.command (site_at (site_of request.command) state)
+
+-- the state after what was decided, and the reply
+abbrev pub stepped : State → Decision → State × Reply
+stepped state (Ok d) = (after d.change state, d.reply)
+stepped state (Err refusal) = (state, reply.Refused refusal)
+
+abbrev pub step : Book → State → Request → State × Reply
+step book state request = stepped state (decided book request state)

@@ -1,0 +1,61 @@
+ghost use Rattle.std.specs.Prelude.{IsTrue};
+ghost use Rattle.desk_core.specs.declared.command.Command.TheVariants.{DropPage};
+ghost use Rattle.desk_core.specs.Pages.{drop_page};
+ghost use Rattle.keep_core.specs.Names.{is_name};
+ghost use Rattle.desk_core.specs.Serving.{Agrees, Decides};
+ghost use Rattle.judge_core.specs.Books.{Book};
+
+use crate::decided::Decided;
+use crate::look::find;
+use crate::page_state::PageState;
+use crate::refusal::{Needed, Refusal};
+use crate::reply::Reply;
+use crate::sent::Sent;
+use keep_core::{Change, Keeper};
+use snap_tree::Text;
+use std::alloc::Global;
+
+/// Drops a page.
+pub fn drop_page<K: Keeper>(
+    alloc: Global,
+    keeper: &mut K,
+    caller: &Text,
+    sent: Sent,
+) -> Result<Decided, Refusal>
+    requires site { IsTrue (is_name sent.site) }
+    requires page { IsTrue (is_name sent.page) }
+    ensures { (book : Book) → Decides book (record { caller = caller.now; command = DropPage sent.site sent.page sent.rev })
+        (K.tables keeper.old) (K.tables keeper.new) (K.faults keeper.old) (K.faults keeper.new) result }
+{
+    match find(
+        alloc,
+        keeper,
+        Needed::Editor,
+        caller,
+        &sent.site,
+        &sent.page,
+    ) {
+        Ok(found) => decide(alloc, sent, &found.1),
+        Err(refusal) => Err(refusal),
+    }
+}
+
+fn decide(alloc: Global, sent: Sent, found: &PageState) -> Result<Decided, Refusal>
+    ensures { Agrees ⊥ result (drop_page sent.site sent.page sent.rev found.now) }
+{
+    let current = found.page.head.rev;
+    if sent.rev != current {
+        return Err(Refusal::StaleRevision {
+            current,
+            page: None,
+        });
+    }
+    let page = sent.page.copy(alloc)?;
+    Ok(Decided {
+        change: Some(Change::DropPage {
+            site: sent.site,
+            page: sent.page,
+        }),
+        reply: Reply::Dropped { page },
+    })
+}

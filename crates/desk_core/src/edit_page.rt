@@ -1,0 +1,137 @@
+ghost use Rattle.std.specs.Prelude.{◌≡◌, ◌+◌, ◌<◌, ◌≤◌, length, sum_by, true, Some, Ok, IsTrue, IfOk, IfErr};
+ghost use Rattle.snap_tree.specs.Trees.{Document, with_trees};
+ghost use Rattle.snap_edit.specs.Edits.{edited_all};
+ghost use Rattle.keep_core.specs.Names.{is_name};
+ghost use Rattle.desk_core.specs.declared.command.Command.TheVariants.{EditPage};
+ghost use Rattle.desk_core.specs.Refusals.{Decision};
+ghost use Rattle.desk_core.specs.Pages.{has_revisions, edited, edit_page};
+ghost use Rattle.desk_core.specs.Costs.{edit_judgings, command_judgings};
+ghost use Rattle.desk_core.specs.State.{state_of, site_at};
+ghost use Rattle.desk_core.specs.Serving.{Agrees, Decides, Stands};
+ghost use Rattle.keep_core.specs.Tables.{Tables};
+
+use crate::decided::Decided;
+use crate::look::find;
+use crate::page_state::PageState;
+use crate::put_page::{has_revision, renewed};
+use crate::refusal::{Limit, Needed, Refusal};
+use crate::sent::Sent;
+use keep_core::{Keeper, Site};
+use rule_core::RuleBook;
+use snap_edit::{Edit, EditFault, apply};
+use snap_tree::{List, Text, Tree};
+use std::alloc::Global;
+
+// The edited page, and else the first fault of the edits.
+fn edit_tree(alloc: Global, tree: &Tree, edits: &[Edit]) -> Result<Tree, Refusal>
+    ensures edited { IfOk result (λ t. edited_all tree.now.trees edits.now ≡ Ok t.trees) }
+    ensures kept { IfOk result (λ t. t ≡ with_trees tree.now t.trees) }
+    ensures refused { IfErr result (λ r. (next : Document → Decision)
+        → Stands ⊥ r (edited tree.now (edited_all tree.now.trees edits.now) next)) }
+{
+    match apply(alloc, tree, edits) {
+        Ok(new) => Ok(new),
+        Err(EditFault::At { index, kind }) => Err(Refusal::EditFault { index, kind }),
+        Err(EditFault::OutOfMemory) => Err(Refusal::OutOfMemory),
+    }
+}
+
+// What is decided where neither the limit nor the revision stands against it.
+fn edit_there<B: RuleBook>(
+    alloc: Global,
+    books: &mut [B],
+    caller: &Text,
+    sent: Sent,
+    edits: &[Edit],
+    site: &Site,
+    kept: &PageState,
+) -> Result<Decided, Refusal>
+    requires some { 0 < length books.old }
+    requires revision { has_revisions site.now.counter 1 ≡ true }
+    requires current { sent.rev ≡ kept.now.page.head.rev }
+    ensures decided { Agrees ⊥ result
+        (edit_page (record { infos = B.infos; means = B.means }) sent.site caller.now sent.page sent.rev edits.now
+        site.now kept.now) }
+    ensures counted { sum_by B.calls books.new ≤ sum_by B.calls books.old
+        + edit_judgings (record { infos = B.infos; means = B.means }) edits.now kept.now }
+{
+    match edit_tree(alloc, &kept.page.tree, edits) {
+        Ok(tree) => {
+            let js = kept.judgements.as_slice();
+            renewed(alloc, books, caller, sent, site.counter, js, tree)
+        }
+        Err(refusal) => Err(refusal),
+    }
+}
+
+// What is decided on edits of a page that was found.
+fn decide<B: RuleBook>(
+    alloc: Global,
+    books: &mut [B],
+    caller: &Text,
+    sent: Sent,
+    edits: &[Edit],
+    site: &Site,
+    kept: &PageState,
+) -> Result<Decided, Refusal>
+    requires { 0 < length books.old }
+    ensures decided { Agrees ⊥ result
+        (edit_page (record { infos = B.infos; means = B.means }) sent.site caller.now sent.page sent.rev edits.now
+        site.now kept.now) }
+    ensures counted { sum_by B.calls books.new ≤ sum_by B.calls books.old
+        + edit_judgings (record { infos = B.infos; means = B.means }) edits.now kept.now }
+{
+    if !has_revision(site.counter) {
+        return Err(Refusal::PageLimit {
+            limit: Limit::Revisions,
+        });
+    }
+    let current = kept.page.head.rev;
+    if sent.rev != current {
+        return Err(Refusal::StaleRevision {
+            current,
+            page: None,
+        });
+    }
+    edit_there(alloc, books, caller, sent, edits, site, kept)
+}
+
+/// Edits the page that the sender saw.
+pub fn edit_page<K: Keeper, B: RuleBook>(
+    alloc: Global,
+    books: &mut [B],
+    keeper: &mut K,
+    caller: &Text,
+    sent: Sent,
+    edits: List<Edit>,
+) -> Result<Decided, Refusal>
+    requires some { 0 < length books.old }
+    requires site { IsTrue (is_name sent.site) }
+    requires page { IsTrue (is_name sent.page) }
+    ensures decides { Decides (record { infos = B.infos; means = B.means })
+        (record { caller = caller.now; command = EditPage sent.site sent.page sent.rev edits })
+        (K.tables keeper.old) (K.tables keeper.new) (K.faults keeper.old) (K.faults keeper.new) result }
+    ensures counted { (t : Tables) → K.tables keeper.new ≡ Some t → sum_by B.calls books.new ≤ sum_by B.calls books.old
+        + command_judgings (record { infos = B.infos; means = B.means }) (EditPage sent.site sent.page sent.rev edits)
+        (site_at sent.site (state_of t)) }
+{
+    match find(
+        alloc,
+        keeper,
+        Needed::Editor,
+        caller,
+        &sent.site,
+        &sent.page,
+    ) {
+        Ok(found) => decide(
+            alloc,
+            books,
+            caller,
+            sent,
+            edits.as_slice(),
+            &found.0,
+            &found.1,
+        ),
+        Err(refusal) => Err(refusal),
+    }
+}

@@ -1,0 +1,35 @@
+ghost use Rattle.desk_core.specs.Serving.{Admits, Enters};
+
+use crate::refusal::{Needed, Refusal};
+use crate::rights::is_allowed;
+use keep_core::{Keeper, Site};
+use snap_tree::Text;
+use std::alloc::Global;
+
+/// The row of a site that is kept, and in which the caller has this leave.
+pub fn enter<K: Keeper>(
+    alloc: Global,
+    keeper: &mut K,
+    needed: Needed,
+    caller: &Text,
+    name: &Text,
+) -> Result<Site, Refusal>
+    ensures { Enters needed caller.now name.now (K.tables keeper.old) (K.tables keeper.new)
+        (K.faults keeper.old) (K.faults keeper.new) result }
+{
+    match keeper.site(alloc, name)? {
+        Some(site) => admit(needed, caller, site),
+        None => Err(Refusal::NoSite),
+    }
+}
+
+// The row of a site, where the caller has this leave in it.
+fn admit(needed: Needed, caller: &Text, site: Site) -> Result<Site, Refusal>
+    ensures { Admits needed caller.now site result }
+{
+    if is_allowed(needed, caller, &site) {
+        Ok(site)
+    } else {
+        Err(Refusal::NotAllowed { needed })
+    }
+}

@@ -1,0 +1,64 @@
+use crate::refusal::Refusal;
+use keep_core::{MemberRole, Page, SitePage};
+use rule_core::{Auto, RuleNo};
+use snap_tree::{List, NodeId, Text, Tree};
+
+/// How many rows of a page have each final outcome, and how many rules have no row.
+#[derive(Clone, Copy, Debug, PartialEq, Eq)]
+pub struct Summary {
+    pub passed: u32,
+    pub failed: u32,
+    pub cant_tell: u32,
+    pub inapplicable: u32,
+}
+
+/// A page that was stored: its name, its new revision, and what its outcomes come to.
+#[derive(Debug, Drop)]
+pub struct Stored {
+    pub page: Text,
+    pub rev: u64,
+    pub summary: Summary,
+}
+
+/// A site with its pages in byte order of their names.
+#[derive(Drop)]
+pub struct Sheet {
+    pub site: Text,
+    pub pages: List<SitePage>,
+}
+
+/// What the desk answers. Each command has its own reply, and `Refused` answers any.
+#[derive(Drop)]
+pub enum Reply {
+    Site {
+        site: Text,
+    },
+    /// The role that the user has now; None for a user who is no member any more.
+    Member {
+        user: Text,
+        role: Option<MemberRole>,
+    },
+    Stored(Stored),
+    Page(Page),
+    Dropped {
+        page: Text,
+    },
+    /// The pages in the order in which they were sent.
+    Imported {
+        pages: List<Stored>,
+    },
+    /// The final outcome of the rule on the node now.
+    Judged {
+        rule: RuleNo,
+        node: NodeId,
+        outcome: Auto,
+    },
+    Outcomes(SitePage),
+    Report(SitePage),
+    Earl(SitePage),
+    Names(Tree),
+    SiteReport(Sheet),
+    SiteEarl(Sheet),
+    SiteCsv(Sheet),
+    Refused(Refusal),
+}
