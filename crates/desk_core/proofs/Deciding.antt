@@ -1,6 +1,6 @@
 -- What holds of the change that is decided, where a request isn't refused: one lemma for each way in which decisions are put
 -- together, and one for each command.
-use Rattle.std.proofs.Common.{◌≡◌, ℕ, ◌+◌, ◌==◌, List, [], ◌∷◌, ◌++◌, length, Bool, true, false, not, Option, Some, None, Result, Ok, Err, nat_le, refl, subst}
+use Rattle.std.proofs.Common.{◌≡◌, ℕ, ◌+◌, ◌==◌, List, [], ◌∷◌, ◌++◌, length, map, Bool, true, false, not, if◌then◌else◌, Option, Some, None, Result, Ok, Err, nat_le, refl, sym, ap, subst}
 use Rattle.std.specs.Option.{option_map_or}
 use Rattle.std.specs.Str.{bytes_eq}
 use Rattle.snap_tree.specs.declared.row.NodeId.{NodeId}
@@ -34,11 +34,12 @@ use Rattle.desk_core.specs.declared.refusal.Needed.TheVariants as needed
 use Rattle.desk_core.specs.declared.refusal.Limit.TheVariants as limit
 use Rattle.desk_core.specs.declared.refusal.Refusal.{Refusal}
 use Rattle.desk_core.specs.declared.refusal.Refusal.TheVariants as refusal
+use Rattle.desk_core.specs.declared.reply.Reply.TheVariants as reply
 use Rattle.desk_core.specs.Refusals.{Decision, unless, on, unless_refused}
 use Rattle.desk_core.specs.State.{PageState, SiteState, page_at}
 use Rattle.desk_core.specs.Rights.{may, role_of, allowed, entering, on_page}
 use Rattle.desk_core.specs.Members.{new_site, site_with, members_with, put_site, put_member}
-use Rattle.desk_core.specs.Pages.{rev_of, judged, has_room, has_revisions, page_put, renewed, built, put_page, edited, edit_page, drop_page}
+use Rattle.desk_core.specs.Pages.{rev_of, judged, has_room, has_revisions, page_put, storing, renewed, built, current, put_page, edited, edit_page, drop_page}
 use Rattle.desk_core.specs.Imports.{new_pages, first_stale, first_fault, puts, import}
 use Rattle.desk_core.specs.Judging.{is_latest, added, judge}
 
@@ -97,7 +98,7 @@ module _ (P : Option Change → Type 0) where
 
   pub put_page_brings : (book : Book) (site caller page : List ℕ) (rev : ℕ) (raw : Raw) (s : Site) (kept : Option PageState) (pages : ℕ)
       → (has_room kept pages ≡ true → has_revisions s.counter 1 ≡ true → (rev == rev_of kept) ≡ true → tree_fault raw.rows ≡ None
-      → P (Some (PutPages site (s.counter + 1) (page_put book page (s.counter + 1) caller (page_of raw) (judged kept) ∷ []))))
+        → P (Some (PutPages site (s.counter + 1) (page_put book page (s.counter + 1) caller (page_of raw) (judged kept) ∷ []))))
       → Brings P (put_page book site caller page rev raw s kept pages)
   put_page_brings book site caller page rev raw s kept pages brings =
       let next = renewed book site caller page s.counter (judged kept) in
@@ -108,7 +109,7 @@ module _ (P : Option Change → Type 0) where
 
   pub edit_page_brings : (book : Book) (site caller page : List ℕ) (rev : ℕ) (edits : List Edit) (s : Site) (kept : PageState)
       → (has_revisions s.counter 1 ≡ true → (rev == kept.page.head.rev) ≡ true → (t : Trees) → edited_all kept.page.tree.trees edits ≡ Ok t
-      → P (Some (PutPages site (s.counter + 1) (page_put book page (s.counter + 1) caller (with_trees kept.page.tree t) kept.judgements ∷ []))))
+        → P (Some (PutPages site (s.counter + 1) (page_put book page (s.counter + 1) caller (with_trees kept.page.tree t) kept.judgements ∷ []))))
       → Brings P (edit_page book site caller page rev edits s kept)
   edit_page_brings book site caller page rev edits s kept brings =
       let next = renewed book site caller page s.counter kept.judgements in
@@ -121,8 +122,8 @@ module _ (P : Option Change → Type 0) where
 
   pub import_brings : (book : Book) (site caller : List ℕ) (entries : List Entry) (s : SiteState)
       → (nat_le (length s.pages + new_pages s.pages entries) MOST_PAGES ≡ true → has_revisions s.site.counter (length entries) ≡ true
-      → first_stale s.pages entries ≡ None → first_fault entries ≡ None
-      → P (Some (PutPages site (s.site.counter + length entries) (puts book caller s.pages s.site.counter entries))))
+        → first_stale s.pages entries ≡ None → first_fault entries ≡ None
+        → P (Some (PutPages site (s.site.counter + length entries) (puts book caller s.pages s.site.counter entries))))
       → Brings P (import book site caller entries s)
   import_brings book site caller entries s brings =
       unless_brings (nat_le (length s.pages + new_pages s.pages entries) MOST_PAGES) (refusal.PageLimit limit.Pages) _ (λ room.
@@ -139,9 +140,9 @@ module _ (P : Option Change → Type 0) where
 
   pub judge_brings : (book : Book) (site caller page : List ℕ) (rule : RuleNo) (node : NodeId) (verdict : Auto) (seen note : List ℕ) (kept : PageState)
       → ((row : OutRow) → row_at rule node (outcomes book kept.page.tree kept.judgements) ≡ Some row
-      → let j : Judgement = record { rule = rule; node = node; verdict = verdict; hand = caller; note = note; evidence = row.evidence } in
-      (is_latest j kept.judgements ≡ true → P None)
-      × (is_latest j kept.judgements ≡ false → P (Some (AddJudgement site page j (record { rows = outcomes book kept.page.tree (kept.judgements ++ j ∷ []) })))))
+        → let j : Judgement = record { rule = rule; node = node; verdict = verdict; hand = caller; note = note; evidence = row.evidence } in
+          (is_latest j kept.judgements ≡ true → P None)
+          × (is_latest j kept.judgements ≡ false → P (Some (AddJudgement site page j (record { rows = outcomes book kept.page.tree (kept.judgements ++ j ∷ []) })))))
       → Brings P (judge book site caller page rule node verdict seen note kept)
   judge_brings book site caller page rule node verdict seen note kept brings =
       on_brings (row_at rule node (outcomes book kept.page.tree kept.judgements)) refusal.NoTarget _ (λ row found.

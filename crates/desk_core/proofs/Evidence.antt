@@ -1,7 +1,7 @@
 -- Judgements change neither what is found automatically nor its evidence.
-use Rattle.std.proofs.Common.{◌≡◌, List, [], ◌∷◌, ◌++◌, map, Bool, true, false, if◌then◌else◌, Option, Some, None, option_map, refl, sym, ap, ◌∙◌}
+use Rattle.std.proofs.Common.{◌≡◌, ℕ, List, [], ◌∷◌, ◌++◌, map, Bool, true, false, cond, if◌then◌else◌, Option, Some, None, option_map, refl, sym, ap, ◌∙◌}
 use Rattle.std.specs.Option.{option_map_or}
-use Rattle.std.specs.List.{flat_map, filter_map, cons_option}
+use Rattle.std.specs.List.{find, flat_map, filter_map, cons_option}
 use Rattle.std.proofs.lemmas.List.{map-append}
 use Rattle.snap_tree.specs.declared.row.NodeId.{NodeId}
 use Rattle.snap_tree.specs.declared.row.Row.{Row}
@@ -65,14 +65,14 @@ module _ (book : Book) (page : Document) (js ks : List Judgement) where
   composite_same info node =
       merged_found info.no node (filter_map (λ input. atomic_row book page js input node) (inputs_of info))
       ∙ ap (found_row info.no node) (filter_same (λ r. r.auto) (λ input. atomic_row book page js input node) (λ input. atomic_row book page ks input node) (inputs_of info)
-      (λ input. verdict_same (λ r. r.auto) input node (book.means input page node) (λ _. refl)))
+        (λ input. verdict_same (λ r. r.auto) input node (book.means input page node) (λ _. refl)))
       ∙ sym (merged_found info.no node (filter_map (λ input. atomic_row book page ks input node) (inputs_of info)))
 
   rule_same : (info : RuleInfo) → map unjudged (rule_rows book page js info) ≡ map unjudged (rule_rows book page ks info)
   rule_same info =
       either_same (is_atomic info) (atomic_rows book page js info.no) (composite_rows book page js info) (atomic_rows book page ks info.no) (composite_rows book page ks info)
       (filter_same unjudged (λ (row : Row). atomic_row book page js info.no row.id) (λ row. atomic_row book page ks info.no row.id) (rows_of page.trees)
-      (λ row. verdict_same unjudged info.no row.id (book.means info.no page row.id) (λ _. refl)))
+        (λ row. verdict_same unjudged info.no row.id (book.means info.no page row.id) (λ _. refl)))
       (filter_same unjudged (λ (row : Row). composite_row book page js info row.id) (λ row. composite_row book page ks info row.id) (rows_of page.trees) (λ row. composite_same info row.id))
 
   all_same : map unjudged (outcomes book page js) ≡ map unjudged (outcomes book page ks)
@@ -92,6 +92,6 @@ pub same_evidence : (book : Book) (page : Document) (js ks : List Judgement) (ru
     → row_at rule node (outcomes book page js) ≡ Some row → row_at rule node (outcomes book page ks) ≡ Some other → row.evidence ≡ other.evidence
 same_evidence book page js ks rule node row other is is_other =
     let both : option_map unjudged (Some row) ≡ option_map unjudged (Some other) =
-    ap (option_map unjudged) (sym is) ∙ row_found rule node (outcomes book page js) ∙ ap (row_at rule node) (all_same book page js ks)
-    ∙ sym (row_found rule node (outcomes book page ks)) ∙ ap (option_map unjudged) is_other in
+        ap (option_map unjudged) (sym is) ∙ row_found rule node (outcomes book page js) ∙ ap (row_at rule node) (all_same book page js ks)
+        ∙ sym (row_found rule node (outcomes book page ks)) ∙ ap (option_map unjudged) is_other in
     ap (λ o. option_map_or (λ (r : OutRow). r.evidence) o []) both

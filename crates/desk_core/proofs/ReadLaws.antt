@@ -49,6 +49,7 @@ true_by book (Some k) kept holds is has =
 pub found_is_true : (book : Book) (t : Tables) → IsSound book t → (site page : List ℕ) (kept : KeptPage) → page_in site page t ≡ Some (page_state kept) → outcomes_of site page t ≡ kept.outcomes → IsTrueTo book kept
 found_is_true book t sound site page kept is has = true_by book (kept_page site page t) kept (page_is_true book t sound site page) is has
 
+
 -- what is shown of a page that is true to its outcomes
 pub shown_is : (book : Book) (kept : KeptPage) (shown : SitePage) → shown ≡ record { head = kept.page.head; address = kept.page.tree.address; outcomes = kept.outcomes } → IsTrueTo book kept
     → site_page book (page_state kept) ≡ shown

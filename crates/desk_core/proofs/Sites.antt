@@ -61,15 +61,24 @@ names_by book caller (command.PutPage site page rev raw) kept =
 names_by book caller (command.DropPage site page rev) kept =
     entering_brings (Names site) needed.Editor caller kept _ (λ s _ _.
     on_page_brings (Names site) page s (drop_page site page rev) (λ p _. drop_page_brings (Names site) site page rev p (λ _. refl)))
+names_by book caller (command.Import site entries) kept =
+    entering_brings (Names site) needed.Editor caller kept _ (λ s _ _. import_brings (Names site) book site caller entries s (λ _ _ _ _. refl))
 names_by book caller (command.EditPage site page rev edits) kept =
     entering_brings (Names site) needed.Editor caller kept _ (λ s _ _.
     on_page_brings (Names site) page s (edit_page book site caller page rev edits s.site) (λ p _.
     edit_page_brings (Names site) book site caller page rev edits s.site p (λ _ _ _ _. refl)))
+names_by book caller (command.Judge site page rule node verdict seen note) kept =
+    entering_brings (Names site) needed.Judge caller kept _ (λ s _ _.
+    on_page_brings (Names site) page s (judge book site caller page rule node verdict seen note) (λ p _.
+    judge_brings (Names site) book site caller page rule node verdict seen note p (λ _ _. (λ _. tt, λ _. refl))))
 names_by book caller (command.GetPage site page) kept = page_names caller site kept page _
 names_by book caller (command.GetOutcomes site page) kept = page_names caller site kept page _
 names_by book caller (command.GetReport site page) kept = page_names caller site kept page _
 names_by book caller (command.GetEarl site page) kept = page_names caller site kept page _
 names_by book caller (command.GetNames site page) kept = page_names caller site kept page _
+names_by book caller (command.SiteReport site) kept = site_names caller site kept _
+names_by book caller (command.SiteEarl site) kept = site_names caller site kept _
+names_by book caller (command.SiteCsv site) kept = site_names caller site kept _
 
 stays_after : (n site : List ℕ) (change : Option Change) (state : State) → Names site change → (n ≡ site → ⊥) → site_at n (after change state) ≡ site_at n state
 stays_after n site None state names other = refl

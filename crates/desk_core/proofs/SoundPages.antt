@@ -1,7 +1,7 @@
 -- Pages stay sound where one is put by the next revision.
-use Rattle.std.proofs.Common.{◌≡◌, ℕ, ◌+◌, ◌≤◌, List, [], ◌∷◌, length, map, get_or, true, Option, Some, None, option_map, is_none, nat_le, cond, refl, sym, ap, ◌∙◌, subst, arith, inl, inr, ◌⊎◌}
-use Rattle.std.specs.Option.{option_or}
-use Rattle.std.specs.List.{All, AllPairs}
+use Rattle.std.proofs.Common.{◌≡◌, ℕ, zero, suc, ◌+◌, ◌<◌, ◌≤◌, List, [], ◌∷◌, length, map, get_or, Bool, true, false, ◌||◌, Option, Some, None, option_map, is_some, is_none, nat_lt, nat_le, cond, if◌then◌else◌, refl, sym, ap, ◌∙◌, subst, arith, inl, inr, ◌⊎◌}
+use Rattle.std.specs.Option.{option_map_or, option_or}
+use Rattle.std.specs.List.{All, AllPairs, count_by}
 use Rattle.std.proofs.lemmas.Bool.Decides.{nat_tests}
 use Rattle.std.proofs.lemmas.List.Sums.{sum_by-cons}
 use Rattle.snap_tree.specs.declared.fault.TreeFault.{TreeFault}
@@ -10,18 +10,20 @@ use Rattle.snap_tree.specs.Grown.{page_of, grown}
 use Rattle.snap_tree.specs.Faults.{tree_fault}
 use Rattle.snap_tree.specs.Well.{IsWell}
 use Rattle.snap_tree.proofs.Wellness.{well_from_sound}
+use Rattle.judge_core.specs.declared.judgement.Judgement.{Judgement}
 use Rattle.judge_core.specs.Books.{Book}
 use Rattle.judge_core.specs.Outcomes.{outcomes}
 use Rattle.named_rows.specs.ByName.{at, put_row, put_rows}
 use Rattle.named_rows.proofs.Lookups.{all_put, at_put, at_put_other}
+use Rattle.keep_core.specs.declared.page.PagePut.{PagePut}
 use Rattle.keep_core.specs.declared.tables.KeptPage.{KeptPage}
-use Rattle.keep_core.specs.Tables.{page_name}
+use Rattle.keep_core.specs.Tables.{page_name, judgements_in}
 use Rattle.keep_core.specs.Changes.{put_over}
 use Rattle.desk_core.specs.declared.command.Entry.{Entry}
 use Rattle.desk_core.specs.declared.limits.TheConstants.{MOST_PAGES}
 use Rattle.desk_core.specs.declared.refusal.Refusal.{Refusal}
 use Rattle.desk_core.specs.declared.refusal.Refusal.TheVariants as refusal
-use Rattle.desk_core.specs.State.{page_state, page_at}
+use Rattle.desk_core.specs.State.{PageState, page_state, page_at}
 use Rattle.desk_core.specs.Pages.{judged, has_room, page_put}
 use Rattle.desk_core.specs.Imports.{new_pages, first_fault, puts}
 use Rattle.desk_core.specs.Soundness.{rev_in, IsGiven, IsSoundPage}
@@ -56,10 +58,10 @@ module _ (book : Book) (counter : ℕ) where
   one_put row pages sound new is = record {
     each = all_put page_name (IsSoundPage book) row pages new sound.each;
     given = all_put page_name (Given (counter + 1)) row pages (one_given counter (rev_in row) is)
-        (λ k d within. still_given counter (rev_in (get_or pages k d)) (sound.given k d within));
+      (λ k d within. still_given counter (rev_in (get_or pages k d)) (sound.given k d within));
     differ = pairs_put Differ page_name row pages sound.differ
-        (λ k d within. new_differs counter (rev_in row) (rev_in (get_or pages k d)) is (sound.given k d within))
-        (λ k d within same. new_differs counter (rev_in row) (rev_in (get_or pages k d)) is (sound.given k d within) (sym same));
+      (λ k d within. new_differs counter (rev_in row) (rev_in (get_or pages k d)) is (sound.given k d within))
+      (λ k d within same. new_differs counter (rev_in row) (rev_in (get_or pages k d)) is (sound.given k d within) (sym same));
   }
 
   -- a page as it is put over the kept ones
@@ -106,7 +108,7 @@ pub one_few : (row : KeptPage) (pages : List KeptPage) (count : ℕ) → count �
     → length (put_row page_name row pages) ≤ MOST_PAGES
 one_few row pages count is room few =
     let within = room_by (at page_name (page_name row) pages) (length pages)
-    (sym (ap (has_room (option_map page_state (at page_name (page_name row) pages))) is) ∙ ap (λ o. has_room o count) (sym (page_seen (page_name row) pages)) ∙ room) few in
+      (sym (ap (has_room (option_map page_state (at page_name (page_name row) pages))) is) ∙ ap (λ o. has_room o count) (sym (page_seen (page_name row) pages)) ∙ room) few in
     omega (arith, length_put page_name row pages)
 
 none_more : (o : Option KeptPage) → more_by page_name o ≡ cond (is_none (option_map page_state o)) 1 0
@@ -132,17 +134,16 @@ puts_few book caller orig cur counter (e ∷ entries) fewer =
     let step = length_put page_name row cur in
     let test = is_none (page_at e.page (map page_state orig)) in
     let counted : more e.page orig ≡ cond test 1 0 =
-    none_more (at page_name e.page orig) ∙ ap (λ o. cond (is_none o) 1 0) (sym (page_seen e.page orig)) in
+        none_more (at page_name e.page orig) ∙ ap (λ o. cond (is_none o) 1 0) (sym (page_seen e.page orig)) in
     let rest = puts_few book caller orig next (counter + 1) entries (λ m. le_chain (more m next) (more m cur) (more m orig) (fewer_by m row cur (same_or_other m e.page)) (fewer m)) in
     let here = fewer e.page in
     let all : new_pages (map page_state orig) (e ∷ entries) ≡ cond test 1 0 + new_pages (map page_state orig) entries =
-    sum_by-cons (λ (d : Entry). cond (is_none (page_at d.page (map page_state orig))) 1 0) e entries in
+        sum_by-cons (λ (d : Entry). cond (is_none (page_at d.page (map page_state orig))) 1 0) e entries in
     subst (λ n. length (put_rows page_name (map (put_over orig) (puts book caller (map page_state orig) (counter + 1) entries)) next) ≤ length cur + n) (sym all)
     (sum_up (length next) (length cur) (more e.page cur) (more e.page orig) (cond test 1 0) (new_pages (map page_state orig) entries) _ step here counted rest)
   where
     le_chain : (a b c : ℕ) → a ≤ b → b ≤ c → a ≤ c
     le_chain a b c p q = omega arith
-
     sum_up : (next cur here orig one rest all : ℕ) → next ≤ cur + here → here ≤ orig → orig ≡ one → all ≤ next + rest → all ≤ cur + (one + rest)
     sum_up next cur here orig one rest all p q r s = omega arith
 

@@ -1,9 +1,10 @@
 -- The state that tables give after a change is what the change makes of the state that they gave.
-use Rattle.std.proofs.Common.{◌≡◌, ℕ, List, [], ◌∷◌, map, Option, Some, None, option_map, refl, sym, ap, ◌∙◌, inl, inr, ◌⊎◌}
+use Rattle.std.proofs.Common.{◌≡◌, ℕ, List, [], ◌∷◌, map, Bool, true, false, Option, Some, None, option_map, refl, sym, ap, ◌∙◌, inl, inr, ◌⊎◌}
 use Rattle.std.specs.Option.{option_map_or}
 use Rattle.std.specs.declared.cmp.Ordering.{Ordering}
 use Rattle.std.specs.declared.cmp.Ordering.TheVariants.{Less, Equal, Greater}
 use Rattle.judge_core.specs.declared.judgement.Judgement.{Judgement}
+use Rattle.judge_core.specs.declared.outcomes.Outcomes.{Outcomes}
 use Rattle.named_rows.specs.ByName.{names_cmp, at, put_row, put_rows, take_row, with_row}
 use Rattle.named_rows.proofs.Names.{same_name, tied_name}
 use Rattle.named_rows.proofs.Lookups.{at_put, at_put_other}
@@ -18,7 +19,7 @@ use Rattle.keep_core.specs.Tables.{Tables, kept_site, pages_in, pages_of, judgem
 use Rattle.keep_core.specs.Tables as kept
 use Rattle.keep_core.specs.Changes.{put_over}
 use Rattle.keep_core.specs.Changes as tables
-use Rattle.desk_core.specs.State.{PageState, SiteState, page_state, site_state, state_of, page_name, site_name, page_at, site_at}
+use Rattle.desk_core.specs.State.{PageState, SiteState, State, page_state, site_state, state_of, page_name, site_name, page_at, site_at}
 use Rattle.desk_core.specs.Pages.{judged}
 use Rattle.desk_core.specs.Changes.{with_page, with_pages, with_site, with_counter, in_pages, with_judgement, changed}
 
@@ -60,7 +61,7 @@ unfolding site_with
 site_put site t =
     let row : KeptSite = record { site = site; pages = pages_of site.name t } in
     let same : map page_state (pages_of site.name t) ≡ option_map_or (λ (s : SiteState). s.pages) (site_at site.name (state_of t)) [] =
-    sym (ap (λ o. option_map_or (λ (s : SiteState). s.pages) o []) (site_seen site.name t) ∙ pages_of_site (kept_site site.name t)) in
+        sym (ap (λ o. option_map_or (λ (s : SiteState). s.pages) o []) (site_seen site.name t) ∙ pages_of_site (kept_site site.name t)) in
     sym (put_map kept.site_name site_name site_state (λ _. refl) row t) ∙ ap (λ pages. put_row site_name (site_with site pages) (state_of t)) same
 
 -- ---- pages that are put
@@ -101,11 +102,11 @@ unfolding site_after
 changes_seen (PutSite site) t = site_put site t
 changes_seen (PutPages site counter puts) t =
     sym (with_row_map kept.site_name site_name site_state (λ _. refl) site (tables.with_pages counter puts)
-    (λ s. record { site = with_counter counter s.site; pages = with_pages puts s.pages })
-    (λ s _. ap (site_after (with_counter counter s.site)) (pages_put s.pages s.pages puts (λ _. refl))) t)
+      (λ s. record { site = with_counter counter s.site; pages = with_pages puts s.pages })
+      (λ s _. ap (site_after (with_counter counter s.site)) (pages_put s.pages s.pages puts (λ _. refl))) t)
 changes_seen (DropPage site page) t =
     sym (with_row_map kept.site_name site_name site_state (λ _. refl) site (tables.without_page page) (in_pages (take_row page_name page))
-    (λ s _. ap (site_after s.site) (take_map kept.page_name page_name page_state (λ _. refl) page s.pages)) t)
+      (λ s _. ap (site_after s.site) (take_map kept.page_name page_name page_state (λ _. refl) page s.pages)) t)
 changes_seen (AddJudgement site page j outcomes) t =
     sym (with_row_map kept.site_name site_name site_state (λ _. refl) site (tables.with_judged page j outcomes) (in_pages (with_row page_name page (with_judgement j)))
-    (λ s _. ap (site_after s.site) (with_row_map kept.page_name page_name page_state (λ _. refl) page (tables.with_judgement j outcomes) (with_judgement j) (λ _ _. refl) s.pages)) t)
+      (λ s _. ap (site_after s.site) (with_row_map kept.page_name page_name page_state (λ _. refl) page (tables.with_judgement j outcomes) (with_judgement j) (λ _ _. refl) s.pages)) t)

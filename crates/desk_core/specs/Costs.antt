@@ -40,5 +40,6 @@ at_page page (Some s) f = option_map_or f (page_at page s.pages) 0
 -- the judgings of a command in the site that it names
 abbrev pub command_judgings : Book → Command → Option SiteState → ℕ
 command_judgings book (command.PutPage site page rev raw) kept = put_judgings book raw
+command_judgings book (command.Import site entries) kept = import_judgings book entries
 command_judgings book (command.EditPage site page rev edits) kept = at_page page kept (edit_judgings book edits)
 command_judgings book other kept = 0

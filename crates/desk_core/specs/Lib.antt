@@ -14,5 +14,4 @@ pub mod Soundness
 pub mod Costs
 pub mod Runs
 pub mod Serving
-pub mod Once
-pub mod Revisions
+pub mod Placing

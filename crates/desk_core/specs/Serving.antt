@@ -1,6 +1,6 @@
 -- What is owed on the way through a request, over a keeper that may tell its tables: what is told at the end was told
 -- at the start, a refusal is the first one, and the keeper's fault is given only where its count rose.
-use Rattle.std.specs.Prelude.{◌≡◌, ℕ, ◌≤◌, List, length, true, false, Option, Some, None, option_map, ◌⊎◌, Result, Ok, Err, IfSome, IfOk, IfErr, IsErrOf}
+use Rattle.std.specs.Prelude.{◌≡◌, ℕ, ◌≤◌, List, length, true, false, Option, Some, option_map, Result, Ok, Err, IfSome, IfOk, IfErr, IsErrOf}
 use Rattle.counts.specs.Counts.{Rose}
 use Rattle.judge_core.specs.Books.{Book}
 use Rattle.judge_core.specs.Outcomes.{outcomes}
@@ -9,8 +9,7 @@ use Rattle.keep_core.specs.declared.page.SitePage.{SitePage}
 use Rattle.keep_core.specs.declared.tables.KeptPage.{KeptPage}
 use Rattle.keep_core.specs.Tables.{Tables, site_of, kept_page, pages_of, outcomes_of}
 use Rattle.keep_core.specs.Fits.{Fits, FitsSite, FitsPage, IsThere}
-use Rattle.keep_core.specs.Keeping.{Stays, Turns}
-use Rattle.keep_core.specs.declared.change.Change.{Change}
+use Rattle.keep_core.specs.Keeping.{Stays}
 use Rattle.desk_core.specs.declared.decided.Decided.{Decided}
 use Rattle.desk_core.specs.declared.refusal.Needed.{Needed}
 use Rattle.desk_core.specs.declared.refusal.Needed.TheVariants.{Editor}
@@ -24,7 +23,7 @@ use Rattle.desk_core.specs.Rights.{may, role_of, entering, on_page}
 use Rattle.desk_core.specs.Steps.{Request, read_page, decided}
 use Rattle.desk_core.specs.Reading.{answered, site_page}
 use Rattle.desk_core.specs.Soundness.{IsSound}
-use Rattle.desk_core.specs.Runs.{Fails, Answers}
+use Rattle.desk_core.specs.Runs.{Answers}
 
 -- a refusal is what is decided, unless there was no memory, or the keeper met a fault where one may be met
 abbrev pub Stands : Type 0 → Refusal → Decision → Type 0
@@ -63,8 +62,8 @@ pub record Enters (leave : Needed) (caller name : List ℕ) (old new : Option Ta
   pub fits : IfOk result FitsSite
   pub found : IfOk result (λ site. (t : Tables) → new ≡ Some t → IsIn leave caller name site t)
   pub refused :
-      IfErr result (λ refusal.
-      (t : Tables) → new ≡ Some t → (next : SiteState → Decision) → Stands (Unit {0}) refusal (entering leave caller (site_at name (state_of t)) next))
+    IfErr result (λ refusal.
+    (t : Tables) → new ≡ Some t → (next : SiteState → Decision) → Stands (Unit {0}) refusal (entering leave caller (site_at name (state_of t)) next))
 
 -- a page with its judgements is looked up, where it is there
 pub record Looks (site page : List ℕ) (old new : Option Tables) (before now : ℕ) (result : Result (Option PageState) Refusal) : Type 0 where
@@ -79,31 +78,31 @@ pub record Finds (leave : Needed) (caller site page : List ℕ) (old new : Optio
   pub fits : IfOk result (λ found. FitsSite found.0 × FitsPage found.1.page)
   pub found : IfOk result (λ found. (t : Tables) → new ≡ Some t → IsIn leave caller site found.0 t × (page_in site page t ≡ Some found.1))
   pub refused :
-      IfErr result (λ refusal.
-      (t : Tables) → new ≡ Some t → (next : SiteState → PageState → Decision)
-      → Stands (Unit {0}) refusal (entering leave caller (site_at site (state_of t)) (λ s. on_page page s (next s))))
+    IfErr result (λ refusal.
+    (t : Tables) → new ≡ Some t → (next : SiteState → PageState → Decision)
+    → Stands (Unit {0}) refusal (entering leave caller (site_at site (state_of t)) (λ s. on_page page s (next s))))
 
 -- the site into which a page is to be put, the page that is there, and the number of its pages
 pub record Surveys (caller site page : List ℕ) (old new : Option Tables) (before now : ℕ) (result : Result Survey Refusal) : Type 0 where
   pub reads : OnlyReads old new before now result
   pub found :
-      IfOk result (λ s.
-      (t : Tables) → new ≡ Some t → IsIn Editor caller site s.site t × (page_in site page t ≡ s.kept) × (length (pages_of site t) ≡ s.pages))
+    IfOk result (λ s.
+    (t : Tables) → new ≡ Some t → IsIn Editor caller site s.site t × (page_in site page t ≡ s.kept) × (length (pages_of site t) ≡ s.pages))
   pub refused :
-      IfErr result (λ refusal.
-      (t : Tables) → new ≡ Some t → (next : SiteState → Decision) → Stands (Unit {0}) refusal (entering Editor caller (site_at site (state_of t)) next))
+    IfErr result (λ refusal.
+    (t : Tables) → new ≡ Some t → (next : SiteState → Decision) → Stands (Unit {0}) refusal (entering Editor caller (site_at site (state_of t)) next))
 
 -- a page of a site in which the caller has a leave, with its outcomes
 pub record FindsKept (leave : Needed) (caller site page : List ℕ) (old new : Option Tables) (before now : ℕ) (result : Result KeptPage Refusal) : Type 0 where
   pub reads : OnlyReads old new before now result
   pub found :
-      IfOk result (λ kept.
-      (t : Tables) → new ≡ Some t
-      → (s : Site) × IsIn leave caller site s t × (page_in site page t ≡ Some (page_state kept)) × (outcomes_of site page t ≡ kept.outcomes))
+    IfOk result (λ kept.
+    (t : Tables) → new ≡ Some t
+    → (s : Site) × IsIn leave caller site s t × (page_in site page t ≡ Some (page_state kept)) × (outcomes_of site page t ≡ kept.outcomes))
   pub refused :
-      IfErr result (λ refusal.
-      (t : Tables) → new ≡ Some t → (next : SiteState → PageState → Decision)
-      → Stands (Unit {0}) refusal (entering leave caller (site_at site (state_of t)) (λ s. on_page page s (next s))))
+    IfErr result (λ refusal.
+    (t : Tables) → new ≡ Some t → (next : SiteState → PageState → Decision)
+    → Stands (Unit {0}) refusal (entering leave caller (site_at site (state_of t)) (λ s. on_page page s (next s))))
 
 -- the outcomes that are kept of a page are those of its tree and judgements
 abbrev pub IsTrueTo : Book → KeptPage → Type 0
@@ -118,8 +117,8 @@ Shows decision (Err refusal) = (reply : SitePage → Reply) → Stands (Unit {0}
 pub record ReadsPage (book : Book) (caller site page : List ℕ) (old new : Option Tables) (before now : ℕ) (result : Result SitePage Refusal) : Type 0 where
   pub reads : OnlyReads old new before now result
   pub shows :
-      (t : Tables) → new ≡ Some t → IsSound book t
-      → Shows (λ reply. read_page caller page (site_at site (state_of t)) (λ p. reply (site_page book p))) result
+    (t : Tables) → new ≡ Some t → IsSound book t
+    → Shows (λ reply. read_page caller page (site_at site (state_of t)) (λ p. reply (site_page book p))) result
 
 -- a request is decided: by its definition, where the tables are told and sound
 pub record Decides (book : Book) (request : Request) (old new : Option Tables) (before now : ℕ) (result : Result Decided Refusal) : Type 0 where
@@ -131,15 +130,5 @@ pub record Decides (book : Book) (request : Request) (old new : Option Tables) (
 -- a request is served: where the tables that are told were sound, they are sound, and the reply is the machine's
 pub record Serves (book : Book) (request : Request) (old new : Option Tables) (before now : ℕ) (reply : Reply) : Type 0 where
   pub told :
-      (t : Tables) → new ≡ Some t → (s : Tables) × (old ≡ Some s) × (IsSound book s → IsSound book t × Answers book (state_of s) request reply (state_of t) before now)
+    (t : Tables) → new ≡ Some t → (s : Tables) × (old ≡ Some s) × (IsSound book s → IsSound book t × Answers book (state_of s) request reply (state_of t) before now)
   pub never_falls : before ≤ now
-
--- the tables after a change, or as they were without one
-abbrev pub TurnsBy : Option Change → Option Tables → Option Tables → Type 0
-TurnsBy None old new = Stays old new
-TurnsBy (Some change) old new = Turns change old new
-
--- what was decided is made of the tables and answered, or it fails and the tables stay
-pub record Commits (d : Decided) (old new : Option Tables) (before now : ℕ) (reply : Reply) : Type 0 where
-  pub never_falls : before ≤ now
-  pub made : ((reply ≡ d.reply) × TurnsBy d.change old new) ⊎ (Fails reply before now × Stays old new)

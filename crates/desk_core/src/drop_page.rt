@@ -27,14 +27,7 @@ pub fn drop_page<K: Keeper>(
     ensures { (book : Book) → Decides book (record { caller = caller.now; command = DropPage sent.site sent.page sent.rev })
         (K.tables keeper.old) (K.tables keeper.new) (K.faults keeper.old) (K.faults keeper.new) result }
 {
-    match find(
-        alloc,
-        keeper,
-        Needed::Editor,
-        caller,
-        &sent.site,
-        &sent.page,
-    ) {
+    match find(alloc, keeper, Needed::Editor, caller, &sent.site, &sent.page) {
         Ok(found) => decide(alloc, sent, &found.1),
         Err(refusal) => Err(refusal),
     }

@@ -51,7 +51,7 @@ fn edit_there<B: RuleBook>(
     requires current { sent.rev ≡ kept.now.page.head.rev }
     ensures decided { Agrees ⊥ result
         (edit_page (record { infos = B.infos; means = B.means }) sent.site caller.now sent.page sent.rev edits.now
-        site.now kept.now) }
+            site.now kept.now) }
     ensures counted { sum_by B.calls books.new ≤ sum_by B.calls books.old
         + edit_judgings (record { infos = B.infos; means = B.means }) edits.now kept.now }
 {
@@ -77,7 +77,7 @@ fn decide<B: RuleBook>(
     requires { 0 < length books.old }
     ensures decided { Agrees ⊥ result
         (edit_page (record { infos = B.infos; means = B.means }) sent.site caller.now sent.page sent.rev edits.now
-        site.now kept.now) }
+            site.now kept.now) }
     ensures counted { sum_by B.calls books.new ≤ sum_by B.calls books.old
         + edit_judgings (record { infos = B.infos; means = B.means }) edits.now kept.now }
 {
@@ -113,25 +113,10 @@ pub fn edit_page<K: Keeper, B: RuleBook>(
         (K.tables keeper.old) (K.tables keeper.new) (K.faults keeper.old) (K.faults keeper.new) result }
     ensures counted { (t : Tables) → K.tables keeper.new ≡ Some t → sum_by B.calls books.new ≤ sum_by B.calls books.old
         + command_judgings (record { infos = B.infos; means = B.means }) (EditPage sent.site sent.page sent.rev edits)
-        (site_at sent.site (state_of t)) }
+            (site_at sent.site (state_of t)) }
 {
-    match find(
-        alloc,
-        keeper,
-        Needed::Editor,
-        caller,
-        &sent.site,
-        &sent.page,
-    ) {
-        Ok(found) => decide(
-            alloc,
-            books,
-            caller,
-            sent,
-            edits.as_slice(),
-            &found.0,
-            &found.1,
-        ),
+    match find(alloc, keeper, Needed::Editor, caller, &sent.site, &sent.page) {
+        Ok(found) => decide(alloc, books, caller, sent, edits.as_slice(), &found.0, &found.1),
         Err(refusal) => Err(refusal),
     }
 }

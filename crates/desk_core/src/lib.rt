@@ -1,19 +1,21 @@
-//! The machine of the desk: one request at a time, from what is kept to what is kept after it. Start with
-//! `handle`. Its commands are those on sites, members and single pages: put, edit, drop and get.
+//! The machine of the desk: one request at a time, from what is kept to what is kept after it.
 #![tactic(auto)]
 
+mod arrival;
+mod built;
 mod command;
-mod commit;
 mod decided;
 mod drop_page;
 mod edit_page;
 mod enter;
-mod handling;
+mod import;
+mod judge;
 mod laws;
 mod limits;
 mod look;
 mod members;
 mod page_state;
+mod placed;
 mod put_page;
 mod reads;
 mod refusal;
@@ -25,16 +27,8 @@ mod summaries;
 
 pub use command::{Command, Entry};
 pub use decided::Decided;
-pub use handling::handle;
-pub use laws::{
-    laws_of_requests, laws_of_revisions, laws_of_sites, laws_of_soundness, laws_of_views,
-};
+pub use laws::laws_of_views;
 pub use limits::{MOST_ENTRIES, MOST_NOTE, MOST_PAGES, MOST_REVISION};
 pub use page_state::PageState;
 pub use refusal::{Limit, Needed, Refusal};
 pub use reply::{Reply, Sheet, Stored, Summary};
-
-#[cfg(test)]
-mod samples;
-#[cfg(test)]
-mod tests;

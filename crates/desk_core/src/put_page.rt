@@ -131,7 +131,7 @@ fn put_there<B: RuleBook>(
     requires current { sent.rev ≡ rev_of survey.now.kept }
     ensures decided { Agrees ⊥ result
         (put_page (record { infos = B.infos; means = B.means }) sent.site caller.now sent.page sent.rev raw
-        survey.now.site survey.now.kept survey.now.pages) }
+            survey.now.site survey.now.kept survey.now.pages) }
     ensures counted { sum_by B.calls books.new ≤ sum_by B.calls books.old
         + put_judgings (record { infos = B.infos; means = B.means }) raw }
 {
@@ -156,7 +156,7 @@ fn decide<B: RuleBook>(
     requires { 0 < length books.old }
     ensures decided { Agrees ⊥ result
         (put_page (record { infos = B.infos; means = B.means }) sent.site caller.now sent.page sent.rev raw
-        survey.now.site survey.now.kept survey.now.pages) }
+            survey.now.site survey.now.kept survey.now.pages) }
     ensures counted { sum_by B.calls books.new ≤ sum_by B.calls books.old
         + put_judgings (record { infos = B.infos; means = B.means }) raw }
 {

@@ -31,5 +31,5 @@ returns-in-None g c =
       fits = tt;
       found = tt;
       refused =
-          λ t told next. followed _ _ _ _ t _ _ next _ (c.in_ok-kept.ensures.found t (c.in_ok-found.ensures.reads.stays t told)) (sym (c.in_ok-found.ensures.found t told) ∙ c.in-None.is) (λ k kept same. refl);
+        λ t told next. followed _ _ _ _ t _ _ next _ (c.in_ok-kept.ensures.found t (c.in_ok-found.ensures.reads.stays t told)) (sym (c.in_ok-found.ensures.found t told) ∙ c.in-None.is) (λ k kept same. refl);
     }

@@ -9,8 +9,8 @@ returns g c = record {
     failed = λ e. cc;
   };
   found =
-      λ t told.
-      let f = c.in_ok-found.ensures.found t (c.in_ok-outcomes.ensures.reads.stays t told) in
-      (c.in_ok-found.found.0, f.0, f.1, sym (c.in_ok-outcomes.ensures.reads.answers t told));
+    λ t told.
+    let f = c.in_ok-found.ensures.found t (c.in_ok-outcomes.ensures.reads.stays t told) in
+    (c.in_ok-found.found.0, f.0, f.1, sym (c.in_ok-outcomes.ensures.reads.answers t told));
   refused = tt;
 }

@@ -1,21 +1,12 @@
-use Rattle.desk_core.specs.Reading.{answered, site_page}
-use Rattle.desk_core.proofs.Onward.{read_as}
 use Rattle.desk_core.proofs.ReadLaws.{read_shows}
 use Rattle.desk_core.proofs.reads.read_page.Goals as goal
 
-pub returns-in_ok-shown-in-Ok : goal.returns-in_ok-shown-in-Ok
-returns-in_ok-shown-in-Ok g c =
+pub returns : goal.returns
+returns g c =
     λ book. record {
-      reads = record { stays = c.in-Ok.ensures.reads.stays; never_falls = c.in-Ok.ensures.reads.never_falls; failed = λ e. cc };
+      reads = record { stays = c.in_ok-kept.ensures.reads.stays; never_falls = c.in_ok-kept.ensures.reads.never_falls; failed = λ e. cc };
       shows =
-          λ t told sound.
-          let f = c.in-Ok.ensures.found t told in
-          read_shows book c.args.caller.now c.args.site.now c.args.page.now t f.0 c.in-Ok.kept c.in_ok-shown-in-Ok.shown sound f.1 f.2 f.3 c.in_ok-shown-in-Ok.ensures;
-    }
-
-pub returns-in-Err : goal.returns-in-Err
-returns-in-Err g c =
-    λ book. record {
-      reads = read_as _ _ _ _ c.in-Err.refusal c.in-Err.ensures.reads;
-      shows = λ t told sound reply. c.in-Err.ensures.refused t told (λ s p. answered (reply (site_page book p)));
+        λ t told sound.
+        let f = c.in_ok-kept.ensures.found t told in
+        read_shows book c.args.caller.now c.args.site.now c.args.page.now t f.0 c.in_ok-kept.kept c.in_ok-shown.shown sound f.1 f.2 f.3 c.in_ok-shown.ensures;
     }
