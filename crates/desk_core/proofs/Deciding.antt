@@ -1,6 +1,6 @@
 -- What holds of the change that is decided, where a request isn't refused: one lemma for each way in which decisions are put
 -- together, and one for each command.
-use Rattle.std.proofs.Common.{◌≡◌, ℕ, ◌+◌, ◌==◌, List, [], ◌∷◌, ◌++◌, length, map, Bool, true, false, not, if◌then◌else◌, Option, Some, None, Result, Ok, Err, nat_le, refl, sym, ap, subst}
+use Rattle.std.proofs.Common.{◌≡◌, ℕ, ◌+◌, ◌==◌, List, [], ◌∷◌, ◌++◌, length, Bool, true, false, not, Option, Some, None, Result, Ok, Err, nat_le, refl, subst}
 use Rattle.std.specs.Option.{option_map_or}
 use Rattle.std.specs.Str.{bytes_eq}
 use Rattle.snap_tree.specs.declared.row.NodeId.{NodeId}
@@ -34,12 +34,11 @@ use Rattle.desk_core.specs.declared.refusal.Needed.TheVariants as needed
 use Rattle.desk_core.specs.declared.refusal.Limit.TheVariants as limit
 use Rattle.desk_core.specs.declared.refusal.Refusal.{Refusal}
 use Rattle.desk_core.specs.declared.refusal.Refusal.TheVariants as refusal
-use Rattle.desk_core.specs.declared.reply.Reply.TheVariants as reply
 use Rattle.desk_core.specs.Refusals.{Decision, unless, on, unless_refused}
 use Rattle.desk_core.specs.State.{PageState, SiteState, page_at}
 use Rattle.desk_core.specs.Rights.{may, role_of, allowed, entering, on_page}
 use Rattle.desk_core.specs.Members.{new_site, site_with, members_with, put_site, put_member}
-use Rattle.desk_core.specs.Pages.{rev_of, judged, has_room, has_revisions, page_put, storing, renewed, built, current, put_page, edited, edit_page, drop_page}
+use Rattle.desk_core.specs.Pages.{rev_of, judged, has_room, has_revisions, page_put, renewed, built, put_page, edited, edit_page, drop_page}
 use Rattle.desk_core.specs.Imports.{new_pages, first_stale, first_fault, puts, import}
 use Rattle.desk_core.specs.Judging.{is_latest, added, judge}
 

@@ -1,5 +1,5 @@
 -- A well page that is edited is well again.
-use Rattle.std.proofs.Common.{◌≡◌, ◌<◌, ℕ, ◌+◌, List, [], ◌∷◌, length, nat_lt, Bool, true, false, Option, Some, None, Result, Ok, Err, if◌then◌else◌, refl, sym, ap, ◌∙◌, subst}
+use Rattle.std.proofs.Common.{◌≡◌, ℕ, ◌+◌, List, [], ◌∷◌, length, nat_lt, Bool, true, false, Option, Some, None, Result, Ok, Err, if◌then◌else◌, refl, sym, ◌∙◌, subst}
 use Rattle.std.specs.Option.{option_map_or}
 use Rattle.snap_tree.specs.declared.row.NodeId.{NodeId}
 use Rattle.snap_tree.specs.declared.row.Row.{Row}
@@ -20,12 +20,12 @@ use Rattle.snap_edit.specs.declared.edit.Edit.{Edit}
 use Rattle.snap_edit.specs.declared.edit.Edit.TheVariants.{SetAttr, DropAttr, SetText, SetFacts, Insert, Remove, Move}
 use Rattle.snap_edit.specs.declared.edit.TheConstants.{MOST_EDITS}
 use Rattle.snap_edit.specs.declared.fault.EditKind.{EditKind}
-use Rattle.snap_edit.specs.declared.fault.EditKind.TheVariants.{NoNode, NotElement, NotText, NumberTaken, IntoItself, RootMoved, PlaceOut, Tree, TooManyEdits}
+use Rattle.snap_edit.specs.declared.fault.EditKind.TheVariants.{NoNode, NotElement, Tree, TooManyEdits}
 use Rattle.snap_edit.specs.declared.fault.EditFault.{EditFault}
 use Rattle.snap_edit.specs.declared.fault.EditFault.TheVariants.{At}
 use Rattle.snap_edit.specs.Trees.{changed, without, inserted, hung}
 use Rattle.snap_edit.specs.Attrs.{attrs_with, attrs_without, with_attrs, with_text, with_facts}
-use Rattle.snap_edit.specs.Edits.{at, is_root, is_within, in_place, has_taken, alone_fault, taken_alone, effect, settled, then_settled, edited, followed, edited_from, edited_all}
+use Rattle.snap_edit.specs.Edits.{at, is_root, is_within, in_place, has_taken, alone_fault, effect, settled, then_settled, edited, followed, edited_from, edited_all}
 use Rattle.snap_edit.specs.Made.{IsPage}
 use Rattle.snap_edit.specs.Places.{rest_without}
 use Rattle.snap_edit.proofs.Replacing.{spot_named}

@@ -1,5 +1,5 @@
 -- What is decided fits, where the request and the rows that are kept do.
-use Rattle.std.proofs.Common.{◌≡◌, ℕ, zero, suc, ◌+◌, ◌≤◌, ◌<◌, List, [], ◌∷◌, length, get_or, Bool, true, Option, Some, None, IsTrue, IfSome, nat_le, refl, sym, ap, ◌∙◌, subst, arith}
+use Rattle.std.proofs.Common.{◌≡◌, ℕ, zero, suc, ◌+◌, ◌≤◌, List, [], ◌∷◌, length, true, Option, Some, None, IsTrue, IfSome, arith}
 use Rattle.std.specs.List.{All, AllPairs}
 use Rattle.std.proofs.lemmas.Bool.Decides.{nat_tests}
 use Rattle.std.proofs.lemmas.List.Elements.{All-nil, All-cons, All-head, All-tail}
@@ -14,7 +14,7 @@ use Rattle.rule_core.specs.declared.verdict.Auto.{Auto}
 use Rattle.judge_core.specs.declared.judgement.Judgement.{Judgement}
 use Rattle.judge_core.specs.Books.{Book}
 use Rattle.web_address.specs.Address.{IsWebAddress}
-use Rattle.named_rows.specs.ByName.{IsInOrder, put_row, take_row}
+use Rattle.named_rows.specs.ByName.{IsInOrder}
 use Rattle.named_rows.proofs.Lookups.{all_put, all_take}
 use Rattle.named_rows.proofs.Order.{in_order_none, in_order_put, in_order_take}
 use Rattle.keep_core.specs.declared.member.Member.{Member}
@@ -23,15 +23,14 @@ use Rattle.keep_core.specs.declared.site.Site.{Site}
 use Rattle.keep_core.specs.declared.page.PagePut.{PagePut}
 use Rattle.keep_core.specs.declared.change.Change.{Change}
 use Rattle.keep_core.specs.Names.{is_name}
-use Rattle.keep_core.specs.Fits.{most_revisions, FitsSite, FitsHead, FitsPage, FitsPages, Fits}
-use Rattle.desk_core.specs.declared.limits.TheConstants.{MOST_REVISION}
+use Rattle.keep_core.specs.Fits.{most_revisions, FitsSite, FitsPage, FitsPages, Fits}
 use Rattle.desk_core.specs.declared.command.Entry.{Entry}
 use Rattle.desk_core.specs.State.{PageState, SiteState, page_at}
 use Rattle.desk_core.specs.Members.{user_of, new_site, site_with, members_with, put_site, put_member}
 use Rattle.desk_core.specs.Pages.{judged, has_revisions, page_put, put_page, edit_page, drop_page}
 use Rattle.desk_core.specs.Imports.{puts, import}
 use Rattle.desk_core.specs.Judging.{judge}
-use Rattle.desk_core.specs.Fitting.{FitsRev, FitsEntry, FitsEntries}
+use Rattle.desk_core.specs.Fitting.{FitsEntry, FitsEntries}
 use Rattle.desk_core.proofs.Deciding.{Brings, put_site_brings, put_member_brings, put_page_brings, edit_page_brings, drop_page_brings, import_brings, judge_brings}
 
 -- the change, where there is one, fits

@@ -1,23 +1,91 @@
--- The latest judgement of a list, from its end.
-use Rattle.std.proofs.Common.{◌≡◌, List, [], ◌∷◌, ◌++◌, Bool, true, false, if◌then◌else◌, cond, reverse, Option, Some, None, refl, ap, ◌∙◌}
-use Rattle.std.specs.Option.{option_map_or, option_or}
-use Rattle.std.specs.List.{find}
-use Rattle.judge_core.specs.declared.judgement.Judgement.{Judgement}
-use Rattle.judge_core.specs.Equality.{same_judgement}
-use Rattle.judge_core.specs.Judgements.{is_on}
-use Rattle.judge_core.proofs.Judging.{last-append}
-use Rattle.desk_core.specs.Judging.{is_latest}
+-- What is decided on a judgement of a page that was found.
+use Rattle.std.proofs.Common.{◌≡◌, ℕ, List, Option, Some, None, option_map, Result, Ok, Err, IsTrue, IsSome, IfSome, IfOk, refl, sym, subst}
+use Rattle.snap_tree.specs.declared.row.NodeId.{NodeId}
+use Rattle.rule_core.specs.declared.info.RuleNo.{RuleNo}
+use Rattle.rule_core.specs.declared.verdict.Auto.{Auto}
+use Rattle.judge_core.specs.Books.{Book}
+use Rattle.keep_core.specs.declared.change.Change.{Change}
+use Rattle.keep_core.specs.declared.change.Change.TheVariants.{PutSite, PutPages, DropPage, AddJudgement}
+use Rattle.keep_core.specs.declared.site.Site.{Site}
+use Rattle.keep_core.specs.declared.tables.KeptPage.{KeptPage}
+use Rattle.keep_core.specs.Names.{is_name}
+use Rattle.keep_core.specs.Tables.{Tables, kept_page}
+use Rattle.keep_core.specs.Fits.{Fits, IsThere}
+use Rattle.desk_core.specs.declared.command.Command.TheVariants as command
+use Rattle.desk_core.specs.declared.decided.Decided.{Decided}
+use Rattle.desk_core.specs.declared.refusal.Needed.TheVariants as needed
+use Rattle.desk_core.specs.declared.refusal.Refusal.{Refusal}
+use Rattle.desk_core.specs.State.{PageState, page_state, state_of}
+use Rattle.desk_core.specs.Judging.{judge}
+use Rattle.desk_core.specs.Judged.{Judges, IsOfPage}
+use Rattle.desk_core.specs.Steps.{Request, decided}
+use Rattle.desk_core.specs.Serving.{Stands, Decides, FindsKept, IsTrueTo, page_in}
+use Rattle.desk_core.proofs.Ways.{followed}
+use Rattle.desk_core.proofs.Onward.{agrees_with, only_read, read_as}
+use Rattle.desk_core.proofs.ReadLaws.{found_is_true}
 
--- the latest is the last one, where that is of the rule and node, and else the latest of those before it
-pub latest_last : (j last : Judgement) (earlier js : List Judgement) → js ≡ earlier ++ last ∷ []
-    → is_latest j js ≡ (if is_on j.rule j.node last then same_judgement last j else is_latest j earlier)
-latest_last j last earlier js is =
-    ap (is_latest j) is
-    ∙ (ap (λ (o : Option Judgement). option_map_or (λ (latest : Judgement). same_judgement latest j) o false) (last-append (is_on j.rule j.node) earlier (last ∷ []))
-    ∙ by (is_on j.rule j.node last) (find (is_on j.rule j.node) (reverse earlier)))
-  where
-    by : (b : Bool) (o : Option Judgement)
-        → option_map_or (λ (latest : Judgement). same_judgement latest j) (option_or (cond b (Some last) None) o) false
-          ≡ (if b then same_judgement last j else option_map_or (λ (latest : Judgement). same_judgement latest j) o false)
-    by true o = refl
-    by false o = refl
+fits_of : (site page : List ℕ) → IsTrue (is_name site) → IsTrue (is_name page) → (change : Option Change) → IfSome change (IsOfPage site page) → IfSome change Fits
+fits_of site page named page_named None is = tt
+fits_of site page named page_named (Some (PutSite s)) is = absurd is
+fits_of site page named page_named (Some (PutPages s counter pages)) is = absurd is
+fits_of site page named page_named (Some (DropPage s p)) is = absurd is
+fits_of site page named page_named (Some (AddJudgement s p j o)) is =
+    let P : List ℕ → Type 0 = λ n. IsTrue (is_name n) in (subst P (sym is.0) named, subst P (sym is.1) page_named)
+
+there_of : (site page : List ℕ) (t : Tables) → IsSome (kept_page site page t) → (change : Option Change) → IfSome change (IsOfPage site page)
+    → IfSome change (λ c. IfSome (Some t) (IsThere c))
+there_of site page t kept None is = tt
+there_of site page t kept (Some (PutSite s)) is = absurd is
+there_of site page t kept (Some (PutPages s counter pages)) is = absurd is
+there_of site page t kept (Some (DropPage s p)) is = absurd is
+there_of site page t kept (Some (AddJudgement s p j o)) is =
+    let P : List ℕ → Type 0 = λ n. IsSome (kept_page n p t) in
+    let Q : List ℕ → Type 0 = λ n. IsSome (kept_page site n t) in
+    subst P (sym is.0) (subst Q (sym is.1) kept)
+
+untold : (change : Option Change) → IfSome change (λ c. IfSome None (IsThere c))
+untold None = tt
+untold (Some change) = tt
+
+there_in : (o : Option KeptPage) (p : PageState) → option_map page_state o ≡ Some p → IsSome o
+there_in None p is = cc
+there_in (Some k) p is = tt
+
+all_fit : (site page : List ℕ) → IsTrue (is_name site) → IsTrue (is_name page) → (result : Result Decided Refusal) → IfOk result (λ d. IfSome d.change (IsOfPage site page))
+    → IfOk result (λ d. IfSome d.change Fits)
+all_fit site page named page_named (Ok d) is = fits_of site page named page_named d.change is
+all_fit site page named page_named (Err r) is = tt
+
+all_there : (site page : List ℕ) (new : Option Tables) → ((t : Tables) → new ≡ Some t → IsSome (kept_page site page t)) → (result : Result Decided Refusal)
+    → IfOk result (λ d. IfSome d.change (IsOfPage site page)) → IfOk result (λ d. IfSome d.change (λ change. IfSome new (IsThere change)))
+all_there site page None kept (Ok d) is = untold d.change
+all_there site page None kept (Err r) is = tt
+all_there site page (Some t) kept (Ok d) is = there_of site page t (kept t refl) d.change is
+all_there site page (Some t) kept (Err r) is = tt
+
+module _ (book : Book) (site caller page : List ℕ) (rule : RuleNo) (node : NodeId) (verdict : Auto) (seen note : List ℕ) where
+  pub decides_judge : (old new : Option Tables) (before now : ℕ) (kept : KeptPage) (result : Result Decided Refusal)
+      → IsTrue (is_name site) → IsTrue (is_name page)
+      → FindsKept needed.Judge caller site page old new before now (Ok kept)
+      → Judges (IsTrueTo book kept) site page (judge book site caller page rule node verdict seen note (page_state kept)) result
+      → Decides book (record { caller = caller; command = command.Judge site page rule node verdict seen note }) old new before now result
+  decides_judge old new before now kept result named page_named finds judges = record {
+    reads = only_read old new before now (let r : Result KeptPage Refusal = Ok kept in r) result (λ e. absurd (judges.no_fault e)) finds.reads;
+    agrees =
+      λ t told sound.
+      let f = finds.found t told in
+      agrees_with result (judge book site caller page rule node verdict seen note (page_state kept)) _
+      (followed needed.Judge caller site page t f.0 (Some (page_state kept)) (λ _ p. judge book site caller page rule node verdict seen note p) _ f.1 f.2 (λ k has same. refl))
+      (judges.agrees (found_is_true book t sound site page kept f.2 f.3));
+    fits = all_fit site page named page_named result judges.of_page;
+    there = all_there site page new (λ t told. there_in (kept_page site page t) (page_state kept) (finds.found t told).2) result judges.of_page;
+  }
+
+  pub decides_no_judge : (old new : Option Tables) (before now : ℕ) (r : Refusal) → FindsKept needed.Judge caller site page old new before now (Err r)
+      → Decides book (record { caller = caller; command = command.Judge site page rule node verdict seen note }) old new before now (Err r)
+  decides_no_judge old new before now r finds = record {
+    reads = read_as old new before now r finds.reads;
+    agrees = λ t told sound. finds.refused t told (λ _ p. judge book site caller page rule node verdict seen note p);
+    fits = tt;
+    there = tt;
+  }

@@ -2,6 +2,7 @@
 use Rattle.std.proofs.Common.{◌≡◌, ℕ, ◌+◌, ◌≤◌, List, [], ◌∷◌, length, map, Bool, true, Option, Some, None, option_map, IfSome, IsTrue, Result, Ok, Err, refl, sym, ap, ◌∙◌, subst, arith}
 use Rattle.std.specs.List.{All}
 use Rattle.std.proofs.lemmas.List.{length-map}
+use Rattle.std.proofs.lemmas.List.Elements.{All-nil}
 use Rattle.snap_tree.specs.Trees.{Document, with_trees}
 use Rattle.snap_tree.specs.Grown.{page_of}
 use Rattle.snap_tree.specs.Well.{IsWell}
@@ -9,7 +10,8 @@ use Rattle.snap_tree.proofs.Wellness.{well_from_sound}
 use Rattle.judge_core.specs.declared.judgement.Judgement.{Judgement}
 use Rattle.judge_core.specs.Books.{Book}
 use Rattle.named_rows.specs.ByName.{at}
-use Rattle.named_rows.proofs.Lookups.{all_at, at_named}
+use Rattle.named_rows.proofs.Lookups.{all_at}
+use Rattle.named_rows.proofs.Order.{in_order_none}
 use Rattle.keep_core.specs.declared.page.PagePut.{PagePut}
 use Rattle.keep_core.specs.declared.change.Change.{Change}
 use Rattle.keep_core.specs.declared.change.Change.TheVariants.{PutPages}
@@ -18,7 +20,7 @@ use Rattle.keep_core.specs.declared.tables.KeptSite.{KeptSite}
 use Rattle.keep_core.specs.Names.{is_name}
 use Rattle.keep_core.specs.Tables.{Tables, kept_site, site_name, page_name}
 use Rattle.keep_core.specs.Changes.{put_over, changed}
-use Rattle.keep_core.specs.Fits.{FitsPage, FitsPages, FitsKept, FitTables}
+use Rattle.keep_core.specs.Fits.{FitsPage, FitsPages, FitsKept, FitTables, Fits, IsThere}
 use Rattle.desk_core.specs.declared.limits.TheConstants.{MOST_PAGES}
 use Rattle.desk_core.specs.declared.command.Command.{Command}
 use Rattle.desk_core.specs.declared.command.Command.TheVariants as command
@@ -32,11 +34,11 @@ use Rattle.desk_core.specs.Imports.{puts, import}
 use Rattle.desk_core.specs.Judging.{judge}
 use Rattle.desk_core.specs.Steps.{Request, site_of, decision, decided}
 use Rattle.desk_core.specs.Fitting.{FitsParts, FitsRequest}
-use Rattle.desk_core.specs.Soundness.{IsSoundPage, IsSound, made}
+use Rattle.desk_core.specs.Soundness.{IsSoundPage, IsSoundSite, IsSound, made}
 use Rattle.desk_core.proofs.Views.{page_seen}
 use Rattle.desk_core.proofs.Deciding.{Brings, brought, put_site_brings, put_member_brings, put_page_brings, edit_page_brings, drop_page_brings, import_brings, judge_brings}
 use Rattle.desk_core.proofs.Fitted.{IfAnyFits, put_site_fits, put_member_fits, put_page_fits, edit_page_fits, drop_page_fits, judge_fits, import_fits}
-use Rattle.desk_core.proofs.Kept.{entering_kept, on_page_kept, new_site_kept, page_read, site_read}
+use Rattle.desk_core.proofs.Kept.{IfAnyIsThere, decided_is_there, entering_kept, on_page_kept, new_site_kept, page_read, site_read}
 use Rattle.desk_core.proofs.Edited.{edits_well}
 use Rattle.desk_core.proofs.SoundPages.{SoundPages, one_put, put_page_sound, puts_sound, one_few, import_few}
 use Rattle.desk_core.proofs.Sound.{some_has, pages_sound, kept_fits, kept_sound, new_site_sound, member_sound, pages_put_sound, drop_sound, judged_sound}
@@ -176,3 +178,12 @@ decided_keeps book q t fits sound =
 -- soundness is kept by the change that is decided
 pub keeps_sound : (book : Book) (q : Request) (t : Tables) (d : Decided) → FitsRequest book q → IsSound book t → decided book q (state_of t) ≡ Ok d → IsSound book (made d.change t)
 keeps_sound book q t d fits sound is = brought (λ change. IsSound book (made change t)) (decided book q (state_of t)) d is (decided_keeps book q t fits sound)
+
+pub change_fits : (book : Book) (q : Request) (t : Tables) (d : Decided) → FitsRequest book q → IsSound book t → decided book q (state_of t) ≡ Ok d → IfSome d.change Fits
+change_fits book q t d fits sound is = brought IfAnyFits (decided book q (state_of t)) d is (decided_fits book q t fits sound.fit)
+
+pub change_there : (book : Book) (q : Request) (t : Tables) (d : Decided) → decided book q (state_of t) ≡ Ok d → IfSome d.change (λ change. IsThere change t)
+change_there book q t d is = brought (IfAnyIsThere t) (decided book q (state_of t)) d is (decided_is_there t book q)
+
+pub none_sound : (book : Book) → IsSound book []
+none_sound book = record { fit = record { each = All-nil FitsKept; in_order = in_order_none site_name }; sites = All-nil (IsSoundSite book) }

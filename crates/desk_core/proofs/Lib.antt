@@ -8,10 +8,8 @@ pub mod PutLaws
 pub mod EditLaws
 pub mod MemberLaws
 pub mod ReadLaws
-pub mod Told
 pub mod JudgeLaws
-pub mod ImportLaws
-pub mod ImportFits
+pub mod Served
 pub mod Rows
 pub mod Edited
 pub mod Owners
@@ -21,3 +19,5 @@ pub mod Keeping
 pub mod Sites
 pub mod Evidence
 pub mod Again
+pub mod Refusing
+pub mod Revisions

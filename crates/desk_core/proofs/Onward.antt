@@ -1,5 +1,6 @@
 -- One way through a keeper after another.
-use Rattle.std.proofs.Common.{◌≡◌, ℕ, length, map, ◌<◌, ◌≤◌, List, true, Option, Some, None, Result, Ok, Err, IfSome, IfOk, IsErrOf, length-map, ◌⊎◌, inl, inr, refl, sym, ap, subst, ◌∙◌, arith}
+use Rattle.std.proofs.Common.{◌≡◌, ℕ, length, map, ◌<◌, ◌≤◌, List, true, Option, Some, None, Result, Ok, Err, IfSome, IfOk, IsErrOf, ◌⊎◌, inl, inr, refl, sym, ap, subst, ◌∙◌, arith}
+use Rattle.std.proofs.lemmas.List.{length-map}
 use Rattle.counts.specs.Counts.{greatest, Rose}
 use Rattle.judge_core.specs.Books.{Book}
 use Rattle.keep_core.specs.declared.change.Change.{Change}
@@ -166,4 +167,4 @@ surveyed caller site page t found kept count next is there many =
     (λ k has same.
     ap (λ (s : Site). next s (page_at page (site_state k).pages) (length (site_state k).pages)) same
     ∙ (ap (λ (o : Option PageState). next found o (length (site_state k).pages)) (page_is site page t k has ∙ there)
-    ∙ ap (λ n. next found kept n) (length-map page_state k.pages ∙ (ap length (sym (pages_are site t k has)) ∙ many))))
+    ∙ ap (λ n. next found kept n) (length-map k.pages page_state ∙ (ap length (sym (pages_are site t k has)) ∙ many))))

@@ -1,5 +1,5 @@
 -- What holds of each two rows, how many rows there are, and what putting and taking twice come to.
-use Rattle.std.proofs.Common.{◌≡◌, ℕ, zero, suc, ◌+◌, ◌<◌, ◌≤◌, List, [], ◌∷◌, length, get_or, Bool, true, false, Option, Some, None, is_some, IfSome, refl, sym, ap, ◌∙◌, subst, arith}
+use Rattle.std.proofs.Common.{◌≡◌, ℕ, zero, suc, ◌+◌, ◌≤◌, List, [], ◌∷◌, length, get_or, Option, Some, None, refl, sym, ap, arith}
 use Rattle.std.specs.declared.cmp.Ordering.{Ordering}
 use Rattle.std.specs.declared.cmp.Ordering.TheVariants.{Less, Equal, Greater}
 use Rattle.std.specs.Ordering.{match_ordering}
@@ -7,7 +7,7 @@ use Rattle.std.specs.List.{All, AllPairs}
 use Rattle.std.proofs.lemmas.List.Elements.{All-nil, All-cons, All-head, All-tail}
 use Rattle.std.proofs.lemmas.List.Kept.{AllPairs-cons}
 use Rattle.named_rows.specs.ByName.{names_cmp, at, put_row, take_row, with_row, IsInOrder}
-use Rattle.named_rows.proofs.Names.{same_itself, chosen, through}
+use Rattle.named_rows.proofs.Names.{chosen}
 use Rattle.named_rows.proofs.Lookups.{all_put, all_take, all_with_row}
 use Rattle.named_rows.proofs.Order.{at_take}
 

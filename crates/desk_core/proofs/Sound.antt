@@ -1,35 +1,28 @@
 -- What is decided keeps tables sound.
-use Rattle.std.proofs.Common.{◌≡◌, ℕ, ◌+◌, ◌≤◌, List, [], ◌∷◌, ◌++◌, length, map, get_or, Bool, true, not, Option, Some, None, IfSome, IsTrue, Result, Ok, Err, refl, sym, ap, ◌∙◌, subst, arith}
-use Rattle.std.specs.List.{All, AllPairs}
+use Rattle.std.proofs.Common.{◌≡◌, ℕ, ◌≤◌, List, [], ◌∷◌, ◌++◌, length, map, true, not, Option, Some, None, IfSome, IsTrue, refl, sym, ap, ◌∙◌, subst, arith}
+use Rattle.std.specs.List.{All}
 use Rattle.std.specs.Str.{bytes_eq}
 use Rattle.std.proofs.lemmas.List.Elements.{All-nil, All-cons, All-head, All-tail}
-use Rattle.snap_tree.specs.Trees.{Document, Trees, with_trees}
-use Rattle.snap_tree.specs.Grown.{page_of, grown}
-use Rattle.snap_tree.specs.Well.{IsWell}
-use Rattle.snap_tree.proofs.Wellness.{well_from_sound}
 use Rattle.judge_core.specs.declared.judgement.Judgement.{Judgement}
 use Rattle.judge_core.specs.declared.outcomes.Outcomes.{Outcomes}
 use Rattle.judge_core.specs.Books.{Book}
 use Rattle.judge_core.specs.Outcomes.{outcomes}
-use Rattle.named_rows.specs.ByName.{at, put_row, put_rows, take_row, with_row, IsInOrder}
+use Rattle.named_rows.specs.ByName.{at, put_rows, with_row}
 use Rattle.named_rows.proofs.Lookups.{all_at, all_put, all_put_rows, all_take, all_with_row}
 use Rattle.named_rows.proofs.Order.{in_order_none, in_order_put, in_order_put_rows, in_order_take, in_order_with_row}
 use Rattle.keep_core.specs.declared.member.MemberRole.{MemberRole}
 use Rattle.keep_core.specs.declared.site.Site.{Site}
 use Rattle.keep_core.specs.declared.page.PagePut.{PagePut}
-use Rattle.keep_core.specs.declared.change.Change.{Change}
 use Rattle.keep_core.specs.declared.change.Change.TheVariants.{PutSite, PutPages, DropPage, AddJudgement}
 use Rattle.keep_core.specs.declared.tables.KeptPage.{KeptPage}
 use Rattle.keep_core.specs.declared.tables.KeptSite.{KeptSite}
 use Rattle.keep_core.specs.Names.{is_name}
 use Rattle.keep_core.specs.Tables.{Tables, kept_site, pages_in, pages_of, site_name, page_name}
 use Rattle.keep_core.specs.Changes.{put_over, with_pages, without_page, with_judgement, with_judged, changed}
-use Rattle.keep_core.specs.Fits.{FitsSite, FitsPage, FitsPages, FitsKept, FitTables}
+use Rattle.keep_core.specs.Fits.{FitsPage, FitsPages, FitsKept}
 use Rattle.desk_core.specs.declared.limits.TheConstants.{MOST_PAGES}
-use Rattle.desk_core.specs.State.{PageState, SiteState, page_state, site_state, state_of, site_at, page_at}
-use Rattle.desk_core.specs.Rights.{may, role_of}
 use Rattle.desk_core.specs.Members.{new_site, site_with, members_with}
-use Rattle.desk_core.specs.Soundness.{has_owner, rev_in, IsSoundPage, IsSoundSite, IsSound}
+use Rattle.desk_core.specs.Soundness.{has_owner, IsSoundPage, IsSoundSite, IsSound}
 use Rattle.desk_core.proofs.Rows.{pairs_none, pairs_take, pairs_with_row, all_with_found, length_take, length_with_row}
 use Rattle.desk_core.proofs.Owners.{Owns, owner_stays}
 use Rattle.desk_core.proofs.Fitted.{new_site_fits, site_with_fits}

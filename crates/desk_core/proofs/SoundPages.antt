@@ -1,7 +1,7 @@
 -- Pages stay sound where one is put by the next revision.
-use Rattle.std.proofs.Common.{◌≡◌, ℕ, zero, suc, ◌+◌, ◌<◌, ◌≤◌, List, [], ◌∷◌, length, map, get_or, Bool, true, false, ◌||◌, Option, Some, None, option_map, is_some, is_none, nat_lt, nat_le, cond, if◌then◌else◌, refl, sym, ap, ◌∙◌, subst, arith, inl, inr, ◌⊎◌}
-use Rattle.std.specs.Option.{option_map_or, option_or}
-use Rattle.std.specs.List.{All, AllPairs, count_by}
+use Rattle.std.proofs.Common.{◌≡◌, ℕ, ◌+◌, ◌≤◌, List, [], ◌∷◌, length, map, get_or, true, Option, Some, None, option_map, is_none, nat_le, cond, refl, sym, ap, ◌∙◌, subst, arith, inl, inr, ◌⊎◌}
+use Rattle.std.specs.Option.{option_or}
+use Rattle.std.specs.List.{All, AllPairs}
 use Rattle.std.proofs.lemmas.Bool.Decides.{nat_tests}
 use Rattle.std.proofs.lemmas.List.Sums.{sum_by-cons}
 use Rattle.snap_tree.specs.declared.fault.TreeFault.{TreeFault}
@@ -10,20 +10,18 @@ use Rattle.snap_tree.specs.Grown.{page_of, grown}
 use Rattle.snap_tree.specs.Faults.{tree_fault}
 use Rattle.snap_tree.specs.Well.{IsWell}
 use Rattle.snap_tree.proofs.Wellness.{well_from_sound}
-use Rattle.judge_core.specs.declared.judgement.Judgement.{Judgement}
 use Rattle.judge_core.specs.Books.{Book}
 use Rattle.judge_core.specs.Outcomes.{outcomes}
 use Rattle.named_rows.specs.ByName.{at, put_row, put_rows}
 use Rattle.named_rows.proofs.Lookups.{all_put, at_put, at_put_other}
-use Rattle.keep_core.specs.declared.page.PagePut.{PagePut}
 use Rattle.keep_core.specs.declared.tables.KeptPage.{KeptPage}
-use Rattle.keep_core.specs.Tables.{page_name, judgements_in}
+use Rattle.keep_core.specs.Tables.{page_name}
 use Rattle.keep_core.specs.Changes.{put_over}
 use Rattle.desk_core.specs.declared.command.Entry.{Entry}
 use Rattle.desk_core.specs.declared.limits.TheConstants.{MOST_PAGES}
 use Rattle.desk_core.specs.declared.refusal.Refusal.{Refusal}
 use Rattle.desk_core.specs.declared.refusal.Refusal.TheVariants as refusal
-use Rattle.desk_core.specs.State.{PageState, page_state, page_at}
+use Rattle.desk_core.specs.State.{page_state, page_at}
 use Rattle.desk_core.specs.Pages.{judged, has_room, page_put}
 use Rattle.desk_core.specs.Imports.{new_pages, first_fault, puts}
 use Rattle.desk_core.specs.Soundness.{rev_in, IsGiven, IsSoundPage}

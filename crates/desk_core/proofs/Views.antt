@@ -1,10 +1,9 @@
 -- The state that tables give after a change is what the change makes of the state that they gave.
-use Rattle.std.proofs.Common.{◌≡◌, ℕ, List, [], ◌∷◌, map, Bool, true, false, Option, Some, None, option_map, refl, sym, ap, ◌∙◌, inl, inr, ◌⊎◌}
+use Rattle.std.proofs.Common.{◌≡◌, ℕ, List, [], ◌∷◌, map, Option, Some, None, option_map, refl, sym, ap, ◌∙◌, inl, inr, ◌⊎◌}
 use Rattle.std.specs.Option.{option_map_or}
 use Rattle.std.specs.declared.cmp.Ordering.{Ordering}
 use Rattle.std.specs.declared.cmp.Ordering.TheVariants.{Less, Equal, Greater}
 use Rattle.judge_core.specs.declared.judgement.Judgement.{Judgement}
-use Rattle.judge_core.specs.declared.outcomes.Outcomes.{Outcomes}
 use Rattle.named_rows.specs.ByName.{names_cmp, at, put_row, put_rows, take_row, with_row}
 use Rattle.named_rows.proofs.Names.{same_name, tied_name}
 use Rattle.named_rows.proofs.Lookups.{at_put, at_put_other}
@@ -19,7 +18,7 @@ use Rattle.keep_core.specs.Tables.{Tables, kept_site, pages_in, pages_of, judgem
 use Rattle.keep_core.specs.Tables as kept
 use Rattle.keep_core.specs.Changes.{put_over}
 use Rattle.keep_core.specs.Changes as tables
-use Rattle.desk_core.specs.State.{PageState, SiteState, State, page_state, site_state, state_of, page_name, site_name, page_at, site_at}
+use Rattle.desk_core.specs.State.{PageState, SiteState, page_state, site_state, state_of, page_name, site_name, page_at, site_at}
 use Rattle.desk_core.specs.Pages.{judged}
 use Rattle.desk_core.specs.Changes.{with_page, with_pages, with_site, with_counter, in_pages, with_judgement, changed}
 

@@ -14,4 +14,6 @@ pub mod Soundness
 pub mod Costs
 pub mod Runs
 pub mod Serving
-pub mod Placing
+pub mod Once
+pub mod Revisions
+pub mod Judged

@@ -1,6 +1,6 @@
 -- What is owed on the way through a request, over a keeper that may tell its tables: what is told at the end was told
 -- at the start, a refusal is the first one, and the keeper's fault is given only where its count rose.
-use Rattle.std.specs.Prelude.{◌≡◌, ℕ, ◌≤◌, List, length, true, false, Option, Some, option_map, Result, Ok, Err, IfSome, IfOk, IfErr, IsErrOf}
+use Rattle.std.specs.Prelude.{◌≡◌, ℕ, ◌≤◌, List, length, true, false, Option, Some, None, option_map, ◌⊎◌, Result, Ok, Err, IfSome, IfOk, IfErr, IsErrOf}
 use Rattle.counts.specs.Counts.{Rose}
 use Rattle.judge_core.specs.Books.{Book}
 use Rattle.judge_core.specs.Outcomes.{outcomes}
@@ -9,7 +9,8 @@ use Rattle.keep_core.specs.declared.page.SitePage.{SitePage}
 use Rattle.keep_core.specs.declared.tables.KeptPage.{KeptPage}
 use Rattle.keep_core.specs.Tables.{Tables, site_of, kept_page, pages_of, outcomes_of}
 use Rattle.keep_core.specs.Fits.{Fits, FitsSite, FitsPage, IsThere}
-use Rattle.keep_core.specs.Keeping.{Stays}
+use Rattle.keep_core.specs.Keeping.{Stays, Turns}
+use Rattle.keep_core.specs.declared.change.Change.{Change}
 use Rattle.desk_core.specs.declared.decided.Decided.{Decided}
 use Rattle.desk_core.specs.declared.refusal.Needed.{Needed}
 use Rattle.desk_core.specs.declared.refusal.Needed.TheVariants.{Editor}
@@ -23,7 +24,7 @@ use Rattle.desk_core.specs.Rights.{may, role_of, entering, on_page}
 use Rattle.desk_core.specs.Steps.{Request, read_page, decided}
 use Rattle.desk_core.specs.Reading.{answered, site_page}
 use Rattle.desk_core.specs.Soundness.{IsSound}
-use Rattle.desk_core.specs.Runs.{Answers}
+use Rattle.desk_core.specs.Runs.{Fails, Answers}
 
 -- a refusal is what is decided, unless there was no memory, or the keeper met a fault where one may be met
 abbrev pub Stands : Type 0 → Refusal → Decision → Type 0
@@ -132,3 +133,13 @@ pub record Serves (book : Book) (request : Request) (old new : Option Tables) (b
   pub told :
     (t : Tables) → new ≡ Some t → (s : Tables) × (old ≡ Some s) × (IsSound book s → IsSound book t × Answers book (state_of s) request reply (state_of t) before now)
   pub never_falls : before ≤ now
+
+-- the tables after a change, or as they were without one
+abbrev pub TurnsBy : Option Change → Option Tables → Option Tables → Type 0
+TurnsBy None old new = Stays old new
+TurnsBy (Some change) old new = Turns change old new
+
+-- what was decided is made of the tables and answered, or it fails and the tables stay
+pub record Commits (d : Decided) (old new : Option Tables) (before now : ℕ) (reply : Reply) : Type 0 where
+  pub never_falls : before ≤ now
+  pub made : ((reply ≡ d.reply) × TurnsBy d.change old new) ⊎ (Fails reply before now × Stays old new)

@@ -1,30 +1,28 @@
-ghost use Rattle.std.specs.Prelude.{◌≡◌, [], ◌∷◌, ◌++◌, IsTrue, IfOk, IfErr, IfSome, IsErrOf};
-ghost use Rattle.judge_core.specs.declared.outcomes.OutRow.{OutRow};
-ghost use Rattle.snap_tree.specs.Trees.{Document};
-ghost use Rattle.judge_core.specs.Composites.{is_open};
-ghost use Rattle.judge_core.specs.Outcomes.{outcomes};
-ghost use Rattle.desk_core.specs.declared.command.Command.TheVariants.{Judge};
-ghost use Rattle.desk_core.specs.declared.refusal.Refusal.TheVariants.{KeeperFault};
-ghost use Rattle.desk_core.specs.Refusals.{Decision};
-ghost use Rattle.desk_core.specs.Judging.{is_latest, added, judged_row, judge, AddsTo};
-ghost use Rattle.desk_core.specs.State.{PageState, page_state};
+ghost use Rattle.std.specs.Prelude.{◌≡◌, IsTrue, reverse};
+ghost use Rattle.std.specs.List.{find};
+ghost use Rattle.std.specs.Option.{option_copied};
+ghost use Rattle.judge_core.specs.Judgements.{is_on};
 ghost use Rattle.keep_core.specs.Names.{is_name};
-ghost use Rattle.desk_core.specs.Serving.{Agrees, Decides, IsTrueTo, Stands};
+ghost use Rattle.desk_core.specs.declared.command.Command.TheVariants.{Judge};
+ghost use Rattle.desk_core.specs.State.{page_state};
+ghost use Rattle.desk_core.specs.Judging.{is_latest, added, judge};
+ghost use Rattle.desk_core.specs.Judged.{Judges, judging};
+ghost use Rattle.desk_core.specs.Serving.{Decides, IsTrueTo};
 
 use crate::decided::Decided;
 use crate::look::find_kept;
 use crate::refusal::{Needed, Refusal};
 use crate::reply::Reply;
-use judge_core::{Judgement, OutRow, Outcomes, evidence_digest};
+use judge_core::{Judgement, OutRow, evidence_digest};
 use keep_core::{Change, Keeper, KeptPage};
 use reaudit::after_judgement;
 use rule_core::{Auto, RuleBook, RuleNo};
-use snap_tree::{List, NodeId, OutOfMemory, Text};
+use snap_tree::{NodeId, Text, copies_of};
 use std::alloc::Global;
 
-/// What a caller says of a rule on a node, and the digest of the evidence that was seen.
+/// A judgement as it is sent: of which rule on which node, by the digest of the evidence that was seen.
 #[derive(Drop)]
-pub struct Judging {
+pub struct Said {
     pub rule: RuleNo,
     pub node: NodeId,
     pub verdict: Auto,
@@ -40,145 +38,105 @@ pub fn judge<K: Keeper, B: RuleBook>(
     caller: &Text,
     site: Text,
     page: Text,
-    judging: Judging,
+    said: Said,
 ) -> Result<Decided, Refusal>
     requires site { IsTrue (is_name site) }
     requires page { IsTrue (is_name page) }
-    ensures { Decides (record { infos = B.infos; means = B.means }) (record { caller = caller.now;
-        command = Judge site page judging.rule judging.node judging.verdict judging.digest judging.note })
+    ensures { Decides (record { infos = B.infos; means = B.means })
+        (record { caller = caller.now; command = Judge site page said.rule said.node said.verdict said.digest said.note })
         (K.tables keeper.old) (K.tables keeper.new) (K.faults keeper.old) (K.faults keeper.new) result }
 {
     match find_kept(alloc, keeper, Needed::Judge, caller, &site, &page) {
-        Ok(kept) => decide(alloc, book, caller, site, page, judging, kept),
+        Ok(kept) => decide(alloc, book, caller, site, page, said, &kept),
         Err(refusal) => Err(refusal),
     }
 }
 
-// What is decided on a judgement of a page, whose outcomes are kept.
 fn decide<B: RuleBook>(
     alloc: Global,
     book: &B,
     caller: &Text,
     site: Text,
     page: Text,
-    judging: Judging,
-    kept: KeptPage,
+    said: Said,
+    kept: &KeptPage,
 ) -> Result<Decided, Refusal>
-    ensures agrees { IsTrueTo (record { infos = B.infos; means = B.means }) kept
-        → Agrees ⊥ result (judge (record { infos = B.infos; means = B.means }) site caller.now page
-            judging.rule judging.node judging.verdict judging.digest judging.note (page_state kept)) }
-    ensures no_fault { IsErrOf result KeeperFault → ⊥ }
-    ensures change { IfOk result (λ d. IfSome d.change (AddsTo site page)) }
+    ensures { Judges (IsTrueTo (record { infos = B.infos; means = B.means }) kept.now) site page
+        (judge (record { infos = B.infos; means = B.means }) site caller.now page said.rule said.node said.verdict
+            said.digest said.note (page_state kept.now)) result }
 {
-    let row = judged_row(&kept.outcomes, &judging, caller, &kept.page.head.hand)?;
-    let judgement = judgement_of(alloc, caller, judging, row)?;
-    let KeptPage { judgements, outcomes, .. } = kept;
-    added(alloc, book, site, page, judgement, judgements, &outcomes)
+    match kept.outcomes.row(said.rule, said.node) {
+        Some(row) => decide_on(alloc, book, caller, site, page, said, kept, row),
+        None => Err(Refusal::NoTarget),
+    }
 }
 
-// The row that is judged: an open one whose evidence the judge saw, of a page that another sent.
-fn judged_row<'a>(
-    outcomes: &'a Outcomes,
-    judging: &Judging,
+// What is decided on an outcome that is there.
+fn decide_on<B: RuleBook>(
+    alloc: Global,
+    book: &B,
     caller: &Text,
-    hand: &Text,
-) -> Result<&'a OutRow, Refusal>
-    ensures row { IfOk result (λ row. (next : OutRow → Decision)
-        → judged_row outcomes.now.rows hand.now caller.now judging.now.rule judging.now.node judging.now.digest next
-            ≡ next row.now) }
-    ensures refused { IfErr result (λ r. (next : OutRow → Decision) → Stands ⊥ r
-        (judged_row outcomes.now.rows hand.now caller.now judging.now.rule judging.now.node judging.now.digest next)) }
+    site: Text,
+    page: Text,
+    said: Said,
+    kept: &KeptPage,
+    row: &OutRow,
+) -> Result<Decided, Refusal>
+    ensures { Judges (IsTrueTo (record { infos = B.infos; means = B.means }) kept.now) site page
+        (judging (record { infos = B.infos; means = B.means }) site caller.now page said.rule said.node said.verdict
+            said.digest said.note (page_state kept.now) row.now) result }
 {
-    let Some(row) = outcomes.row(judging.rule, judging.node) else {
-        return Err(Refusal::NoTarget);
-    };
-    if !is_open(row.auto) {
+    let Auto::CantTell = row.auto else {
         return Err(Refusal::NotOpen {
             automatic: row.auto,
         });
-    }
-    if *caller == *hand {
+    };
+    if *caller == kept.page.head.hand {
         return Err(Refusal::SameHand);
     }
     let current = evidence_digest(&row.evidence);
-    if judging.digest == current {
-        Ok(row)
-    } else {
-        Err(Refusal::EvidenceMoved { current })
+    if said.digest.as_slice() != current.as_slice() {
+        return Err(Refusal::EvidenceMoved { current });
     }
-}
-
-fn is_open(auto: Auto) -> bool
-    ensures { result ≡ is_open auto }
-{
-    matches!(auto, Auto::CantTell)
-}
-
-// The judgement that is given, of the evidence that the row has.
-fn judgement_of(
-    alloc: Global,
-    caller: &Text,
-    judging: Judging,
-    row: &OutRow,
-) -> Result<Judgement, OutOfMemory>
-    ensures { IfOk result (λ j. j ≡ record { rule = judging.rule; node = judging.node;
-        verdict = judging.verdict; hand = caller.now; note = judging.note; evidence = row.now.evidence }) }
-{
     let hand = caller.copy(alloc)?;
     let evidence = row.evidence.copy(alloc)?;
-    Ok(Judgement {
-        rule: judging.rule,
-        node: judging.node,
-        verdict: judging.verdict,
+    let judgement = Judgement {
+        rule: said.rule,
+        node: said.node,
+        verdict: said.verdict,
         hand,
-        note: judging.note,
+        note: said.note,
         evidence,
-    })
+    };
+    add(alloc, book, site, page, judgement, kept)
 }
 
-// Whether the latest judgement of its rule and node is the same already.
-#[tactic(auto, using(crate::proofs::JudgeLaws::latest_last))]
-fn is_latest(j: &Judgement, js: &[Judgement]) -> bool
-    ensures { result ≡ is_latest j.now js.now }
-{
-    let mut left = js;
-    while let Some((last, earlier)) = left.split_last() {
-        if last.is_on(j.rule, j.node) {
-            return *last == *j;
-        }
-        left = earlier;
-    }
-    false
-}
-
-// A judgement goes to the end of the page's list, unless it stands there already.
-fn added<B: RuleBook>(
+// A judgement at the end of the page's list, unless the latest one is the same.
+fn add<B: RuleBook>(
     alloc: Global,
     book: &B,
     site: Text,
     page: Text,
     judgement: Judgement,
-    js: List<Judgement>,
-    found: &Outcomes,
+    kept: &KeptPage,
 ) -> Result<Decided, Refusal>
-    ensures agrees { (kept : PageState) → js ≡ kept.judgements
-        → found.now.rows ≡ outcomes (record { infos = B.infos; means = B.means }) kept.page.tree js
-        → Agrees ⊥ result (added (record { infos = B.infos; means = B.means }) site page judgement kept) }
-    ensures no_fault { IsErrOf result KeeperFault → ⊥ }
-    ensures change { IfOk result (λ d. IfSome d.change (AddsTo site page)) }
+    ensures { Judges (IsTrueTo (record { infos = B.infos; means = B.means }) kept.now) site page
+        (added (record { infos = B.infos; means = B.means }) site page judgement (page_state kept.now)) result }
 {
     let reply = Reply::Judged {
         rule: judgement.rule,
         node: judgement.node,
         outcome: judgement.verdict,
     };
-    if is_latest(&judgement, js.as_slice()) {
+    if is_latest(&judgement, kept.judgements.as_slice()) {
         return Ok(Decided {
             change: None,
             reply,
         });
     }
-    let outcomes = outcomes_with(alloc, book, &judgement, js, found)?;
+    let mut judgements = copies_of(alloc, kept.judgements.as_slice())?;
+    judgements.push(judgement.copy(alloc)?)?;
+    let outcomes = after_judgement(alloc, book, &kept.outcomes, judgements.as_slice())?;
     Ok(Decided {
         change: Some(Change::AddJudgement {
             site,
@@ -190,20 +148,18 @@ fn added<B: RuleBook>(
     })
 }
 
-// The outcomes of a page under one judgement more than those under which these were found.
-fn outcomes_with<B: RuleBook>(
-    alloc: Global,
-    book: &B,
-    judgement: &Judgement,
-    js: List<Judgement>,
-    found: &Outcomes,
-) -> Result<Outcomes, OutOfMemory>
-    ensures { (tree : Document)
-        → found.now.rows ≡ outcomes (record { infos = B.infos; means = B.means }) tree js
-        → IfOk result (λ o. o.rows
-            ≡ outcomes (record { infos = B.infos; means = B.means }) tree (js ++ judgement.now ∷ [])) }
+// Whether the latest judgement of its rule on its node is the same.
+fn is_latest(judgement: &Judgement, judgements: &[Judgement]) -> bool
+    ensures { result ≡ is_latest judgement.now judgements.now }
 {
-    let mut js = js.into_vec();
-    js.push(judgement.copy(alloc)?)?;
-    after_judgement(alloc, book, found, js.as_slice())
+    match latest_on(judgement.rule, judgement.node, judgements) {
+        Some(latest) => *latest == *judgement,
+        None => false,
+    }
+}
+
+fn latest_on(rule: RuleNo, node: NodeId, judgements: &[Judgement]) -> Option<&Judgement>
+    ensures { option_copied result ≡ find (is_on rule node) (reverse judgements.now) }
+{
+    judgements.iter().rev().find(|j| j.is_on(rule, node))
 }

@@ -1,9 +1,20 @@
-ghost use Rattle.std.specs.Prelude.{◌≡◌};
+ghost use Rattle.std.specs.Prelude.{◌≡◌, ◌<◌, ◌≤◌, [], List, ℕ, Ok, IfSome};
+ghost use Rattle.std.specs.List.{All};
+ghost use Rattle.judge_core.specs.Books.{Book};
 ghost use Rattle.keep_core.specs.declared.change.Change.{Change};
 ghost use Rattle.keep_core.specs.Tables.{Tables};
 ghost use Rattle.keep_core.specs.Changes as tables;
-ghost use Rattle.desk_core.specs.State.{state_of};
-ghost use Rattle.desk_core.specs.Changes.{changed};
+ghost use Rattle.keep_core.specs.Fits.{Fits, IsThere};
+ghost use Rattle.desk_core.specs.declared.decided.Decided.{Decided};
+ghost use Rattle.desk_core.specs.declared.reply.Reply.{Reply};
+ghost use Rattle.desk_core.specs.State.{State, state_of, site_at};
+ghost use Rattle.desk_core.specs.Changes.{changed, after};
+ghost use Rattle.desk_core.specs.Steps.{Request, site_of, decided, step};
+ghost use Rattle.desk_core.specs.Runs.{Runs};
+ghost use Rattle.desk_core.specs.Fitting.{FitsRequest};
+ghost use Rattle.desk_core.specs.Soundness.{IsSound, made};
+ghost use Rattle.desk_core.specs.Once.{IsOnce, IsRefused, Refuses, IsFor};
+ghost use Rattle.desk_core.specs.Revisions.{counter_of, revision_of, Rises, Carries, Puts};
 
 /// Laws of the state that tables give. It does nothing: the clauses are what it is for.
 ///
@@ -11,4 +22,69 @@ ghost use Rattle.desk_core.specs.Changes.{changed};
 #[tactic(auto, using(crate::proofs::Views::changes_seen))]
 pub fn laws_of_views()
     ensures changed { (c : Change) (t : Tables) → state_of (tables.changed c t) ≡ changed c (state_of t) }
+{}
+
+/// Laws of soundness. It does nothing: the clauses are what it is for.
+///
+/// Tables without a site are sound. What is decided on a request that fits, over sound tables, is a change
+/// that fits and whose site and page are there; and the tables are sound after it.
+#[tactic(auto, using(crate::proofs::Keeping::none_sound, crate::proofs::Keeping::change_fits, crate::proofs::Keeping::change_there))]
+pub fn laws_of_soundness()
+    ensures none { (book : Book) → IsSound book [] }
+    ensures fits { (book : Book) (q : Request) (t : Tables) (d : Decided) → FitsRequest book q → IsSound book t
+        → decided book q (state_of t) ≡ Ok d → IfSome d.change Fits }
+    ensures there { (book : Book) (q : Request) (t : Tables) (d : Decided)
+        → decided book q (state_of t) ≡ Ok d → IfSome d.change (λ change. IsThere change t) }
+    ensures kept { (book : Book) (q : Request) (t : Tables) (d : Decided) → FitsRequest book q → IsSound book t
+        → decided book q (state_of t) ≡ Ok d → IsSound book (made d.change t) }
+{}
+
+/// Laws of requests that are sent again. It does nothing: the clauses are what it is for.
+///
+/// A request that is sent again at once changes nothing. One that was accepted and made a site, or put,
+/// edited or dropped pages, is refused then: the site exists, the page isn't there, or the revision isn't
+/// the page's any more, unless the site is full.
+#[tactic(auto, using(crate::proofs::Again::again_changes_nothing, crate::proofs::Refusing::refused_then))]
+pub fn laws_of_requests()
+    ensures again { (book : Book) (q : Request) (t : Tables) → FitsRequest book q → IsSound book t
+        → (step book (step book (state_of t) q).0 q).0 ≡ (step book (state_of t) q).0 }
+    ensures once { (book : Book) (q : Request) (t : Tables) (d : Decided) → FitsRequest book q → IsSound book t
+        → IsOnce q.command → decided book q (state_of t) ≡ Ok d
+        → Refuses (IsFor q.command) (decided book q (after d.change (state_of t))) }
+{}
+
+/// Laws of sites. It does nothing: the clauses are what it is for.
+///
+/// A request leaves all sites but the one that it names, and what is decided on it depends on the row of
+/// that site alone.
+#[tactic(auto, using(crate::proofs::Sites::other_sites_stay, crate::proofs::Sites::decided_by_site))]
+pub fn laws_of_sites()
+    ensures others { (book : Book) (q : Request) (state : State) (n : List ℕ)
+        → (n ≡ site_of q.command → ⊥) → site_at n (step book state q).0 ≡ site_at n state }
+    ensures alone { (book : Book) (q : Request) (one other : State)
+        → site_at (site_of q.command) one ≡ site_at (site_of q.command) other
+        → decided book q one ≡ decided book q other }
+{}
+
+/// Laws of revisions. It does nothing: the clauses are what it is for.
+///
+/// No page has a revision above its site's counter. The counter never falls, and a page keeps its revision,
+/// goes, or gets one above the counter; each page that an accepted request puts or edits gets such a one.
+/// So a revision never comes twice in a site: of all requests in a run that carry one revision of a page,
+/// one is accepted.
+pub fn laws_of_revisions()
+    ensures within { (book : Book) (t : Tables) (site page : List ℕ) → IsSound book t
+        → revision_of page (site_at site (state_of t)) ≤ counter_of (site_at site (state_of t)) }
+    ensures rises { (book : Book) (q : Request) (t : Tables) (site page : List ℕ) → IsSound book t
+        → Rises page (site_at site (state_of t)) (site_at site (step book (state_of t) q).0) }
+    ensures newer { (book : Book) (q : Request) (t : Tables) (d : Decided) (page : List ℕ) (rev : ℕ) → IsSound book t
+        → Puts page rev q.command → decided book q (state_of t) ≡ Ok d
+        → counter_of (site_at (site_of q.command) (state_of t))
+        < revision_of page (site_at (site_of q.command) (after d.change (state_of t))) }
+    ensures once { (book : Book) (t : Tables) (q later : Request) (d : Decided) (requests : List Request)
+        (replies : List Reply) (new : State) (from to : ℕ) (page : List ℕ) (rev : ℕ) → 1 ≤ rev
+        → IsSound book t → FitsRequest book q → decided book q (state_of t) ≡ Ok d
+        → All (FitsRequest book) requests → Runs book (after d.change (state_of t)) requests replies new from to
+        → site_of later.command ≡ site_of q.command → Carries page rev q.command → Carries page rev later.command
+        → IsRefused (decided book later new) }
 {}

@@ -1,21 +1,16 @@
 //! The machine of the desk: one request at a time, from what is kept to what is kept after it.
 #![tactic(auto)]
 
-mod arrival;
-mod built;
 mod command;
 mod decided;
 mod drop_page;
 mod edit_page;
 mod enter;
-mod import;
-mod judge;
 mod laws;
 mod limits;
 mod look;
 mod members;
 mod page_state;
-mod placed;
 mod put_page;
 mod reads;
 mod refusal;

@@ -1,10 +1,12 @@
 ghost use Rattle.std.specs.Prelude.{◌≡◌, None, IfOk};
 ghost use Rattle.judge_core.specs.Books.{Book};
 ghost use Rattle.desk_core.specs.declared.command.Command.TheVariants.{GetPage, GetNames, GetOutcomes, GetReport, GetEarl};
+ghost use Rattle.desk_core.specs.declared.reply.Reply.TheVariants as reply;
 ghost use Rattle.desk_core.specs.Serving.{Decides, ReadsPage};
 
 use crate::decided::Decided;
 use crate::look::{find, find_kept};
+use crate::page_state::PageState;
 use crate::refusal::{Needed, Refusal};
 use crate::reply::Reply;
 use keep_core::{Keeper, KeptPage, SitePage};
@@ -20,6 +22,19 @@ fn answered(reply: Reply) -> Decided
     }
 }
 
+fn page_of(found: PageState) -> Decided
+    ensures { result ≡ record { change = None; reply = reply.Page found.page } }
+{
+    answered(Reply::Page(found.page))
+}
+
+fn names_of(found: PageState) -> Decided
+    ensures { result ≡ record { change = None; reply = reply.Names found.page.tree } }
+{
+    let page = found.page;
+    answered(Reply::Names(page.tree))
+}
+
 /// A page.
 pub fn get_page<K: Keeper>(
     alloc: Global,
@@ -32,7 +47,7 @@ pub fn get_page<K: Keeper>(
         (K.tables keeper.old) (K.tables keeper.new) (K.faults keeper.old) (K.faults keeper.new) result }
 {
     match find(alloc, keeper, Needed::Reader, caller, site, page) {
-        Ok(found) => Ok(answered(Reply::Page(found.1.page))),
+        Ok(found) => Ok(page_of(found.1)),
         Err(refusal) => Err(refusal),
     }
 }
@@ -49,7 +64,7 @@ pub fn get_names<K: Keeper>(
         (K.tables keeper.old) (K.tables keeper.new) (K.faults keeper.old) (K.faults keeper.new) result }
 {
     match find(alloc, keeper, Needed::Reader, caller, site, page) {
-        Ok(found) => Ok(answered(Reply::Names(found.1.page.tree))),
+        Ok(found) => Ok(names_of(found.1)),
         Err(refusal) => Err(refusal),
     }
 }
@@ -59,9 +74,10 @@ fn site_page(alloc: Global, kept: KeptPage) -> Result<SitePage, OutOfMemory>
     ensures { IfOk result
         (λ p. p ≡ record { head = kept.page.head; address = kept.page.tree.address; outcomes = kept.outcomes }) }
 {
-    let address = kept.page.tree.address().copy(alloc)?;
+    let page = kept.page;
+    let address = page.tree.address().copy(alloc)?;
     Ok(SitePage {
-        head: kept.page.head,
+        head: page.head,
         address,
         outcomes: kept.outcomes,
     })

@@ -1,4 +1,5 @@
-use Rattle.std.proofs.Common.{◌≡◌, length, sym, ap, ◌∙◌, arith, length-map}
+use Rattle.std.proofs.Common.{◌≡◌, length, sym, ap, ◌∙◌, arith}
+use Rattle.std.proofs.lemmas.List.{length-map}
 use Rattle.keep_core.specs.declared.tables.KeptPage.{KeptPage}
 use Rattle.keep_core.specs.Tables.{pages_of}
 use Rattle.desk_core.proofs.look.survey_site.Goals as goal
@@ -16,7 +17,7 @@ returns g c = record {
     (
       c.in_ok-entered.ensures.found t (c.in_ok-kept.ensures.reads.stays t looked),
       sym (c.in_ok-kept.ensures.found t looked),
-      sym (length-map (λ (p : KeptPage). p.page.head) (pages_of c.args.site.now t)) ∙ (ap length (sym (c.in_ok-heads.ensures.reads.answers t told)) ∙ sym c.len.ensures),
+      sym (length-map (pages_of c.args.site.now t) (λ (p : KeptPage). p.page.head)) ∙ (ap length (sym (c.in_ok-heads.ensures.reads.answers t told)) ∙ sym c.len.ensures),
     );
   refused = tt;
 }

@@ -1,4 +1,4 @@
-use Rattle.std.proofs.Common.{◌≡◌, ap, sym, subst, refl, ◌∙◌, length, length-map}
+use Rattle.std.proofs.Common.{◌≡◌, ap, sym, subst, refl, ◌∙◌, length}
 use Rattle.keep_core.specs.declared.site.Site.{Site}
 use Rattle.judge_core.specs.Books.{Book}
 use Rattle.desk_core.specs.declared.command.Command.TheVariants.{PutPage}
