@@ -14,7 +14,9 @@ not_atomic : (atomic : Bool) (v : Option Verdict) → atomic ≡ false → cond 
 not_atomic true v h = absurd (false≢true (sym h))
 not_atomic false v h = refl
 
-at_number : (here : Bool) (i : RuleInfo) (later : Option RuleInfo) (v w : Option Verdict) → (option_map_or is_atomic later false ≡ false → w ≡ None) → option_map_or is_atomic (cond here (Some i) later) false ≡ false → cond here (cond (is_atomic i) v None) w ≡ None
+at_number : (here : Bool) (i : RuleInfo) (later : Option RuleInfo) (v w : Option Verdict)
+    → (option_map_or is_atomic later false ≡ false → w ≡ None)
+    → option_map_or is_atomic (cond here (Some i) later) false ≡ false → cond here (cond (is_atomic i) v None) w ≡ None
 at_number true i later v w next h = not_atomic (is_atomic i) v h
 at_number false i later v w next h = next h
 

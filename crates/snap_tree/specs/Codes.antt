@@ -34,7 +34,9 @@ abbrev coded_space : Coded Space
 coded_space = code_by ℕ coded_ℕ number space space-number
 
 abbrev coded_facts : Coded Facts
-coded_facts = code_by (Bool × (Bool × (Bool × Bool))) (coded× coded_bool (coded× coded_bool (coded× coded_bool coded_bool))) (λ f. (f.rendered, (f.visible, (f.focusable, f.tabbable)))) (λ p. record { rendered = p.0; visible = p.1.0; focusable = p.1.1.0; tabbable = p.1.1.1 }) (λ _. refl)
+coded_facts = code_by (Bool × (Bool × (Bool × Bool))) (coded× coded_bool (coded× coded_bool (coded× coded_bool coded_bool)))
+    (λ f. (f.rendered, (f.visible, (f.focusable, f.tabbable))))
+    (λ p. record { rendered = p.0; visible = p.1.0; focusable = p.1.1.0; tabbable = p.1.1.1 }) (λ _. refl)
 
 abbrev coded_attr : Coded Attr
 coded_attr = code_by (List ℕ × List ℕ) (coded× (coded_list coded_ℕ) (coded_list coded_ℕ)) (λ a. (a.name, a.value)) (λ p. record { name = p.0; value = p.1 }) (λ _. refl)
@@ -58,7 +60,9 @@ abbrev coded_body : Coded Body
 coded_body = code_by Parts (coded⊎ (coded× coded_space (coded× (coded_list coded_ℕ) (coded_list coded_attr))) (coded_list coded_ℕ)) parts body body-parts
 
 abbrev coded_row : Coded Row
-coded_row = code_by (NodeId × (Option NodeId × (Body × Facts))) (coded× coded_id (coded× (coded_option coded_id) (coded× coded_body coded_facts))) (λ r. (r.id, (r.parent, (r.body, r.facts)))) (λ p. record { id = p.0; parent = p.1.0; body = p.1.1.0; facts = p.1.1.1 }) (λ _. refl)
+coded_row = code_by (NodeId × (Option NodeId × (Body × Facts))) (coded× coded_id (coded× (coded_option coded_id) (coded× coded_body coded_facts)))
+    (λ r. (r.id, (r.parent, (r.body, r.facts))))
+    (λ p. record { id = p.0; parent = p.1.0; body = p.1.1.0; facts = p.1.1.1 }) (λ _. refl)
 
 -- trees in prefix order: a row, what is below it, what is after it; and a mark where there is none
 abbrev marks : Trees → List (Option Row)
