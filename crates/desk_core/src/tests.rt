@@ -1,10 +1,11 @@
 ghost use Rattle.std.specs.Prelude.{IsTrue, IfOk};
 ghost use Rattle.keep_core.specs.Names.{is_name};
 
-use crate::samples::{Node, Sample, raw};
+use crate::samples::{Node, raw};
 use crate::{Command, Refusal, Reply, handle};
 use keep_core::{MemberRole, MemoryKeeper, is_name};
 use rule_core::Auto::CantTell;
+use rule_sketches::Marks;
 use snap_edit::Edit;
 use snap_tree::{List, NodeId, OutOfMemory, Text};
 use std::alloc::Global;
@@ -214,7 +215,7 @@ fn edits(alloc: Global, node: u32, value: &str) -> Result<List<Edit>, OutOfMemor
 fn answer(
     rt: &impl Abort,
     alloc: Global,
-    books: &mut [Sample],
+    books: &mut [Marks],
     keeper: &mut MemoryKeeper,
     caller: &str,
     site: &str,
@@ -371,7 +372,7 @@ fn line(alloc: Global, reply: &Reply) -> Result<String, Fail> {
 #[test]
 fn each_request_has_its_reply(rt: HostRuntime) -> Result<(), Fail> {
     let alloc = rt.alloc();
-    let mut books = [Sample::new()];
+    let mut books = [Marks::new()];
     let mut keeper = MemoryKeeper::new(alloc, List::from_vec(Vec::new(alloc)));
     for (caller, site, asked, wanted) in ASKED.as_slice() {
         let reply = answer(
@@ -436,7 +437,7 @@ fn a_fault_of_the_keeper_is_of_one_request(rt: HostRuntime) -> Result<(), Fail> 
         let mut fails = Vec::new(alloc);
         fails.push(*call)?;
         let mut keeper = MemoryKeeper::new(alloc, List::from_vec(fails));
-        let mut books = [Sample::new()];
+        let mut books = [Marks::new()];
         for (asked, wanted) in asked.iter().zip(wanted.iter()) {
             let reply = answer(
                 &rt,

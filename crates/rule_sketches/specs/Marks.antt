@@ -1,4 +1,4 @@
--- A small book for the tests: what its rules say of a node stands in the node's attributes.
+-- A book for tests: what its rules say of a node stands in the attributes of the node.
 use Rattle.std.specs.Prelude.{ℕ, List, [], ◌∷◌, codes, if◌then◌else◌, bytes_eq, Option, None, option_map}
 use Rattle.std.specs.Option.{option_and_then}
 use Rattle.snap_tree.specs.declared.row.NodeId.{NodeId}
@@ -26,8 +26,8 @@ abbrev pub composite : ℕ → List ℕ → List ℕ → RuleInfo
 composite number id inputs = record { no = record { 0 = number }; id = id; applies = Whole; expects = Whole; inputs = inputs }
 
 -- a composite rule before its inputs, which are the rules on the attributes a, b and c, and one after them
-abbrev pub sample : List Entry
-sample =
+abbrev pub marks : List Entry
+marks =
     record { info = composite 1 (codes "merge1") (3 ∷ 4 ∷ 5 ∷ 0 ∷ []); says = λ page n. None }
     ∷ record { info = atomic 3 (codes "attr0a") SelfOnly SelfOnly; says = marked (codes "a") }
     ∷ record { info = atomic 4 (codes "attr0b") SelfOnly SelfOnly; says = marked (codes "b") }

@@ -1,6 +1,6 @@
 use Rattle.std.proofs.Common.{◌≡◌, [], ◌∷◌}
 use Rattle.std.specs.List.{slice_get}
-use Rattle.reaudit.proofs.samples.SampleRuleBook.info.Goals as goal
+use Rattle.rule_sketches.proofs.marks.MarksRuleBook.info.Goals as goal
 
 -- each info of the array is that of its rule
 pub returns : goal.returns
