@@ -1,0 +1,4 @@
+mod bodies;
+mod book;
+mod lists;
+mod told;
