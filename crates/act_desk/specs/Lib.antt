@@ -1,7 +1,6 @@
 pub mod Told
 pub mod Streams
 pub mod Memory
-pub mod TextReport
 pub mod FaultLine
 pub mod Status
 pub mod Telling

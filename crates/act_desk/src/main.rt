@@ -20,7 +20,6 @@ mod stream;
 mod tell;
 #[cfg(test)]
 mod tests;
-mod text_report;
 mod write_all;
 
 use crate::run::run;

@@ -60,17 +60,26 @@ module _ (book : Book) (t : Tables) (fit : FitTables t) where
   fits_by caller (command.DropPage site page rev) user named parts =
       entering_kept IfAnyFits t needed.Editor caller site _ (λ k is may.
       on_page_kept IfAnyFits t page k (drop_page site page rev) (λ p found. drop_page_fits site page rev (page_state p) named parts.named))
+  fits_by caller (command.Import site entries) user named parts =
+      entering_kept IfAnyFits t needed.Editor caller site _ (λ k is may. import_fits book site caller entries (site_state k) named parts)
   fits_by caller (command.EditPage site page rev edits) user named parts =
       entering_kept IfAnyFits t needed.Editor caller site _ (λ k is may.
       on_page_kept IfAnyFits t page k (edit_page book site caller page rev edits k.site) (λ p found.
       edit_page_fits book site caller page rev edits k.site (page_state p) named parts.named
       (some_has (λ (p : KeptPage). FitsPage p.page) (at page_name page k.pages) p found
-      (all_at page_name (λ (p : KeptPage). FitsPage p.page) page k.pages (fits_in site k is).pages))))
+        (all_at page_name (λ (p : KeptPage). FitsPage p.page) page k.pages (fits_in site k is).pages))))
+  fits_by caller (command.Judge site page rule node verdict seen note) user named parts =
+      entering_kept IfAnyFits t needed.Judge caller site _ (λ k is may.
+      on_page_kept IfAnyFits t page k (judge book site caller page rule node verdict seen note) (λ p found.
+      judge_fits book site caller page rule node verdict seen note (page_state p) named parts.named))
   fits_by caller (command.GetPage site page) user named parts = page_read IfAnyFits t caller site page _ tt
   fits_by caller (command.GetOutcomes site page) user named parts = page_read IfAnyFits t caller site page _ tt
   fits_by caller (command.GetReport site page) user named parts = page_read IfAnyFits t caller site page _ tt
   fits_by caller (command.GetEarl site page) user named parts = page_read IfAnyFits t caller site page _ tt
   fits_by caller (command.GetNames site page) user named parts = page_read IfAnyFits t caller site page _ tt
+  fits_by caller (command.SiteReport site) user named parts = site_read IfAnyFits t caller site _ tt
+  fits_by caller (command.SiteEarl site) user named parts = site_read IfAnyFits t caller site _ tt
+  fits_by caller (command.SiteCsv site) user named parts = site_read IfAnyFits t caller site _ tt
 
 pub decided_fits : (book : Book) (q : Request) (t : Tables) → FitsRequest book q → FitTables t → Brings IfAnyFits (decided book q (state_of t))
 decided_fits book q t fits fit = fits_by book t fit q.caller q.command fits.caller fits.site fits.parts
@@ -135,17 +144,32 @@ module _ (book : Book) (t : Tables) (sound : IsSound book t) where
   keeps_by caller (command.DropPage site page rev) user named parts =
       entering_kept Owes t needed.Editor caller site _ (λ k is may.
       on_page_kept Owes t page k (drop_page site page rev) (λ p found. drop_page_brings Owes site page rev (page_state p) (λ _ _. drop_sound book t sound site page k is)))
+  keeps_by caller (command.Import site entries) user named parts =
+      entering_kept Owes t needed.Editor caller site _ (λ k is may.
+      import_brings Owes book site caller entries (site_state k) (λ room more fresh none fit.
+      let kept = kept_sound book t sound site k is in
+      pages_put_sound book t sound site (k.site.counter + length entries) (puts book caller (map page_state k.pages) k.site.counter entries) k is fit
+      (puts_sound book caller k.pages k.pages k.site.counter entries (pages_sound book k kept) none)
+      (import_few book caller k.pages (length (map page_state k.pages)) k.site.counter entries (length-map k.pages page_state) room)))
   keeps_by caller (command.EditPage site page rev edits) user named parts =
       entering_kept Owes t needed.Editor caller site _ (λ k is may.
       on_page_kept Owes t page k (edit_page book site caller page rev edits k.site) (λ p found.
       edit_page_brings Owes book site caller page rev edits k.site (page_state p) (λ more same new is_edited.
       edit_keeps site caller page (with_trees p.page.tree new) k p is found
       (edits_well p.page.tree.trees new edits (page_sound site page k p is found).well is_edited))))
+  keeps_by caller (command.Judge site page rule node verdict seen note) user named parts =
+      entering_kept Owes t needed.Judge caller site _ (λ k is may.
+      on_page_kept Owes t page k (judge book site caller page rule node verdict seen note) (λ p found.
+      judge_brings Owes book site caller page rule node verdict seen note (page_state p) (λ row at_row.
+      (λ _ _. sound, λ _ _. judged_sound book t sound site page _ _ k p is found refl))))
   keeps_by caller (command.GetPage site page) user named parts = page_read Owes t caller site page _ (λ _. sound)
   keeps_by caller (command.GetOutcomes site page) user named parts = page_read Owes t caller site page _ (λ _. sound)
   keeps_by caller (command.GetReport site page) user named parts = page_read Owes t caller site page _ (λ _. sound)
   keeps_by caller (command.GetEarl site page) user named parts = page_read Owes t caller site page _ (λ _. sound)
   keeps_by caller (command.GetNames site page) user named parts = page_read Owes t caller site page _ (λ _. sound)
+  keeps_by caller (command.SiteReport site) user named parts = site_read Owes t caller site _ (λ _. sound)
+  keeps_by caller (command.SiteEarl site) user named parts = site_read Owes t caller site _ (λ _. sound)
+  keeps_by caller (command.SiteCsv site) user named parts = site_read Owes t caller site _ (λ _. sound)
 
 pub decided_keeps : (book : Book) (q : Request) (t : Tables) → FitsRequest book q → IsSound book t → Brings (λ change. IsSound book (made change t)) (decided book q (state_of t))
 decided_keeps book q t fits sound =

@@ -87,15 +87,25 @@ module _ (t : Tables) where
   there_by book caller (command.DropPage site page rev) =
       entering_kept (IfAnyIsThere t) t needed.Editor caller site _ (λ k is may.
       on_page_kept (IfAnyIsThere t) t page k (drop_page site page rev) (λ p found. drop_page_brings (IfAnyIsThere t) site page rev (page_state p) (λ _. tt)))
+  there_by book caller (command.Import site entries) =
+      entering_kept (IfAnyIsThere t) t needed.Editor caller site _ (λ k is may.
+      import_brings (IfAnyIsThere t) book site caller entries (site_state k) (λ _ _ _ _. site_there site k is))
   there_by book caller (command.EditPage site page rev edits) =
       entering_kept (IfAnyIsThere t) t needed.Editor caller site _ (λ k is may.
       on_page_kept (IfAnyIsThere t) t page k (edit_page book site caller page rev edits k.site) (λ p found.
       edit_page_brings (IfAnyIsThere t) book site caller page rev edits k.site (page_state p) (λ _ _ _ _. site_there site k is)))
+  there_by book caller (command.Judge site page rule node verdict seen note) =
+      entering_kept (IfAnyIsThere t) t needed.Judge caller site _ (λ k is may.
+      on_page_kept (IfAnyIsThere t) t page k (judge book site caller page rule node verdict seen note) (λ p found.
+      judge_brings (IfAnyIsThere t) book site caller page rule node verdict seen note (page_state p) (λ row at_row. (λ _. tt, λ _. page_there site page k p is found))))
   there_by book caller (command.GetPage site page) = page_read (IfAnyIsThere t) t caller site page _ tt
   there_by book caller (command.GetOutcomes site page) = page_read (IfAnyIsThere t) t caller site page _ tt
   there_by book caller (command.GetReport site page) = page_read (IfAnyIsThere t) t caller site page _ tt
   there_by book caller (command.GetEarl site page) = page_read (IfAnyIsThere t) t caller site page _ tt
   there_by book caller (command.GetNames site page) = page_read (IfAnyIsThere t) t caller site page _ tt
+  there_by book caller (command.SiteReport site) = site_read (IfAnyIsThere t) t caller site _ tt
+  there_by book caller (command.SiteEarl site) = site_read (IfAnyIsThere t) t caller site _ tt
+  there_by book caller (command.SiteCsv site) = site_read (IfAnyIsThere t) t caller site _ tt
 
   pub decided_is_there : (book : Book) (q : Request) → Brings (IfAnyIsThere t) (decided book q (state_of t))
   decided_is_there book q = there_by book q.caller q.command

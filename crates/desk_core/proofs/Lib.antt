@@ -8,7 +8,10 @@ pub mod PutLaws
 pub mod EditLaws
 pub mod MemberLaws
 pub mod ReadLaws
+pub mod Accepting
+pub mod JudgeLaws
 pub mod Served
+pub mod Costing
 pub mod Arms
 pub mod Rows
 pub mod Edited

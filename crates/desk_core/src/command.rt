@@ -1,6 +1,7 @@
 use keep_core::MemberRole;
+use rule_core::{Auto, RuleNo};
 use snap_edit::Edit;
-use snap_tree::{List, Raw, Text};
+use snap_tree::{List, NodeId, Raw, Text};
 
 /// A page of an import.
 #[derive(Debug, Drop)]
@@ -15,9 +16,7 @@ pub struct Entry {
 #[derive(Debug, Drop)]
 pub enum Command {
     /// Makes a site, with the caller as its owner.
-    PutSite {
-        site: Text,
-    },
+    PutSite { site: Text },
     /// Gives a user a role in a site, or takes the user out of it.
     PutMember {
         site: Text,
@@ -31,16 +30,11 @@ pub enum Command {
         rev: u64,
         raw: Raw,
     },
-    GetPage {
-        site: Text,
-        page: Text,
-    },
+    GetPage { site: Text, page: Text },
     /// Takes a page out, with its judgements.
-    DropPage {
-        site: Text,
-        page: Text,
-        rev: u64,
-    },
+    DropPage { site: Text, page: Text, rev: u64 },
+    /// Puts pages in, all or none.
+    Import { site: Text, entries: List<Entry> },
     /// Edits a page.
     EditPage {
         site: Text,
@@ -48,20 +42,21 @@ pub enum Command {
         rev: u64,
         edits: List<Edit>,
     },
-    GetOutcomes {
+    /// Judges a rule on a node of a page, by the digest of the evidence that was seen.
+    Judge {
         site: Text,
         page: Text,
+        rule: RuleNo,
+        node: NodeId,
+        verdict: Auto,
+        digest: [u8; 32],
+        note: Text,
     },
-    GetReport {
-        site: Text,
-        page: Text,
-    },
-    GetEarl {
-        site: Text,
-        page: Text,
-    },
-    GetNames {
-        site: Text,
-        page: Text,
-    },
+    GetOutcomes { site: Text, page: Text },
+    GetReport { site: Text, page: Text },
+    GetEarl { site: Text, page: Text },
+    GetNames { site: Text, page: Text },
+    SiteReport { site: Text },
+    SiteEarl { site: Text },
+    SiteCsv { site: Text },
 }

@@ -9,6 +9,7 @@ mod drop_page;
 mod edit_page;
 mod enter;
 mod handling;
+mod judge;
 mod laws;
 mod limits;
 mod look;

@@ -4,7 +4,8 @@ ghost use Rattle.keep_core.specs.Names.{is_name};
 use crate::samples::{Node, Sample, raw};
 use crate::{Command, Refusal, Reply, handle};
 use keep_core::{MemberRole, MemoryKeeper, is_name};
-use rule_core::Auto::CantTell;
+use rule_core::Auto::{CantTell, Passed};
+use rule_core::RuleNo;
 use snap_edit::Edit;
 use snap_tree::{List, NodeId, OutOfMemory, Text};
 use std::alloc::Global;
@@ -13,6 +14,13 @@ use std::test::Fail;
 
 // A page of which nobody can tell the outcome of rule 3 on node 7, and of the two rules that merge it.
 static PAGE: [Node; 3] = [(1, &[]), (7, &[("a", "x")]), (8, &[("b", "passed")])];
+
+// The digest of the evidence on node 7 there, which is x, and one of no evidence.
+static SEEN: [u8; 32] = [
+    45, 113, 22, 66, 183, 38, 176, 68, 1, 98, 124, 169, 251, 172, 50, 245, 200, 83, 15, 177, 144,
+    60, 196, 219, 2, 37, 135, 23, 146, 26, 72, 129,
+];
+static UNSEEN: [u8; 32] = [0; 32];
 
 // One with two nodes of one number.
 static TWICE: [Node; 3] = [(1, &[]), (7, &[]), (7, &[])];
@@ -28,6 +36,8 @@ enum Ask {
     // The attribute a of a node gets a value.
     Set(&'static str, u64, u32, &'static str),
     Gone(&'static str, u64),
+    // A judgement that rule 3 passes on a node, by the digest of what was seen.
+    Said(&'static str, u32, &'static [u8; 32]),
     Outcomes(&'static str),
     Page(&'static str),
     Names(&'static str),
@@ -35,10 +45,10 @@ enum Ask {
     Earl(&'static str),
 }
 
-use Ask::{Earl, Gone, Names, NewSite, Outcomes, Page, Put, Report, Role, Set};
+use Ask::{Earl, Gone, Names, NewSite, Outcomes, Page, Put, Report, Role, Said, Set};
 
 // Who asks what of which site, one after another, and what is answered.
-static ASKED: [(&str, &str, Ask, &str); 36] = [
+static ASKED: [(&str, &str, Ask, &str); 46] = [
     ("ann", "acme", Page("home"), "NoSite"),
     ("ann", "acme", NewSite, "site acme"),
     ("bob", "acme", NewSite, "SiteExists"),
@@ -85,9 +95,16 @@ static ASKED: [(&str, &str, Ask, &str); 36] = [
         Role("eve", Some(MemberRole::Reader)),
         "member eve Some(Reader)",
     ),
+    (
+        "eve",
+        "acme",
+        Said("home", 7, &SEEN),
+        "NotAllowed { needed: Judge }",
+    ),
     ("ann", "acme", Role("eve", None), "member eve None"),
     ("eve", "acme", Page("home"), "NotAllowed { needed: Reader }"),
     ("bob", "acme", Page("home"), "NoPage"),
+    ("bob", "acme", Said("home", 7, &SEEN), "NoPage"),
     ("ann", "acme", Set("home", 0, 7, "y"), "NoPage"),
     ("ann", "acme", Gone("home", 0), "NoPage"),
     (
@@ -132,11 +149,22 @@ static ASKED: [(&str, &str, Ask, &str); 36] = [
         Earl("home"),
         "home 1 https://example.org/: 5 rows, 3 open",
     ),
+    ("bob", "acme", Said("home", 9, &SEEN), "NoTarget"),
+    ("ann", "acme", Said("home", 7, &UNSEEN), "SameHand"),
+    ("bob", "acme", Said("home", 7, &UNSEEN), "EvidenceMoved"),
+    ("bob", "acme", Said("home", 7, &SEEN), "judged 3 7 Passed"),
+    ("bob", "acme", Said("home", 7, &SEEN), "judged 3 7 Passed"),
+    (
+        "bob",
+        "acme",
+        Outcomes("home"),
+        "home 1 https://example.org/: 5 rows, 0 open",
+    ),
     (
         "ann",
         "acme",
         Put("home", 1, true),
-        "home 2: 2 passed, 0 failed, 3 open, 1 idle",
+        "home 2: 5 passed, 0 failed, 0 open, 1 idle",
     ),
     (
         "ann",
@@ -162,17 +190,24 @@ static ASKED: [(&str, &str, Ask, &str); 36] = [
         Outcomes("home"),
         "home 3 https://example.org/: 5 rows, 3 open",
     ),
+    ("bob", "acme", Said("home", 7, &SEEN), "EvidenceMoved"),
     (
         "ann",
         "acme",
         Set("home", 3, 7, "x"),
-        "home 4: 2 passed, 0 failed, 3 open, 1 idle",
+        "home 4: 5 passed, 0 failed, 0 open, 1 idle",
     ),
     (
         "ann",
         "acme",
         Set("home", 4, 7, "failed"),
         "home 5: 2 passed, 3 failed, 0 open, 1 idle",
+    ),
+    (
+        "bob",
+        "acme",
+        Said("home", 7, &SEEN),
+        "NotOpen { automatic: Failed }",
     ),
     ("bob", "acme", Page("home"), "page home 5, 3 nodes"),
     ("bob", "acme", Names("home"), "3 nodes"),
@@ -264,6 +299,19 @@ fn answer(
                 &caller,
                 Command::DropPage { site, page, rev },
             )
+        }
+        Said(page, node, digest) => {
+            let page = named(rt, alloc, page)?;
+            let command = Command::Judge {
+                site,
+                page,
+                rule: RuleNo(3),
+                node: NodeId(node),
+                verdict: Passed,
+                digest: *digest,
+                note: Text::new(alloc),
+            };
+            handle(alloc, books, keeper, &caller, command)
         }
         Outcomes(page) => {
             let page = named(rt, alloc, page)?;

@@ -1,0 +1,5 @@
+pub mod Quiet
+pub mod Runs
+pub mod Served
+pub mod Responding
+pub mod DoorLaws
