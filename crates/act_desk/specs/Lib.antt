@@ -6,6 +6,8 @@ pub mod FaultLine
 pub mod Status
 pub mod Telling
 pub mod Audit
+pub mod Desk
+pub mod Serve
 pub mod Commands
 pub mod Run
 pub mod Start

@@ -1,9 +1,9 @@
 -- What reads do to a source and writes to a sink: to the bytes, where they are told, and to the count of faults.
 use Rattle.std.specs.Prelude.{◌≡◌, ℕ, ◌<◌, ◌≤◌, ◌⊎◌, ◌↔◌, List, [], length, take, Result, IfOk, OnErr, IfSome}
 use Rattle.std.specs.Io.KnownBytes.{Consumes, Appends, Keeps, IsAtEnd}
-use Rattle.counts.specs.Counts.{next, Rose}
-use Rattle.act_desk.specs.declared.failed.Failed.{Failed}
-use Rattle.act_desk.specs.Told.{Input, Output}
+use Rattle.counts.specs.Counts.{next, Rose, StoodStill}
+use Rattle.links.specs.declared.failed.Failed.{Failed}
+use Rattle.act_desk.specs.Told.{Input, Output, Outside}
 
 -- A read gave this many bytes, the front of what was left, in a buffer of that length: none exactly
 -- where nothing was left.
@@ -65,3 +65,9 @@ pub record BrokeOff (old new : Output) (bytes : List ℕ) : Type 0 where
 -- a sink took a line, or a front of it where it met a fault
 abbrev pub TookOrBroke : Output → Output → List ℕ → Type 0
 TookOrBroke old new line = Took old new line ⊎ BrokeOff old new line
+
+-- no count of faults rose, and none stands at the greatest u64
+pub record NoFaults (old new : Outside) : Type 0 where
+  pub input : StoodStill old.input.faults new.input.faults
+  pub out : StoodStill old.out.faults new.out.faults
+  pub err : StoodStill old.err.faults new.err.faults

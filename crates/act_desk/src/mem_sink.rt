@@ -2,9 +2,9 @@ ghost use Rattle.std.specs.Prelude.{◌≡◌, ◌<◌, [], length, IsErr, IfOk,
 ghost use Rattle.act_desk.specs.Memory.{held_told, is_refused, taken, after_write};
 ghost use Rattle.act_desk.specs.Streams.{Writes};
 
-use crate::failed::Failed;
 use crate::sink::Sink;
 use counts::next;
+use links::Failed;
 use named_calls::is_named;
 use snap_tree::{List, OutOfMemory};
 use std::alloc::Global;

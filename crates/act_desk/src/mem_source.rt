@@ -3,9 +3,9 @@ ghost use Rattle.named_calls.specs.Calls.{is_named};
 ghost use Rattle.act_desk.specs.Memory.{given_told, given, after_read};
 ghost use Rattle.act_desk.specs.Streams.{Reads};
 
-use crate::failed::Failed;
 use crate::source::Source;
 use counts::next;
+use links::Failed;
 use named_calls::is_named;
 use snap_tree::List;
 use std::marker::Model;

@@ -2,7 +2,7 @@ ghost use Rattle.std.specs.Prelude.{◌<◌, length};
 ghost use Rattle.act_desk.specs.Told.{Output};
 ghost use Rattle.act_desk.specs.Streams.{Writes};
 
-use crate::failed::Failed;
+use links::Failed;
 
 /// What bytes are written to.
 pub trait Sink {

@@ -2,7 +2,7 @@ ghost use Rattle.std.specs.Prelude.{◌<◌, length};
 ghost use Rattle.act_desk.specs.Told.{Input};
 ghost use Rattle.act_desk.specs.Streams.{Reads};
 
-use crate::failed::Failed;
+use links::Failed;
 
 /// What bytes are read from.
 pub trait Source {

@@ -3,10 +3,10 @@ ghost use Rattle.counts.specs.Counts.{next};
 ghost use Rattle.act_desk.specs.Told.{counted};
 ghost use Rattle.act_desk.specs.Streams.{Reads};
 
-use crate::failed::Failed;
 use crate::sink::Sink;
 use crate::source::Source;
 use counts::next;
+use links::Failed;
 use std::io::{Read, Write};
 
 /// A stream that is read, as standard input.

@@ -35,7 +35,7 @@ fn line_of(found: &Found) -> &[u8]
     ensures { result.now ≡ (writing_of found.now).line }
 {
     match found {
-        Found::Finished { .. } => &[],
+        Found::Finished { .. } | Found::Served => &[],
         Found::NotSnapshot { line } => line.as_str().as_bytes(),
         _ => status_of(found).line().as_bytes(),
     }
@@ -47,11 +47,12 @@ pub fn status_of(found: &Found) -> Status
 {
     match found {
         Found::Finished { failed: true, .. } => Status::SomeFailed,
-        Found::Finished { failed: false, .. } => Status::Done,
+        Found::Finished { failed: false, .. } | Found::Served => Status::Done,
         Found::Usage => Status::UsageFault,
         Found::ReadFault => Status::ReadFault,
         Found::NotSnapshot { .. } => Status::SnapshotFault,
         Found::StoreFault => Status::StoreFault,
+        Found::ListenFault => Status::ListenFault,
         Found::NoMemory => Status::NoMemory,
     }
 }

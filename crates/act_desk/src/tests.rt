@@ -1,12 +1,15 @@
-//! `run` over a source and sinks in memory, with the book of the thirty rules.
+//! `run` over a source, sinks, a keeper and a door in memory, with sixteen books of the thirty rules.
 use crate::mem_sink::MemSink;
 use crate::mem_source::MemSource;
 use crate::run::run;
-use rule_book::Thirty;
+use crate::start::made_books;
+use keep_core::MemoryKeeper;
+use links::MemDoor;
 use snap_tree::{List, OutOfMemory, Text};
 use std::alloc::{AllocError, Global};
 use std::process::Abort;
 use std::test::Fail;
+use std::thread::Threads;
 
 mod pages;
 
@@ -41,6 +44,8 @@ struct Case {
     out_writes: &'static [u64],
     err_room: usize,
     err_writes: &'static [u64],
+    // which calls of the door fail
+    door_calls: &'static [u64],
     // the status, and what the sinks hold then
     status: u8,
     out: &'static str,
@@ -57,6 +62,7 @@ const REPORTED: Case = Case {
     out_writes: &[],
     err_room: 1_000,
     err_writes: &[],
+    door_calls: &[],
     status: 0,
     out: HOME_REPORT,
     err: "",
@@ -96,23 +102,31 @@ fn sinks(alloc: Global, case: &Case) -> Result<(MemSink, MemSink), OutOfMemory> 
     Ok((out, err))
 }
 
-fn run_to_end(
+fn run_over<R: Threads + Sync>(
+    rt: &R,
     alloc: Global,
-    words: List<Text>,
-    mut input: MemSource,
-    mut out: MemSink,
-    mut err: MemSink,
-) -> Ended {
-    let mut book = Thirty::new();
-    let status = run(alloc, &words, &mut input, &mut out, &mut err, &mut book);
-    Ended { status, out, err }
-}
-
-fn run_over(alloc: Global, bytes: &[u8], case: &Case) -> Result<Ended, Fail> {
+    bytes: &[u8],
+    case: &Case,
+) -> Result<Ended, OutOfMemory> {
     let words = texts(alloc, case.words)?;
-    let input = source(alloc, bytes, case)?;
-    let (out, err) = sinks(alloc, case)?;
-    Ok(run_to_end(alloc, words, input, out, err))
+    let mut input = source(alloc, bytes, case)?;
+    let (mut out, mut err) = sinks(alloc, case)?;
+    let mut keeper = MemoryKeeper::new(alloc, List::from_vec(Vec::new(alloc)));
+    let fails = List::from_vec(Vec::from_slice(alloc, case.door_calls)?);
+    let mut door = MemDoor::new(alloc, List::from_vec(Vec::new(alloc)), fails)?;
+    let mut books = made_books(alloc)?;
+    let status = run(
+        rt,
+        alloc,
+        &words,
+        &mut input,
+        &mut out,
+        &mut err,
+        &mut keeper,
+        &mut door,
+        &mut books,
+    );
+    Ok(Ended { status, out, err })
 }
 
 // Whether a run wanted memory, and wrote nothing but the line that says so, as far as the sink took it.
@@ -135,8 +149,13 @@ fn ended_so(rt: &impl Abort, end: &Ended, case: &Case) {
     assert_eq!(rt; ended, wanted, "{name}");
 }
 
-fn ends_so(rt: &impl Abort, alloc: Global, bytes: &[u8], case: &Case) -> Result<(), Fail> {
-    let end = run_over(alloc, bytes, case)?;
+fn ends_so<R: Abort + Threads + Sync>(
+    rt: &R,
+    alloc: Global,
+    bytes: &[u8],
+    case: &Case,
+) -> Result<(), Fail> {
+    let end = run_over(rt, alloc, bytes, case)?;
     if wants_memory(&end) {
         return Err(Fail::from(OutOfMemory));
     }
@@ -144,7 +163,11 @@ fn ends_so(rt: &impl Abort, alloc: Global, bytes: &[u8], case: &Case) -> Result<
     Ok(())
 }
 
-fn each_ends_so(rt: &impl Abort, alloc: Global, cases: &[Case]) -> Result<(), Fail> {
+fn each_ends_so<R: Abort + Threads + Sync>(
+    rt: &R,
+    alloc: Global,
+    cases: &[Case],
+) -> Result<(), Fail> {
     for case in cases {
         ends_so(rt, alloc, case.input.as_bytes(), case)?;
     }
@@ -259,6 +282,60 @@ static OTHER_WORDS: [Case; 5] = [
 #[test]
 fn other_words_are_no_command(rt: HostRuntime) -> Result<(), Fail> {
     each_ends_so(&rt, rt.alloc(), OTHER_WORDS.as_slice())
+}
+
+const SERVED: Case = Case {
+    name: "no connection is taken by more workers than books",
+    words: &[
+        "serve",
+        "--port",
+        "0",
+        "--workers",
+        "17",
+        "--connections",
+        "1",
+    ],
+    ..USAGE_FAULT
+};
+
+static SERVES: [Case; 3] = [
+    SERVED,
+    Case {
+        name: "the door fails at listen",
+        words: &[
+            "serve",
+            "--port",
+            "0",
+            "--workers",
+            "16",
+            "--connections",
+            "1",
+        ],
+        door_calls: &[1],
+        status: 7,
+        err: "listen fault\n",
+        ..USAGE_FAULT
+    },
+    Case {
+        name: "the door has no link",
+        words: &[
+            "serve",
+            "--port",
+            "0",
+            "--workers",
+            "1",
+            "--connections",
+            "1",
+        ],
+        status: 7,
+        err: "listen fault\n",
+        ..USAGE_FAULT
+    },
+];
+
+#[test]
+fn a_serve_that_cannot_begin_or_go_on_has_its_status(rt: HostRuntime) -> Result<(), Fail> {
+    each_ends_so(&rt, rt.alloc(), SERVES.as_slice())
 }
 
 const READ_FAULT: Case = Case {
@@ -379,7 +456,11 @@ static TOO_LONG: Case = Case {
     ..NO_SNAPSHOT
 };
 
-fn spaces_are_too_long(rt: &impl Abort, alloc: Global, count: usize) -> Result<(), Fail> {
+fn spaces_are_too_long<R: Abort + Threads + Sync>(
+    rt: &R,
+    alloc: Global,
+    count: usize,
+) -> Result<(), Fail> {
     let bytes = vec![in alloc; b' '; count]?;
     ends_so(rt, alloc, bytes.as_slice(), &TOO_LONG)
 }

@@ -1,8 +1,8 @@
 ghost use Rattle.std.specs.Prelude.{◌≤◌, OnOk, OnErr};
 ghost use Rattle.act_desk.specs.Streams.{Took, BrokeOff};
 
-use crate::failed::Failed;
 use crate::sink::Sink;
+use links::Failed;
 
 /// Writes all the bytes, or a front of them where the sink fails. A sink that failed isn't written
 /// again: its count rises by at most one.
