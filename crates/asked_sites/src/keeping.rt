@@ -4,8 +4,7 @@ ghost use Rattle.std.specs.Prelude.{◌≡◌, ◌∷◌, [], IfOk};
 ghost use Rattle.keep_core.specs.Fits.{Fits, FitsSite, FitsPage};
 
 use crate::doubtful::Doubtful;
-use crate::entries::named;
-use crate::serving::keeper_failing;
+use crate::failing::{keeper_failing, named};
 use judge_core::{Judgement, OutRow, Outcomes};
 use keep_core::{
     Batch, Change, Keeper, Member, MemberRole, MemoryKeeper, Page, PageHead, PagePut, Site,
