@@ -18,6 +18,7 @@ use Rattle.judge_core.proofs.Equal.{judgements_decide}
 use Rattle.named_rows.specs.ByName.{at, put_row, put_rows, with_row, IsInOrder}
 use Rattle.named_rows.proofs.Lookups.{at_put, at_put_other, at_with_row, all_at}
 use Rattle.named_rows.proofs.Order.{at_take}
+use Rattle.named_rows.proofs.Twice.{put_same, take_twice}
 use Rattle.keep_core.specs.declared.member.Member.{Member}
 use Rattle.keep_core.specs.declared.member.MemberRole.{MemberRole}
 use Rattle.keep_core.specs.declared.site.Site.{Site}
@@ -56,7 +57,6 @@ use Rattle.desk_core.proofs.Kept.{entering_kept, on_page_kept, new_site_kept, pa
 use Rattle.desk_core.proofs.SoundPages.{Given}
 use Rattle.desk_core.proofs.Sound.{kept_fits, kept_sound}
 use Rattle.desk_core.proofs.Evidence.{same_evidence}
-use Rattle.desk_core.proofs.Rows.{put_same, take_twice}
 
 -- ---- members, twice
 
@@ -223,6 +223,56 @@ module _ (book : Book) (t : Tables) (sound : IsSound book t) (caller : List ℕ)
         let no : None ≡ Some p' = sym gone ∙ ap (λ (k' : KeptSite). at page_name page k'.pages) same ∙ found in
         cc))
 
+    -- a judgement that was added, and one that was there already
+    module _ (p : KeptPage) (found : at page_name page k.pages ≡ Some p) (rule : RuleNo) (node : NodeId) (verdict : Auto) (seen note : List ℕ) (row : OutRow)
+        (at_row : row_at rule node (outcomes book p.page.tree p.judgements) ≡ Some row) where
+      abbrev judgement : List ℕ → Judgement
+      judgement evidence = record { rule = rule; node = node; verdict = verdict; hand = caller; note = note; evidence = evidence }
+
+      -- the same judgement is the latest of these
+      module _ (t' : Tables) (k' : KeptSite) (p' : KeptPage) (js : List Judgement) (is' : kept_site site t' ≡ Some k') (found' : at page_name page k'.pages ≡ Some p')
+          (tree : p'.page.tree ≡ p.page.tree) (judgements : p'.judgements ≡ js) (latest : is_latest (judgement row.evidence) js ≡ true) where
+        judged_then : Brings (λ second. made second t' ≡ t') (decision book caller (command.Judge site page rule node verdict seen note) (site_at site (state_of t')))
+        judged_then =
+            let P : Option Change → Type 0 = λ second. made second t' ≡ t' in
+            entering_kept P t' needed.Judge caller site _ (λ k2 is2 _.
+            on_page_kept P t' page k2 (judge book site caller page rule node verdict seen note) (λ p2 found2.
+            let same_site : k' ≡ k2 = same_of (kept_site site t') k' k2 is' is2 in
+            let same_page : p' ≡ p2 = same_of (at page_name page k2.pages) p' p2 (ap (λ (k' : KeptSite). at page_name page k'.pages) (sym same_site) ∙ found') found2 in
+            judge_brings P book site caller page rule node verdict seen note (page_state p2) (λ row2 at_row2.
+            let at_row' : row_at rule node (outcomes book p.page.tree js) ≡ Some row2 =
+            sym (ap (λ (q : KeptPage). row_at rule node (outcomes book q.page.tree q.judgements)) (sym same_page)
+            ∙ ap (λ tree. row_at rule node (outcomes book tree p'.judgements)) tree ∙ ap (λ js. row_at rule node (outcomes book p.page.tree js)) judgements) ∙ at_row2 in
+            let evidence : row.evidence ≡ row2.evidence = same_evidence book p.page.tree p.judgements js rule node row row2 at_row at_row' in
+            let there : is_latest (judgement row2.evidence) p2.judgements ≡ true =
+            sym (ap (λ (q : KeptPage). is_latest (judgement row2.evidence) q.judgements) same_page) ∙ ap (is_latest (judgement row2.evidence)) judgements
+            ∙ ap (λ evidence. is_latest (judgement evidence) js) (sym evidence) ∙ latest in
+            (λ _. refl, λ new. let no : true ≡ false = sym there ∙ new in cc))))
+
+    -- ---- imports
+
+    pub import_stale : (e : Entry) (entries : List Entry) → first_stale (map page_state k.pages) (e ∷ entries) ≡ None → (k' : KeptSite)
+        → kept_site site (changed (PutPages site (k.site.counter + length (e ∷ entries)) (puts book caller (map page_state k.pages) k.site.counter (e ∷ entries))) t) ≡ Some k'
+        → first_stale (map page_state k'.pages) (e ∷ entries) ≡ None → ⊥
+    import_stale e entries fresh k' is' now =
+        let counter = k.site.counter in
+        let all = puts book caller (map page_state k.pages) counter (e ∷ entries) in
+        let row : KeptPage = put_over k.pages (page_put book e.page (counter + 1) caller (page_of e.raw) (judged (page_at e.page (map page_state k.pages)))) in
+        let newer : counter < rev_at e.page (put_rows page_name (map (put_over k.pages) all) k.pages) =
+        puts_newer book caller e.page k.pages (put_row page_name row k.pages) counter (counter + 1) entries (omega arith) (put_newer counter row k.pages (omega arith)) in
+        let same = found_changed site k (with_pages (counter + length (e ∷ entries)) all) (λ _. refl) is k' is' in
+        stale e.rev (rev_at e.page k.pages) (rev_at e.page k'.pages) counter (first_fresh (map page_state k.pages) e entries fresh)
+        (old_rev book k e.page (kept_sound book t sound site k is)) (subst (λ (k' : KeptSite). counter < rev_at e.page k'.pages) same newer)
+        (first_fresh (map page_state k'.pages) e entries now)
+
+    import_once : (entries : List Entry) → FitsEntries entries → first_stale (map page_state k.pages) entries ≡ None
+        → Second Nothing (command.Import site entries) (Some (PutPages site (k.site.counter + length entries) (puts book caller (map page_state k.pages) k.site.counter entries)))
+    import_once [] fits fresh = absurd (omega (arith, fits.some))
+    import_once (e ∷ entries) fits fresh =
+        let t' = changed (PutPages site (k.site.counter + length (e ∷ entries)) (puts book caller (map page_state k.pages) k.site.counter (e ∷ entries))) t in
+        entering_kept Nothing t' needed.Editor caller site _ (λ k' is' _.
+        import_brings Nothing book site caller (e ∷ entries) (site_state k') (λ _ _ now _. import_stale e entries fresh k' is' now))
+
   -- ---- commands
 
   once_by : (c : Command) → IsOnce c → FitsParts book c → Brings (Second Nothing c) (decision book caller c (site_at (site_of c) (state_of t)))
@@ -237,6 +287,10 @@ module _ (book : Book) (t : Tables) (sound : IsSound book t) (caller : List ℕ)
       let P = Second Nothing (command.DropPage site page rev) in
       entering_kept P t needed.Editor caller site _ (λ k is _.
       on_page_kept P t page k (drop_page site page rev) (λ p found. drop_page_brings P site page rev (page_state p) (λ _. drop_once site page k is rev)))
+  once_by (command.Import site entries) once parts =
+      let P = Second Nothing (command.Import site entries) in
+      entering_kept P t needed.Editor caller site _ (λ k is _.
+      import_brings P book site caller entries (site_state k) (λ _ _ fresh _. import_once site [] k is entries parts fresh))
   once_by (command.EditPage site page rev edits) once parts =
       let P = Second Nothing (command.EditPage site page rev edits) in
       entering_kept P t needed.Editor caller site _ (λ k is _.
@@ -244,11 +298,15 @@ module _ (book : Book) (t : Tables) (sound : IsSound book t) (caller : List ℕ)
       edit_page_brings P book site caller page rev edits k.site (page_state p) (λ _ was new _.
       edit_once site page k is (page_put book page (k.site.counter + 1) caller (with_trees p.page.tree new) p.judgements) refl refl rev
       (ap (λ r. rev == r) (rev_found page k.pages p found) ∙ was) edits)))
+  once_by (command.Judge site page rule node verdict seen note) once parts = absurd once
   once_by (command.GetPage site page) once parts = absurd once
   once_by (command.GetOutcomes site page) once parts = absurd once
   once_by (command.GetReport site page) once parts = absurd once
   once_by (command.GetEarl site page) once parts = absurd once
   once_by (command.GetNames site page) once parts = absurd once
+  once_by (command.SiteReport site) once parts = absurd once
+  once_by (command.SiteEarl site) once parts = absurd once
+  once_by (command.SiteCsv site) once parts = absurd once
 
   -- what is refused leaves what is kept
   once_stays : (c : Command) → IsOnce c → FitsParts book c → Brings (Stays c) (decision book caller c (site_at (site_of c) (state_of t)))
@@ -258,6 +316,24 @@ module _ (book : Book) (t : Tables) (sound : IsSound book t) (caller : List ℕ)
       (decision book caller c (site_at (site_of c) (state_of (made change t)))) refused)
       (decision book caller c (site_at (site_of c) (state_of t))) (once_by c once parts)
 
+  judge_again : (site page : List ℕ) (rule : RuleNo) (node : NodeId) (verdict : Auto) (seen note : List ℕ)
+      → Brings (Stays (command.Judge site page rule node verdict seen note)) (decision book caller (command.Judge site page rule node verdict seen note) (site_at site (state_of t)))
+  judge_again site page rule node verdict seen note =
+      let P = Stays (command.Judge site page rule node verdict seen note) in
+      entering_kept P t needed.Judge caller site _ (λ k is _.
+      on_page_kept P t page k (judge book site caller page rule node verdict seen note) (λ p found.
+      judge_brings P book site caller page rule node verdict seen note (page_state p) (λ row at_row.
+      let j : Judgement = record { rule = rule; node = node; verdict = verdict; hand = caller; note = note; evidence = row.evidence } in
+      let o : Outcomes = record { rows = outcomes book p.page.tree (p.judgements ++ j ∷ []) } in
+      let k1 = with_judged page j o k in
+      let p1 = with_judgement j o p in
+      let t1 = changed (AddJudgement site page j o) t in
+      let is1 : kept_site site t1 ≡ Some k1 = at_with_row site_name site (with_judged page j o) (λ _ _. refl) t ∙ ap (option_map (with_judged page j o)) is in
+      let found1 : at page_name page k1.pages ≡ Some p1 = at_with_row page_name page (with_judgement j o) (λ _ _. refl) k.pages ∙ ap (option_map (with_judgement j o)) found in (
+        λ latest. judged_then site page k is p found rule node verdict seen note row at_row t k p p.judgements is found refl refl latest,
+        λ _. judged_then site page k is p found rule node verdict seen note row at_row t1 k1 p1 (p.judgements ++ j ∷ []) is1 found1 refl refl (latest_itself j p.judgements),
+      ))))
+
   again_by : (c : Command) → FitsParts book c → Brings (Stays c) (decision book caller c (site_at (site_of c) (state_of t)))
   again_by (command.PutSite site) parts = once_stays (command.PutSite site) tt parts
   again_by (command.PutMember site user held) parts =
@@ -265,12 +341,17 @@ module _ (book : Book) (t : Tables) (sound : IsSound book t) (caller : List ℕ)
       entering_kept P t needed.Owner caller site _ (λ k is _. put_member_brings P site caller user held k.site (λ _. member_again site user held k is))
   again_by (command.PutPage site page rev raw) parts = once_stays (command.PutPage site page rev raw) tt parts
   again_by (command.DropPage site page rev) parts = once_stays (command.DropPage site page rev) tt parts
+  again_by (command.Import site entries) parts = once_stays (command.Import site entries) tt parts
   again_by (command.EditPage site page rev edits) parts = once_stays (command.EditPage site page rev edits) tt parts
+  again_by (command.Judge site page rule node verdict seen note) parts = judge_again site page rule node verdict seen note
   again_by (command.GetPage site page) parts = page_read _ t caller site page _ (page_read _ t caller site page _ refl)
   again_by (command.GetOutcomes site page) parts = page_read _ t caller site page _ (page_read _ t caller site page _ refl)
   again_by (command.GetReport site page) parts = page_read _ t caller site page _ (page_read _ t caller site page _ refl)
   again_by (command.GetEarl site page) parts = page_read _ t caller site page _ (page_read _ t caller site page _ refl)
   again_by (command.GetNames site page) parts = page_read _ t caller site page _ (page_read _ t caller site page _ refl)
+  again_by (command.SiteReport site) parts = site_read _ t caller site _ (site_read _ t caller site _ refl)
+  again_by (command.SiteEarl site) parts = site_read _ t caller site _ (site_read _ t caller site _ refl)
+  again_by (command.SiteCsv site) parts = site_read _ t caller site _ (site_read _ t caller site _ refl)
 
 -- ---- steps
 

@@ -1,5 +1,5 @@
 -- What is decided on edits of a page where nothing stands against them, and what they cost.
-use Rattle.std.proofs.Common.{◌≡◌, ℕ, ◌+◌, List, true, Option, Some, None, Result, Ok, Err, option_map, refl, sym, ap, subst, ◌∙◌}
+use Rattle.std.proofs.Common.{◌≡◌, ℕ, List, true, Option, Some, None, Result, Ok, option_map, refl, sym, ap, subst, ◌∙◌}
 use Rattle.std.specs.Option.{option_map_or}
 use Rattle.snap_tree.specs.Trees.{Trees, Document, with_trees}
 use Rattle.snap_edit.specs.declared.edit.Edit.{Edit}
@@ -12,9 +12,9 @@ use Rattle.keep_core.specs.Tables.{Tables, kept_site, site_of}
 use Rattle.desk_core.specs.declared.refusal.Limit.TheVariants as limit
 use Rattle.desk_core.specs.declared.refusal.Refusal.{Refusal}
 use Rattle.desk_core.specs.declared.refusal.Refusal.TheVariants as refusal
-use Rattle.desk_core.specs.Refusals.{Decision, unless}
-use Rattle.desk_core.specs.State.{PageState, SiteState, site_state, state_of, site_at, page_at}
-use Rattle.desk_core.specs.Pages.{rev_of, has_revisions, current, edited, renewed, edit_page}
+use Rattle.desk_core.specs.Refusals.{unless}
+use Rattle.desk_core.specs.State.{PageState, site_state, state_of, site_at, page_at}
+use Rattle.desk_core.specs.Pages.{has_revisions, current, edited, renewed, edit_page}
 use Rattle.desk_core.specs.Costs.{at_page}
 use Rattle.desk_core.specs.Serving.{Stands, page_in}
 use Rattle.desk_core.proofs.Views.{site_seen}

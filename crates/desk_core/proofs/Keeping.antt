@@ -1,6 +1,5 @@
 -- Every request that fits keeps tables sound, and what is decided on it fits.
-use Rattle.std.proofs.Common.{◌≡◌, ℕ, ◌+◌, ◌≤◌, List, [], ◌∷◌, length, map, Bool, true, Option, Some, None, option_map, IfSome, IsTrue, Result, Ok, Err, refl, sym, ap, ◌∙◌, subst, arith}
-use Rattle.std.specs.List.{All}
+use Rattle.std.proofs.Common.{◌≡◌, ℕ, ◌+◌, List, [], ◌∷◌, length, map, true, Option, Some, option_map, IfSome, IsTrue, Ok, Err, refl, ap, ◌∙◌, subst}
 use Rattle.std.proofs.lemmas.List.{length-map}
 use Rattle.std.proofs.lemmas.List.Elements.{All-nil}
 use Rattle.snap_tree.specs.Trees.{Document, with_trees}
@@ -21,27 +20,25 @@ use Rattle.keep_core.specs.Names.{is_name}
 use Rattle.keep_core.specs.Tables.{Tables, kept_site, site_name, page_name}
 use Rattle.keep_core.specs.Changes.{put_over, changed}
 use Rattle.keep_core.specs.Fits.{FitsPage, FitsPages, FitsKept, FitTables, Fits, IsThere}
-use Rattle.desk_core.specs.declared.limits.TheConstants.{MOST_PAGES}
 use Rattle.desk_core.specs.declared.command.Command.{Command}
 use Rattle.desk_core.specs.declared.command.Command.TheVariants as command
 use Rattle.desk_core.specs.declared.decided.Decided.{Decided}
 use Rattle.desk_core.specs.declared.refusal.Needed.TheVariants as needed
 use Rattle.desk_core.specs.Refusals.{Decision}
 use Rattle.desk_core.specs.State.{PageState, page_state, site_state, state_of, page_at, site_at}
-use Rattle.desk_core.specs.Members.{put_member}
-use Rattle.desk_core.specs.Pages.{judged, has_room, page_put, put_page, edit_page, drop_page}
-use Rattle.desk_core.specs.Imports.{puts, import}
+use Rattle.desk_core.specs.Pages.{judged, has_room, page_put, edit_page, drop_page}
+use Rattle.desk_core.specs.Imports.{puts}
 use Rattle.desk_core.specs.Judging.{judge}
 use Rattle.desk_core.specs.Steps.{Request, site_of, decision, decided}
 use Rattle.desk_core.specs.Fitting.{FitsParts, FitsRequest}
 use Rattle.desk_core.specs.Soundness.{IsSoundPage, IsSoundSite, IsSound, made}
 use Rattle.desk_core.proofs.Views.{page_seen}
-use Rattle.desk_core.proofs.Deciding.{Brings, brought, put_site_brings, put_member_brings, put_page_brings, edit_page_brings, drop_page_brings, import_brings, judge_brings}
+use Rattle.desk_core.proofs.Deciding.{Brings, brought, put_member_brings, put_page_brings, edit_page_brings, drop_page_brings, import_brings, judge_brings}
 use Rattle.desk_core.proofs.Fitted.{IfAnyFits, put_site_fits, put_member_fits, put_page_fits, edit_page_fits, drop_page_fits, judge_fits, import_fits}
 use Rattle.desk_core.proofs.Kept.{IfAnyIsThere, decided_is_there, entering_kept, on_page_kept, new_site_kept, page_read, site_read}
 use Rattle.desk_core.proofs.Edited.{edits_well}
-use Rattle.desk_core.proofs.SoundPages.{SoundPages, one_put, put_page_sound, puts_sound, one_few, import_few}
-use Rattle.desk_core.proofs.Sound.{some_has, pages_sound, kept_fits, kept_sound, new_site_sound, member_sound, pages_put_sound, drop_sound, judged_sound}
+use Rattle.desk_core.proofs.SoundPages.{one_put, put_page_sound, puts_sound, one_few, import_few}
+use Rattle.desk_core.proofs.Sound.{some_has, pages_sound, kept_sound, new_site_sound, member_sound, pages_put_sound, drop_sound, judged_sound}
 
 -- ---- what is decided fits
 
@@ -60,17 +57,26 @@ module _ (book : Book) (t : Tables) (fit : FitTables t) where
   fits_by caller (command.DropPage site page rev) user named parts =
       entering_kept IfAnyFits t needed.Editor caller site _ (λ k is may.
       on_page_kept IfAnyFits t page k (drop_page site page rev) (λ p found. drop_page_fits site page rev (page_state p) named parts.named))
+  fits_by caller (command.Import site entries) user named parts =
+      entering_kept IfAnyFits t needed.Editor caller site _ (λ k is may. import_fits book site caller entries (site_state k) named parts)
   fits_by caller (command.EditPage site page rev edits) user named parts =
       entering_kept IfAnyFits t needed.Editor caller site _ (λ k is may.
       on_page_kept IfAnyFits t page k (edit_page book site caller page rev edits k.site) (λ p found.
       edit_page_fits book site caller page rev edits k.site (page_state p) named parts.named
       (some_has (λ (p : KeptPage). FitsPage p.page) (at page_name page k.pages) p found
       (all_at page_name (λ (p : KeptPage). FitsPage p.page) page k.pages (fits_in site k is).pages))))
+  fits_by caller (command.Judge site page rule node verdict seen note) user named parts =
+      entering_kept IfAnyFits t needed.Judge caller site _ (λ k is may.
+      on_page_kept IfAnyFits t page k (judge book site caller page rule node verdict seen note) (λ p found.
+      judge_fits book site caller page rule node verdict seen note (page_state p) named parts.named))
   fits_by caller (command.GetPage site page) user named parts = page_read IfAnyFits t caller site page _ tt
   fits_by caller (command.GetOutcomes site page) user named parts = page_read IfAnyFits t caller site page _ tt
   fits_by caller (command.GetReport site page) user named parts = page_read IfAnyFits t caller site page _ tt
   fits_by caller (command.GetEarl site page) user named parts = page_read IfAnyFits t caller site page _ tt
   fits_by caller (command.GetNames site page) user named parts = page_read IfAnyFits t caller site page _ tt
+  fits_by caller (command.SiteReport site) user named parts = site_read IfAnyFits t caller site _ tt
+  fits_by caller (command.SiteEarl site) user named parts = site_read IfAnyFits t caller site _ tt
+  fits_by caller (command.SiteCsv site) user named parts = site_read IfAnyFits t caller site _ tt
 
 pub decided_fits : (book : Book) (q : Request) (t : Tables) → FitsRequest book q → FitTables t → Brings IfAnyFits (decided book q (state_of t))
 decided_fits book q t fits fit = fits_by book t fit q.caller q.command fits.caller fits.site fits.parts
@@ -135,17 +141,32 @@ module _ (book : Book) (t : Tables) (sound : IsSound book t) where
   keeps_by caller (command.DropPage site page rev) user named parts =
       entering_kept Owes t needed.Editor caller site _ (λ k is may.
       on_page_kept Owes t page k (drop_page site page rev) (λ p found. drop_page_brings Owes site page rev (page_state p) (λ _ _. drop_sound book t sound site page k is)))
+  keeps_by caller (command.Import site entries) user named parts =
+      entering_kept Owes t needed.Editor caller site _ (λ k is may.
+      import_brings Owes book site caller entries (site_state k) (λ room more fresh none fit.
+      let kept = kept_sound book t sound site k is in
+      pages_put_sound book t sound site (k.site.counter + length entries) (puts book caller (map page_state k.pages) k.site.counter entries) k is fit
+      (puts_sound book caller k.pages k.pages k.site.counter entries (pages_sound book k kept) none)
+      (import_few book caller k.pages (length (map page_state k.pages)) k.site.counter entries (length-map k.pages page_state) room)))
   keeps_by caller (command.EditPage site page rev edits) user named parts =
       entering_kept Owes t needed.Editor caller site _ (λ k is may.
       on_page_kept Owes t page k (edit_page book site caller page rev edits k.site) (λ p found.
       edit_page_brings Owes book site caller page rev edits k.site (page_state p) (λ more same new is_edited.
       edit_keeps site caller page (with_trees p.page.tree new) k p is found
       (edits_well p.page.tree.trees new edits (page_sound site page k p is found).well is_edited))))
+  keeps_by caller (command.Judge site page rule node verdict seen note) user named parts =
+      entering_kept Owes t needed.Judge caller site _ (λ k is may.
+      on_page_kept Owes t page k (judge book site caller page rule node verdict seen note) (λ p found.
+      judge_brings Owes book site caller page rule node verdict seen note (page_state p) (λ row at_row.
+      (λ _ _. sound, λ _ _. judged_sound book t sound site page _ _ k p is found refl))))
   keeps_by caller (command.GetPage site page) user named parts = page_read Owes t caller site page _ (λ _. sound)
   keeps_by caller (command.GetOutcomes site page) user named parts = page_read Owes t caller site page _ (λ _. sound)
   keeps_by caller (command.GetReport site page) user named parts = page_read Owes t caller site page _ (λ _. sound)
   keeps_by caller (command.GetEarl site page) user named parts = page_read Owes t caller site page _ (λ _. sound)
   keeps_by caller (command.GetNames site page) user named parts = page_read Owes t caller site page _ (λ _. sound)
+  keeps_by caller (command.SiteReport site) user named parts = site_read Owes t caller site _ (λ _. sound)
+  keeps_by caller (command.SiteEarl site) user named parts = site_read Owes t caller site _ (λ _. sound)
+  keeps_by caller (command.SiteCsv site) user named parts = site_read Owes t caller site _ (λ _. sound)
 
 pub decided_keeps : (book : Book) (q : Request) (t : Tables) → FitsRequest book q → IsSound book t → Brings (λ change. IsSound book (made change t)) (decided book q (state_of t))
 decided_keeps book q t fits sound =

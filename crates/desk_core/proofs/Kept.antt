@@ -1,9 +1,8 @@
 -- What is decided in the state that tables give: the site and the page are those that the tables keep.
-use Rattle.std.proofs.Common.{◌≡◌, ℕ, List, length, map, Bool, true, Option, Some, None, option_map, IfSome, IsSome, refl, sym, ap, ◌∙◌, subst}
+use Rattle.std.proofs.Common.{◌≡◌, ℕ, List, length, map, true, Option, Some, None, option_map, IfSome, IsSome, refl, sym, ap, ◌∙◌, subst}
 use Rattle.judge_core.specs.Books.{Book}
 use Rattle.named_rows.specs.ByName.{at}
 use Rattle.keep_core.specs.declared.change.Change.{Change}
-use Rattle.keep_core.specs.declared.change.Change.TheVariants.{PutSite, PutPages, DropPage, AddJudgement}
 use Rattle.keep_core.specs.declared.tables.KeptPage.{KeptPage}
 use Rattle.keep_core.specs.declared.tables.KeptSite.{KeptSite}
 use Rattle.keep_core.specs.Tables.{Tables, kept_site, kept_page, pages_in}
@@ -18,14 +17,13 @@ use Rattle.desk_core.specs.declared.reply.Reply.{Reply}
 use Rattle.desk_core.specs.Refusals.{Decision, on}
 use Rattle.desk_core.specs.State.{PageState, SiteState, page_state, site_state, state_of, page_at, site_at}
 use Rattle.desk_core.specs.Rights.{may, role_of, entering, on_page}
-use Rattle.desk_core.specs.Members.{put_site, put_member}
-use Rattle.desk_core.specs.Pages.{put_page, edit_page, drop_page}
-use Rattle.desk_core.specs.Imports.{import}
+use Rattle.desk_core.specs.Members.{put_site}
+use Rattle.desk_core.specs.Pages.{edit_page, drop_page}
 use Rattle.desk_core.specs.Judging.{judge}
 use Rattle.desk_core.specs.Reading.{answered}
 use Rattle.desk_core.specs.Steps.{Request, site_of, read_page, read_site, decision, decided}
 use Rattle.desk_core.proofs.Views.{page_seen, site_seen}
-use Rattle.desk_core.proofs.Deciding.{Brings, unless_brings, on_brings, put_site_brings, put_member_brings, put_page_brings, edit_page_brings, drop_page_brings, import_brings, judge_brings}
+use Rattle.desk_core.proofs.Deciding.{Brings, unless_brings, put_member_brings, put_page_brings, edit_page_brings, drop_page_brings, import_brings, judge_brings}
 
 module _ (P : Option Change → Type 0) (t : Tables) where
   entering_by : (leave : Needed) (caller : List ℕ) (o : Option KeptSite) (next : SiteState → Decision)
@@ -87,15 +85,25 @@ module _ (t : Tables) where
   there_by book caller (command.DropPage site page rev) =
       entering_kept (IfAnyIsThere t) t needed.Editor caller site _ (λ k is may.
       on_page_kept (IfAnyIsThere t) t page k (drop_page site page rev) (λ p found. drop_page_brings (IfAnyIsThere t) site page rev (page_state p) (λ _. tt)))
+  there_by book caller (command.Import site entries) =
+      entering_kept (IfAnyIsThere t) t needed.Editor caller site _ (λ k is may.
+      import_brings (IfAnyIsThere t) book site caller entries (site_state k) (λ _ _ _ _. site_there site k is))
   there_by book caller (command.EditPage site page rev edits) =
       entering_kept (IfAnyIsThere t) t needed.Editor caller site _ (λ k is may.
       on_page_kept (IfAnyIsThere t) t page k (edit_page book site caller page rev edits k.site) (λ p found.
       edit_page_brings (IfAnyIsThere t) book site caller page rev edits k.site (page_state p) (λ _ _ _ _. site_there site k is)))
+  there_by book caller (command.Judge site page rule node verdict seen note) =
+      entering_kept (IfAnyIsThere t) t needed.Judge caller site _ (λ k is may.
+      on_page_kept (IfAnyIsThere t) t page k (judge book site caller page rule node verdict seen note) (λ p found.
+      judge_brings (IfAnyIsThere t) book site caller page rule node verdict seen note (page_state p) (λ row at_row. (λ _. tt, λ _. page_there site page k p is found))))
   there_by book caller (command.GetPage site page) = page_read (IfAnyIsThere t) t caller site page _ tt
   there_by book caller (command.GetOutcomes site page) = page_read (IfAnyIsThere t) t caller site page _ tt
   there_by book caller (command.GetReport site page) = page_read (IfAnyIsThere t) t caller site page _ tt
   there_by book caller (command.GetEarl site page) = page_read (IfAnyIsThere t) t caller site page _ tt
   there_by book caller (command.GetNames site page) = page_read (IfAnyIsThere t) t caller site page _ tt
+  there_by book caller (command.SiteReport site) = site_read (IfAnyIsThere t) t caller site _ tt
+  there_by book caller (command.SiteEarl site) = site_read (IfAnyIsThere t) t caller site _ tt
+  there_by book caller (command.SiteCsv site) = site_read (IfAnyIsThere t) t caller site _ tt
 
   pub decided_is_there : (book : Book) (q : Request) → Brings (IfAnyIsThere t) (decided book q (state_of t))
   decided_is_there book q = there_by book q.caller q.command

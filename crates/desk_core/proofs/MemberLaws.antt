@@ -1,11 +1,10 @@
 -- What is decided on a site that is made, and on a member.
-use Rattle.std.proofs.Common.{◌≡◌, ℕ, List, Bool, true, false, not, Option, Some, None, Result, Ok, Err, option_map, refl, sym, ap, ◌∙◌}
-use Rattle.keep_core.specs.declared.member.MemberRole.{MemberRole}
+use Rattle.std.proofs.Common.{◌≡◌, ℕ, List, Option, Some, None, Err, option_map, refl, ap, ◌∙◌}
 use Rattle.keep_core.specs.declared.site.Site.{Site}
 use Rattle.keep_core.specs.declared.tables.KeptSite.{KeptSite}
 use Rattle.keep_core.specs.Tables.{Tables, kept_site, site_of}
 use Rattle.desk_core.specs.declared.refusal.Refusal.TheVariants.{SiteExists}
-use Rattle.desk_core.specs.State.{SiteState, site_state, state_of, site_at}
+use Rattle.desk_core.specs.State.{site_state, state_of, site_at}
 use Rattle.desk_core.specs.Members.{put_site}
 use Rattle.desk_core.proofs.Views.{site_seen}
 

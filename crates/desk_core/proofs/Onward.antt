@@ -1,28 +1,25 @@
 -- One way through a keeper after another.
-use Rattle.std.proofs.Common.{◌≡◌, ℕ, length, map, ◌<◌, ◌≤◌, List, true, Option, Some, None, Result, Ok, Err, IfSome, IfOk, IsErrOf, ◌⊎◌, inl, inr, refl, sym, ap, subst, ◌∙◌, arith}
+use Rattle.std.proofs.Common.{◌≡◌, ℕ, length, ◌≤◌, List, Option, Some, None, Result, Ok, Err, IfSome, IfOk, IsErrOf, inl, inr, refl, sym, ap, subst, ◌∙◌, arith}
 use Rattle.std.proofs.lemmas.List.{length-map}
-use Rattle.counts.specs.Counts.{greatest, Rose}
+use Rattle.counts.specs.Counts.{Rose}
 use Rattle.judge_core.specs.Books.{Book}
 use Rattle.keep_core.specs.declared.change.Change.{Change}
 use Rattle.keep_core.specs.declared.site.Site.{Site}
-use Rattle.keep_core.specs.declared.tables.KeptPage.{KeptPage}
-use Rattle.keep_core.specs.declared.tables.KeptSite.{KeptSite}
-use Rattle.keep_core.specs.Tables.{Tables, kept_site, pages_of, site_of}
-use Rattle.keep_core.specs.Fits.{Fits, FitsSite, FitsPage, IsThere}
+use Rattle.keep_core.specs.Tables.{Tables, pages_of, site_of}
+use Rattle.keep_core.specs.Fits.{Fits, FitsSite, IsThere}
 use Rattle.desk_core.specs.declared.decided.Decided.{Decided}
 use Rattle.desk_core.specs.declared.refusal.Needed.{Needed}
 use Rattle.desk_core.specs.declared.refusal.Needed.TheVariants.{Editor}
 use Rattle.desk_core.specs.declared.refusal.Refusal.{Refusal}
 use Rattle.desk_core.specs.declared.refusal.Refusal.TheVariants as refusal
 use Rattle.desk_core.specs.Refusals.{Decision, on}
-use Rattle.desk_core.specs.State.{PageState, SiteState, State, page_state, site_state, state_of, site_at, page_at}
+use Rattle.desk_core.specs.State.{PageState, page_state, site_state, state_of, site_at, page_at}
 use Rattle.desk_core.specs.Rights.{entering, on_page}
 use Rattle.desk_core.specs.Steps.{Request, decided}
-use Rattle.desk_core.specs.Soundness.{IsSound}
-use Rattle.desk_core.specs.Serving.{Stands, Agrees, Admits, OnlyReads, IsIn, Enters, Finds, FindsKept, Surveys, Decides, page_in}
-use Rattle.desk_core.proofs.Views.{site_seen}
+use Rattle.desk_core.specs.Serving.{Stands, Agrees, Accepts, Admits, OnlyReads, IsIn, Enters, Finds, Decides, page_in}
 use Rattle.desk_core.proofs.Deciding.{Brings, brought}
 use Rattle.desk_core.proofs.Fitted.{IfAnyFits}
+use Rattle.desk_core.proofs.Accepting.{accepted_by}
 use Rattle.desk_core.proofs.Kept.{IfAnyIsThere, decided_is_there}
 use Rattle.desk_core.proofs.Ways.{not_allowed, entered, followed, page_is, pages_are}
 
@@ -99,14 +96,15 @@ agrees_as result decision other is agrees = subst (Agrees ⊥ result) (sym is) a
 
 -- a request whose answer is what is decided, whatever else is kept
 pub decides_by : {A : Type 0} (book : Book) (request : Request) (old new : Option Tables) (before now : ℕ) (r : Result A Refusal) (result : Result Decided Refusal) (decision : Decision)
-    → OnlyReads old new before now r → Agrees ⊥ result decision → Brings IfAnyFits decision
+    → OnlyReads old new before now r → Agrees ⊥ result decision → Brings IfAnyFits decision → Accepts decision
     → ((t : Tables) → new ≡ Some t → decided book request (state_of t) ≡ decision)
     → Decides book request old new before now result
-decides_by book request old new before now r result decision reads agrees brings is = record {
+decides_by book request old new before now r result decision reads agrees brings accepts is = record {
   reads = only_read old new before now r result (λ e. absurd (not_fault result decision agrees e)) reads;
   agrees = λ t told sound. agrees_with result decision (decided book request (state_of t)) (is t told) agrees;
   fits = fits_by result decision agrees brings;
   there = there_by book request new result (λ t told. agrees_as result decision (decided book request (state_of t)) (is t told) agrees);
+  accepted = accepted_by result decision agrees accepts;
 }
 
 -- a refusal of one reading is a refusal of any
@@ -142,10 +140,10 @@ module _ (book : Book) (request : Request) (leave : Needed) (site page : List �
 
   -- a request about a page that was found is decided
   pub decides_found : (old new : Option Tables) (before now : ℕ) (found : Site) (p : PageState) (result : Result Decided Refusal)
-      → Finds leave request.caller site page old new before now (Ok (found, p)) → Agrees ⊥ result (next found p) → Brings IfAnyFits (next found p)
+      → Finds leave request.caller site page old new before now (Ok (found, p)) → Agrees ⊥ result (next found p) → Brings IfAnyFits (next found p) → Accepts (next found p)
       → Decides book request old new before now result
-  decides_found old new before now found p result finds agrees brings =
-      decides_by book request old new before now (let r : Result (Site × PageState) Refusal = Ok (found, p) in r) result (next found p) finds.reads agrees brings
+  decides_found old new before now found p result finds agrees brings accepts =
+      decides_by book request old new before now (let r : Result (Site × PageState) Refusal = Ok (found, p) in r) result (next found p) finds.reads agrees brings accepts
       (λ t told. found_next t found p (finds.found t told).0 (finds.found t told).1)
 
   -- and one about a page that wasn't is refused
@@ -156,6 +154,7 @@ module _ (book : Book) (request : Request) (leave : Needed) (site page : List �
     agrees = λ t told sound. subst (Stands (Unit {0}) r) (sym (is t)) (finds.refused t told (λ s. next s.site));
     fits = tt;
     there = tt;
+    accepted = tt;
   }
 
 -- what is decided on putting a page is that by what was found before

@@ -1,5 +1,5 @@
 -- What is decided on a page where nothing stands against it.
-use Rattle.std.proofs.Common.{◌≡◌, ℕ, ◌+◌, ◌==◌, List, true, Option, Some, None, Result, Ok, Err, option_map, refl, sym, ap, subst, ◌∙◌, eq-eqb}
+use Rattle.std.proofs.Common.{◌≡◌, ℕ, List, true, Option, Some, None, sym, ap, subst, ◌∙◌, eq-eqb}
 use Rattle.std.specs.Option.{option_map_or}
 use Rattle.snap_tree.specs.declared.row.Raw.{Raw}
 use Rattle.snap_tree.specs.declared.fault.TreeFault.{TreeFault}

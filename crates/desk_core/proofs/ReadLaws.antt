@@ -16,13 +16,13 @@ use Rattle.desk_core.specs.declared.decided.Decided.{Decided}
 use Rattle.desk_core.specs.declared.reply.Reply.{Reply}
 use Rattle.desk_core.specs.declared.refusal.Needed.TheVariants.{Reader}
 use Rattle.desk_core.specs.declared.refusal.Refusal.{Refusal}
-use Rattle.desk_core.specs.declared.refusal.Refusal.TheVariants.{KeeperFault}
-use Rattle.desk_core.specs.Refusals.{Decision}
 use Rattle.desk_core.specs.State.{PageState, page_state, state_of, site_at}
-use Rattle.desk_core.specs.Reading.{answered, site_page}
+use Rattle.desk_core.specs.declared.reads.Showing.{Showing}
+use Rattle.desk_core.specs.declared.reads.Showing.TheVariants as showing
+use Rattle.desk_core.specs.Reading.{answered, site_page, asked_as, shown_as}
 use Rattle.desk_core.specs.Steps.{Request, read_page, decided}
 use Rattle.desk_core.specs.Soundness.{IsSound, IsSoundSite, IsSoundPage}
-use Rattle.desk_core.specs.Serving.{Stands, OnlyReads, IsIn, IsTrueTo, ReadsPage, Decides, page_in}
+use Rattle.desk_core.specs.Serving.{Stands, IsAccepted, IsIn, IsTrueTo, ReadsPage, Decides, page_in}
 use Rattle.desk_core.proofs.Ways.{followed}
 use Rattle.desk_core.proofs.Onward.{only_read, read_as}
 
@@ -63,22 +63,38 @@ read_shows book caller site page t s kept shown sound is there has same reply =
     followed Reader caller site page t s (Some (page_state kept)) (λ _ p. answered (reply (site_page book p))) (answered (reply shown)) is there
     (λ k at_site same_site. ap (λ (p : SitePage). answered (reply p)) (shown_is book kept shown same (found_is_true book t sound site page kept there has)))
 
-module _ (book : Book) (request : Request) (site page : List ℕ) (reply : SitePage → Reply)
-    (is : (t : Tables) → decided book request (state_of t) ≡ read_page request.caller page (site_at site (state_of t)) (λ p. reply (site_page book p))) where
-  pub decides_read : (old new : Option Tables) (before now : ℕ) (shown : SitePage) (d : Decided) → d ≡ record { change = None; reply = reply shown }
-      → ReadsPage book request.caller site page old new before now (Ok shown) → Decides book request old new before now (Ok d)
+-- what is asked is decided by what is shown, which is no refusal
+asked : (book : Book) (caller site page : List ℕ) (way : Showing) (t : Tables)
+    → decided book (record { caller = caller; command = asked_as way site page }) (state_of t) ≡ read_page caller page (site_at site (state_of t)) (λ p. shown_as way (site_page book p))
+asked book caller site page showing.Outcomes t = refl
+asked book caller site page showing.Report t = refl
+asked book caller site page showing.Earl t = refl
+
+shown_accepted : (way : Showing) (shown : SitePage) → IsAccepted (shown_as way shown)
+shown_accepted showing.Outcomes shown = tt
+shown_accepted showing.Report shown = tt
+shown_accepted showing.Earl shown = tt
+
+module _ (book : Book) (caller site page : List ℕ) (way : Showing) where
+  abbrev request : Request
+  request = record { caller = caller; command = asked_as way site page }
+
+  pub decides_read : (old new : Option Tables) (before now : ℕ) (shown : SitePage) (d : Decided) → d ≡ record { change = None; reply = shown_as way shown }
+      → ReadsPage book caller site page old new before now (Ok shown) → Decides book request old new before now (Ok d)
   decides_read old new before now shown d same reads = record {
     reads = only_read old new before now (let r : Result SitePage Refusal = Ok shown in r) (let r : Result Decided Refusal = Ok d in r) (λ e. cc) reads.reads;
-    agrees = λ t told sound. is t ∙ (reads.shows t told sound reply ∙ ap Ok (sym same));
+    agrees = λ t told sound. asked book caller site page way t ∙ (reads.shows t told sound (shown_as way) ∙ ap Ok (sym same));
     fits = let P : Decided → Type 0 = λ e. IfSome e.change Fits in subst P (sym same) tt;
     there = let P : Decided → Type 0 = λ e. IfSome e.change (λ change. IfSome new (IsThere change)) in subst P (sym same) tt;
+    accepted = let P : Decided → Type 0 = λ e. IsAccepted e.reply in subst P (sym same) (shown_accepted way shown);
   }
 
-  pub decides_not_read : (old new : Option Tables) (before now : ℕ) (r : Refusal) → ReadsPage book request.caller site page old new before now (Err r)
+  pub decides_not_read : (old new : Option Tables) (before now : ℕ) (r : Refusal) → ReadsPage book caller site page old new before now (Err r)
       → Decides book request old new before now (Err r)
   decides_not_read old new before now r reads = record {
     reads = read_as old new before now r reads.reads;
-    agrees = λ t told sound. subst (Stands (Unit {0}) r) (sym (is t)) (reads.shows t told sound reply);
+    agrees = λ t told sound. subst (Stands (Unit {0}) r) (sym (asked book caller site page way t)) (reads.shows t told sound (shown_as way));
     fits = tt;
     there = tt;
+    accepted = tt;
   }

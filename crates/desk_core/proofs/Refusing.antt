@@ -39,7 +39,7 @@ use Rattle.desk_core.proofs.Views.{page_seen, site_seen}
 use Rattle.desk_core.proofs.Deciding.{Brings, brought, put_page_brings, edit_page_brings, drop_page_brings, import_brings}
 use Rattle.desk_core.proofs.Kept.{entering_kept, on_page_kept, new_site_kept}
 use Rattle.desk_core.proofs.Sound.{kept_fits}
-use Rattle.desk_core.proofs.Again.{rev_at, rev_found, stale_then, after_made}
+use Rattle.desk_core.proofs.Again.{rev_at, rev_found, stale_then, import_stale, after_made}
 
 module _ (With : Refusal → Type 0) where
   unless_refuses : (holds : Bool) (r : Refusal) (next : Decision) → (holds ≡ false → With r) → (holds ≡ true → Refuses With next) → Refuses With (unless holds r next)
@@ -124,6 +124,20 @@ module _ (book : Book) (t : Tables) (sound : IsSound book t) (caller : List ℕ)
         enters (λ r. r ≡ refusal.NoPage) needed.Editor caller _ _ (site_state (f k)) (there_then site k f (λ _. refl) is) allows
         (on_none (λ r. r ≡ refusal.NoPage) _ refusal.NoPage _ (page_seen page (f k).pages ∙ ap (option_map page_state) gone) refl)
 
+    -- ---- imports
+
+    import_refused : (entries : List Entry) → FitsEntries entries → first_stale (map page_state k.pages) entries ≡ None → may needed.Editor (role_of caller k.site.members) ≡ true
+        → After (command.Import site entries) (Some (PutPages site (k.site.counter + length entries) (puts book caller (map page_state k.pages) k.site.counter entries)))
+    import_refused [] fits fresh allows = absurd (omega (arith, fits.some))
+    import_refused (e ∷ entries) fits fresh allows =
+        let f = with_pages (k.site.counter + length (e ∷ entries)) (puts book caller (map page_state k.pages) k.site.counter (e ∷ entries)) in
+        let pages = map page_state (f k).pages in
+        enters IsBehind needed.Editor caller _ _ (site_state (f k)) (there_then site k f (λ _. refl) is) allows
+        (unless_refuses IsBehind (nat_le (length pages + new_pages pages (e ∷ entries)) MOST_PAGES) (refusal.PageLimit limit.Pages) _ (λ _. tt) (λ _.
+        unless_refuses IsBehind (has_revisions (f k).site.counter (length (e ∷ entries))) (refusal.PageLimit limit.Revisions) _ (λ _. tt) (λ _.
+        unless_refused_refuses IsBehind (first_stale pages (e ∷ entries)) _ (stale_by pages (e ∷ entries))
+        (import_stale book t sound caller site [] k is e entries fresh (f k) (kept_then site k f (λ _. refl) is)))))
+
   -- ---- commands
 
   refused_by : (c : Command) → IsOnce c → FitsParts book c → Brings (After c) (decision book caller c (site_at (site_of c) (state_of t)))
@@ -138,6 +152,10 @@ module _ (book : Book) (t : Tables) (sound : IsSound book t) (caller : List ℕ)
       let P = After (command.DropPage site page rev) in
       entering_kept P t needed.Editor caller site _ (λ k is allows.
       on_page_kept P t page k (drop_page site page rev) (λ p found. drop_page_brings P site page rev (page_state p) (λ _. drop_refused site page k is rev allows)))
+  refused_by (command.Import site entries) once parts =
+      let P = After (command.Import site entries) in
+      entering_kept P t needed.Editor caller site _ (λ k is allows.
+      import_brings P book site caller entries (site_state k) (λ _ _ fresh _. import_refused site [] k is entries parts fresh allows))
   refused_by (command.EditPage site page rev edits) once parts =
       let P = After (command.EditPage site page rev edits) in
       entering_kept P t needed.Editor caller site _ (λ k is allows.
@@ -145,11 +163,15 @@ module _ (book : Book) (t : Tables) (sound : IsSound book t) (caller : List ℕ)
       edit_page_brings P book site caller page rev edits k.site (page_state p) (λ _ was new _.
       edit_refused site page k is (page_put book page (k.site.counter + 1) caller (with_trees p.page.tree new) p.judgements) refl refl rev
       (ap (λ r. rev == r) (rev_found page k.pages p found) ∙ was) allows edits)))
+  refused_by (command.Judge site page rule node verdict seen note) once parts = absurd once
   refused_by (command.GetPage site page) once parts = absurd once
   refused_by (command.GetOutcomes site page) once parts = absurd once
   refused_by (command.GetReport site page) once parts = absurd once
   refused_by (command.GetEarl site page) once parts = absurd once
   refused_by (command.GetNames site page) once parts = absurd once
+  refused_by (command.SiteReport site) once parts = absurd once
+  refused_by (command.SiteEarl site) once parts = absurd once
+  refused_by (command.SiteCsv site) once parts = absurd once
 
 -- a request that made a site, or put, edited or dropped pages, is refused where it is sent again at once
 pub refused_then : (book : Book) (q : Request) (t : Tables) (d : Decided) → FitsRequest book q → IsSound book t → IsOnce q.command → decided book q (state_of t) ≡ Ok d

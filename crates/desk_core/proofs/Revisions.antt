@@ -141,16 +141,34 @@ module _ (book : Book) (t : Tables) (sound : IsSound book t) (caller n : List �
       drop_page_brings (RisesBy site) site page rev (page_state p) (λ _.
       by_rows site (Some (DropPage site page)) (Some k) (Some (without_page page k)) is (found site k (without_page page) (λ _. refl) is)
       (record { counter = omega arith; revision = take_moves k.site.counter n page k.pages (kept_fits book t sound site k is).in_order (same_or_other n page) }))))
+  rises_by (command.Import site entries) =
+      entering_kept (RisesBy site) t needed.Editor caller site _ (λ k is _.
+      import_brings (RisesBy site) book site caller entries (site_state k) (λ _ _ _ _.
+      pages_rise site k (k.site.counter + length entries) (puts book caller (map page_state k.pages) k.site.counter entries) is (omega arith)
+      (puts_move book caller n k.pages k.pages k.site.counter (rev_at n k.pages) k.site.counter entries (omega arith) (inl refl))))
   rises_by (command.EditPage site page rev edits) =
       entering_kept (RisesBy site) t needed.Editor caller site _ (λ k is _.
       on_page_kept (RisesBy site) t page k (edit_page book site caller page rev edits k.site) (λ p _.
       edit_page_brings (RisesBy site) book site caller page rev edits k.site (page_state p) (λ _ _ new _.
       put_rises site k (page_put book page (k.site.counter + 1) caller (with_trees p.page.tree new) p.judgements) is refl)))
+  rises_by (command.Judge site page rule node verdict seen note) =
+      entering_kept (RisesBy site) t needed.Judge caller site _ (λ k is _.
+      on_page_kept (RisesBy site) t page k (judge book site caller page rule node verdict seen note) (λ p _.
+      judge_brings (RisesBy site) book site caller page rule node verdict seen note (page_state p) (λ row _.
+      let j : Judgement = record { rule = rule; node = node; verdict = verdict; hand = caller; note = note; evidence = row.evidence } in
+      let o : Outcomes = record { rows = outcomes book p.page.tree (p.judgements ++ j ∷ []) } in (
+        λ _. still n (site_at site (state_of t)),
+        λ _. by_rows site (Some (AddJudgement site page j o)) (Some k) (Some (with_judged page j o k)) is (found site k (with_judged page j o) (λ _. refl) is)
+            (record { counter = omega arith; revision = inl (judge_moves n page j o k.pages (same_or_other n page)) }),
+      ))))
   rises_by (command.GetPage site page) = page_read (RisesBy site) t caller site page _ (still n (site_at site (state_of t)))
   rises_by (command.GetOutcomes site page) = page_read (RisesBy site) t caller site page _ (still n (site_at site (state_of t)))
   rises_by (command.GetReport site page) = page_read (RisesBy site) t caller site page _ (still n (site_at site (state_of t)))
   rises_by (command.GetEarl site page) = page_read (RisesBy site) t caller site page _ (still n (site_at site (state_of t)))
   rises_by (command.GetNames site page) = page_read (RisesBy site) t caller site page _ (still n (site_at site (state_of t)))
+  rises_by (command.SiteReport site) = site_read (RisesBy site) t caller site _ (still n (site_at site (state_of t)))
+  rises_by (command.SiteEarl site) = site_read (RisesBy site) t caller site _ (still n (site_at site (state_of t)))
+  rises_by (command.SiteCsv site) = site_read (RisesBy site) t caller site _ (still n (site_at site (state_of t)))
 
 -- ---- steps
 
@@ -238,15 +256,22 @@ module _ (book : Book) (caller page : List ℕ) (rev : ℕ) where
       entering_brings (Current kept) needed.Editor caller kept _ (λ s is _.
       on_page_brings (Current kept) p s (drop_page site p sent) (λ q found.
       drop_page_brings (Current kept) site p sent q (λ same. carried sent p s kept is carries (equal_by sent q.page.head.rev same ∙ sym (ap rev_of found)))))
+  current_by (command.Import site entries) kept carries =
+      entering_brings (Current kept) needed.Editor caller kept _ (λ s is _.
+      import_brings (Current kept) book site caller entries s (λ _ _ fresh _. each_fresh s.pages entries page rev fresh carries ∙ sym (ap (revision_of page) is)))
   current_by (command.EditPage site p sent edits) kept carries =
       entering_brings (Current kept) needed.Editor caller kept _ (λ s is _.
       on_page_brings (Current kept) p s (edit_page book site caller p sent edits s.site) (λ q found.
       edit_page_brings (Current kept) book site caller p sent edits s.site q (λ _ same _ _. carried sent p s kept is carries (equal_by sent q.page.head.rev same ∙ sym (ap rev_of found)))))
+  current_by (command.Judge site p rule node verdict seen note) kept carries = absurd carries
   current_by (command.GetPage site p) kept carries = absurd carries
   current_by (command.GetOutcomes site p) kept carries = absurd carries
   current_by (command.GetReport site p) kept carries = absurd carries
   current_by (command.GetEarl site p) kept carries = absurd carries
   current_by (command.GetNames site p) kept carries = absurd carries
+  current_by (command.SiteReport site) kept carries = absurd carries
+  current_by (command.SiteEarl site) kept carries = absurd carries
+  current_by (command.SiteCsv site) kept carries = absurd carries
 
 -- ---- what is put has a newer revision
 
@@ -288,16 +313,25 @@ module _ (book : Book) (t : Tables) (sound : IsSound book t) (caller page : List
       put_page_brings (Newer site) book site caller p sent raw k.site (page_at p (map page_state k.pages)) (length (map page_state k.pages)) (λ _ _ _ _.
       newer_put site k (page_put book p (k.site.counter + 1) caller (page_of raw) (judged (page_at p (map page_state k.pages)))) is puts.0 refl))
   newer_by_put (command.DropPage site p sent) puts = absurd puts
+  newer_by_put (command.Import site entries) has =
+      entering_kept (Newer site) t needed.Editor caller site _ (λ k is _.
+      import_brings (Newer site) book site caller entries (site_state k) (λ _ _ _ _.
+      newer_pages site k (k.site.counter + length entries) (puts book caller (map page_state k.pages) k.site.counter entries) is
+      (puts_newer_at book caller page rev k.pages k.pages k.site.counter k.site.counter entries (omega arith) has)))
   newer_by_put (command.EditPage site p sent edits) puts =
       entering_kept (Newer site) t needed.Editor caller site _ (λ k is _.
       on_page_kept (Newer site) t p k (edit_page book site caller p sent edits k.site) (λ q _.
       edit_page_brings (Newer site) book site caller p sent edits k.site (page_state q) (λ _ _ new _.
       newer_put site k (page_put book p (k.site.counter + 1) caller (with_trees q.page.tree new) q.judgements) is puts.0 refl)))
+  newer_by_put (command.Judge site p rule node verdict seen note) puts = absurd puts
   newer_by_put (command.GetPage site p) puts = absurd puts
   newer_by_put (command.GetOutcomes site p) puts = absurd puts
   newer_by_put (command.GetReport site p) puts = absurd puts
   newer_by_put (command.GetEarl site p) puts = absurd puts
   newer_by_put (command.GetNames site p) puts = absurd puts
+  newer_by_put (command.SiteReport site) puts = absurd puts
+  newer_by_put (command.SiteEarl site) puts = absurd puts
+  newer_by_put (command.SiteCsv site) puts = absurd puts
 
   -- a page's revision is a new one, or the page is gone
   abbrev Renewed : List ℕ → Option Change → Type 0
@@ -322,12 +356,17 @@ module _ (book : Book) (t : Tables) (sound : IsSound book t) (caller page : List
   renewed_by (command.PutMember site user held) carries = absurd carries
   renewed_by (command.PutPage site p sent raw) carries = put_renewed (command.PutPage site p sent raw) carries
   renewed_by (command.DropPage site p sent) carries = drop_renewed site p sent carries.0
+  renewed_by (command.Import site entries) carries = put_renewed (command.Import site entries) carries
   renewed_by (command.EditPage site p sent edits) carries = put_renewed (command.EditPage site p sent edits) carries
+  renewed_by (command.Judge site p rule node verdict seen note) carries = absurd carries
   renewed_by (command.GetPage site p) carries = absurd carries
   renewed_by (command.GetOutcomes site p) carries = absurd carries
   renewed_by (command.GetReport site p) carries = absurd carries
   renewed_by (command.GetEarl site p) carries = absurd carries
   renewed_by (command.GetNames site p) carries = absurd carries
+  renewed_by (command.SiteReport site) carries = absurd carries
+  renewed_by (command.SiteEarl site) carries = absurd carries
+  renewed_by (command.SiteCsv site) carries = absurd carries
 
 -- what an accepted put, edit or import puts has a revision above every one that the site had
 pub put_is_newer : (book : Book) (q : Request) (t : Tables) (d : Decided) (page : List ℕ) (rev : ℕ) → IsSound book t → Puts page rev q.command → decided book q (state_of t) ≡ Ok d

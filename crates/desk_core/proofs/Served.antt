@@ -1,29 +1,62 @@
 -- A request that was decided, and whose change was made, is served.
-use Rattle.std.proofs.Common.{◌≡◌, ℕ, ◌≤◌, List, Option, Some, None, Result, Ok, Err, ◌⊎◌, inl, inr, refl, sym, ap, subst, ◌∙◌, arith}
+use Rattle.std.proofs.Common.{◌≡◌, ℕ, ◌≤◌, Option, Some, None, Ok, Err, ◌⊎◌, inl, inr, refl, sym, ap, subst, ◌∙◌, arith}
 use Rattle.counts.specs.Counts.{Rose}
 use Rattle.judge_core.specs.Books.{Book}
 use Rattle.keep_core.specs.declared.change.Change.{Change}
-use Rattle.keep_core.specs.Tables.{Tables}
-use Rattle.keep_core.specs.Keeping.{Stays, Turns}
+use Rattle.keep_core.specs.Tables.{Tables, kept_site}
+use Rattle.keep_core.specs.Keeping.{Stays}
 use Rattle.desk_core.specs.declared.decided.Decided.{Decided}
 use Rattle.desk_core.specs.declared.refusal.Refusal.{Refusal}
 use Rattle.desk_core.specs.declared.refusal.Refusal.TheVariants as refusal
 use Rattle.desk_core.specs.declared.reply.Reply.{Reply}
 use Rattle.desk_core.specs.declared.reply.Reply.TheVariants.{Refused}
-use Rattle.desk_core.specs.Refusals.{Decision}
 use Rattle.desk_core.specs.State.{State, state_of}
 use Rattle.desk_core.specs.Changes.{after}
-use Rattle.desk_core.specs.Steps.{Request, decided, stepped, step}
+use Rattle.desk_core.specs.Steps.{Request, site_of, decided, stepped}
 use Rattle.desk_core.specs.Fitting.{FitsRequest}
 use Rattle.desk_core.specs.Soundness.{IsSound, made}
 use Rattle.desk_core.specs.Runs.{Fails, Answers}
-use Rattle.desk_core.specs.Serving.{Stands, OnlyReads, Decides, Commits, TurnsBy, Serves}
+use Rattle.desk_core.specs.Serving.{Stands, IsAccepted, Decides, Commits, TurnsBy, OthersStay, Serves}
 use Rattle.desk_core.proofs.Views.{changes_seen}
 use Rattle.desk_core.proofs.Keeping.{keeps_sound}
+use Rattle.desk_core.proofs.Deciding.{brought}
+use Rattle.desk_core.proofs.Sites.{Names, decided_names, rows_stay}
 
 rose_later : (from at to : ℕ) → from ≤ at → Rose at to → Rose from to
 rose_later from at to le (inl less) = inl (omega arith)
 rose_later from at to le (inr is) = inr is
+
+turned : (change : Option Change) (mid new : Option Tables) → TurnsBy change mid new → (t : Tables) → new ≡ Some t → (s : Tables) × (mid ≡ Some s) × (t ≡ made change s)
+turned None mid new turns t is = (t, turns t is, refl)
+turned (Some change) mid new turns t is = turns t is
+
+-- how a decided request ended: with its reply, or by failing
+abbrev Ends : Decided → Option Tables → Option Tables → ℕ → ℕ → Reply → Type 0
+Ends d mid new at now reply = ((reply ≡ d.reply) × TurnsBy d.change mid new) ⊎ (Fails reply at now × Stays mid new)
+
+told_by : (d : Decided) (mid new : Option Tables) (at now : ℕ) (reply : Reply) → Ends d mid new at now reply → (t : Tables) → new ≡ Some t → (s : Tables) × (mid ≡ Some s)
+told_by d mid new at now reply (inl is) t told = let from = turned d.change mid new is.1 t told in (from.0, from.1)
+told_by d mid new at now reply (inr is) t told = (t, is.1 t told)
+
+-- what is told at the end was told when the request was decided
+pub told_before : (d : Decided) (mid new : Option Tables) (at now : ℕ) (reply : Reply) → Commits d mid new at now reply → (t : Tables) → new ≡ Some t → (s : Tables) × (mid ≡ Some s)
+told_before d mid new at now reply commits = told_by d mid new at now reply commits.made
+
+-- ---- faults
+
+not_accepted : (r : Refusal) (reply : Reply) → IsAccepted reply → reply ≡ Refused r → ⊥
+not_accepted r reply accepted is = subst IsAccepted is accepted
+
+fault_rose : (at now : ℕ) (reply : Reply) → Fails reply at now → reply ≡ Refused refusal.KeeperFault → Rose at now
+fault_rose at now reply (inl is) fault = is.1
+fault_rose at now reply (inr is) fault = let no : Refused refusal.OutOfMemory ≡ Refused refusal.KeeperFault = sym is ∙ fault in cc
+
+failed_by : (before at now : ℕ) (d : Decided) (mid new : Option Tables) (reply : Reply) → before ≤ at → IsAccepted d.reply → Ends d mid new at now reply → reply ≡ Refused refusal.KeeperFault → Rose before now
+failed_by before at now d mid new reply le accepted (inl is) fault = absurd (not_accepted refusal.KeeperFault d.reply accepted (sym is.0 ∙ fault))
+failed_by before at now d mid new reply le accepted (inr is) fault = rose_later before at now le (fault_rose at now reply is.0 fault)
+
+same_tables : (s t : Tables) (old : Option Tables) → old ≡ Some s → old ≡ Some t → s ≡ t
+same_tables s t old was is = let both : Some s ≡ Some t = sym was ∙ is in cc
 
 module _ (book : Book) (request : Request) where
   by_step : (state : State) (r : Refusal) (before now : ℕ) → decided book request state ≡ Err r → Answers book state request (Refused r) state before now
@@ -55,7 +88,9 @@ module _ (book : Book) (request : Request) where
           decides.reads.stays t is,
           λ sound. (sound, refused_by (state_of t) r before now (λ e. decides.reads.failed (ap Err e)) (decides.agrees t is sound)),
         );
+    others = λ s t was is sound n other. ap (kept_site n) (sym (same_tables s t old was (decides.reads.stays t is)));
     never_falls = decides.reads.never_falls;
+    failed = λ fault. let same : r ≡ refusal.KeeperFault = cc in decides.reads.failed (ap Err same);
   }
 
   failed_later : (from at to : ℕ) (reply : Reply) → from ≤ at → Fails reply at to → Fails reply from to
@@ -66,10 +101,6 @@ module _ (book : Book) (request : Request) where
   state_after None t = refl
   state_after (Some change) t = sym (changes_seen change t)
 
-  turned : (change : Option Change) (mid new : Option Tables) → TurnsBy change mid new → (t : Tables) → new ≡ Some t → (s : Tables) × (mid ≡ Some s) × (t ≡ made change s)
-  turned None mid new turns t is = (t, turns t is, refl)
-  turned (Some change) mid new turns t is = turns t is
-
   answered_by : (s t : Tables) (d : Decided) (reply : Reply) (before now : ℕ) → decided book request (state_of s) ≡ Ok d → reply ≡ d.reply → t ≡ made d.change s
       → Answers book (state_of s) request reply (state_of t) before now
   answered_by s t d reply before now is replied became =
@@ -78,8 +109,7 @@ module _ (book : Book) (request : Request) where
       ∙ (ap (λ (n : State). let p : State × Reply = (n, d.reply) in p) (state_after d.change s ∙ sym (ap state_of became))
       ∙ ap (λ (r : Reply). let p : State × Reply = (state_of t, r) in p) (sym replied)))
 
-  served_by : (old mid new : Option Tables) (before at now : ℕ) (d : Decided) (reply : Reply) → FitsRequest book request → Decides book request old mid before at (Ok d) → before ≤ at
-      → ((reply ≡ d.reply) × TurnsBy d.change mid new) ⊎ (Fails reply at now × Stays mid new)
+  served_by : (old mid new : Option Tables) (before at now : ℕ) (d : Decided) (reply : Reply) → FitsRequest book request → Decides book request old mid before at (Ok d) → before ≤ at → Ends d mid new at now reply
       → (t : Tables) → new ≡ Some t → (s : Tables) × (old ≡ Some s) × (IsSound book s → IsSound book t × Answers book (state_of s) request reply (state_of t) before now)
   served_by old mid new before at now d reply fits decides le (inl is) t told =
       let from = turned d.change mid new is.1 t told in (
@@ -97,9 +127,23 @@ module _ (book : Book) (request : Request) where
     λ sound. (sound, inr (refl, failed_later before at now reply le is.0)),
   )
 
+  others_by : (old mid new : Option Tables) (before at now : ℕ) (d : Decided) (reply : Reply) → Decides book request old mid before at (Ok d) → Ends d mid new at now reply
+      → (s t : Tables) → old ≡ Some s → new ≡ Some t → IsSound book s → OthersStay (site_of request.command) s t
+  others_by old mid new before at now d reply decides (inl is) s t was told sound n other =
+      let from = turned d.change mid new is.1 t told in
+      let m = from.0 in
+      let same : s ≡ m = same_tables s m old was (decides.reads.stays m from.1) in
+      let agrees = decides.agrees m from.1 (subst (IsSound book) same sound) in
+      let names = brought (Names (site_of request.command)) (decided book request (state_of m)) d agrees (decided_names book request (state_of m)) in
+      ap (kept_site n) from.2 ∙ (rows_stay (site_of request.command) d.change m names n other ∙ ap (kept_site n) (sym same))
+  others_by old mid new before at now d reply decides (inr is) s t was told sound n other =
+      ap (kept_site n) (sym (same_tables s t old was (decides.reads.stays t (is.1 t told))))
+
   pub serves_decided : (old mid new : Option Tables) (before at now : ℕ) (d : Decided) (reply : Reply) → FitsRequest book request → Decides book request old mid before at (Ok d)
       → Commits d mid new at now reply → Serves book request old new before now reply
   serves_decided old mid new before at now d reply fits decides commits = record {
     told = served_by old mid new before at now d reply fits decides decides.reads.never_falls commits.made;
+    others = others_by old mid new before at now d reply decides commits.made;
     never_falls = omega (arith, decides.reads.never_falls, commits.never_falls);
+    failed = failed_by before at now d mid new reply decides.reads.never_falls decides.accepted commits.made;
   }

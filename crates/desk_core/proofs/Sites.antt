@@ -1,35 +1,30 @@
 -- All other sites stay as they are, whatever is asked of one.
-use Rattle.std.proofs.Common.{◌≡◌, ℕ, List, length, Bool, true, Option, Some, None, Result, Ok, Err, refl, sym, ap, ◌∙◌}
+use Rattle.std.proofs.Common.{◌≡◌, ℕ, List, length, Option, Some, None, Ok, Err, refl, ap, ◌∙◌}
 use Rattle.judge_core.specs.Books.{Book}
-use Rattle.named_rows.specs.ByName.{at, take_row, with_row}
+use Rattle.named_rows.specs.ByName.{take_row, with_row}
 use Rattle.named_rows.proofs.Lookups.{at_put_other, at_with_row_other}
-use Rattle.keep_core.specs.declared.site.Site.{Site}
-use Rattle.keep_core.specs.declared.page.PagePut.{PagePut}
 use Rattle.keep_core.specs.declared.change.Change.{Change}
 use Rattle.keep_core.specs.declared.change.Change.TheVariants.{PutSite, PutPages, DropPage, AddJudgement}
+use Rattle.keep_core.specs.Tables.{Tables}
+use Rattle.keep_core.specs.Changes.{site_changed}
+use Rattle.keep_core.proofs.Making as rows
 use Rattle.desk_core.specs.declared.command.Command.{Command}
 use Rattle.desk_core.specs.declared.command.Command.TheVariants as command
 use Rattle.desk_core.specs.declared.refusal.Needed.TheVariants as needed
 use Rattle.desk_core.specs.declared.reply.Reply.{Reply}
 use Rattle.desk_core.specs.Refusals.{Decision}
 use Rattle.desk_core.specs.State.{PageState, SiteState, State, page_name, site_name, page_at, site_at}
-use Rattle.desk_core.specs.Pages.{put_page, edit_page, drop_page}
-use Rattle.desk_core.specs.Imports.{import}
+use Rattle.desk_core.specs.Pages.{edit_page, drop_page}
 use Rattle.desk_core.specs.Judging.{judge}
 use Rattle.desk_core.specs.Reading.{answered}
 use Rattle.desk_core.specs.Changes.{with_counter, with_pages, in_pages, with_judgement, changed, after}
+use Rattle.desk_core.specs.Soundness.{made}
+use Rattle.desk_core.specs.Serving.{OthersStay}
 use Rattle.desk_core.specs.Steps.{Request, site_of, read_page, read_site, decision, decided, stepped, step}
 use Rattle.desk_core.proofs.Deciding.{Brings, entering_brings, on_page_brings, put_site_brings, put_member_brings, put_page_brings, edit_page_brings, drop_page_brings, import_brings, judge_brings}
 
--- the site that a change names
-abbrev pub site_in : Change → List ℕ
-site_in (PutSite site) = site.name
-site_in (PutPages site counter puts) = site
-site_in (DropPage site page) = site
-site_in (AddJudgement site page j outcomes) = site
-
 -- a change leaves the sites that it doesn't name
-others_stay : (n : List ℕ) (c : Change) (state : State) → (n ≡ site_in c → ⊥) → site_at n (changed c state) ≡ site_at n state
+others_stay : (n : List ℕ) (c : Change) (state : State) → (n ≡ site_changed c → ⊥) → site_at n (changed c state) ≡ site_at n state
 others_stay n (PutSite site) state other = at_put_other site_name n _ state other
 others_stay n (PutPages site counter puts) state other =
     at_with_row_other site_name site (λ s. record { site = with_counter counter s.site; pages = with_pages puts s.pages }) (λ _ _. refl) n state other
@@ -41,7 +36,7 @@ others_stay n (AddJudgement site page j outcomes) state other =
 
 abbrev pub Names : List ℕ → Option Change → Type 0
 Names site None = Unit {0}
-Names site (Some c) = site_in c ≡ site
+Names site (Some c) = site_changed c ≡ site
 
 module _ (caller site : List ℕ) (kept : Option SiteState) where
   page_names : (page : List ℕ) (reply : PageState → Reply) → Brings (Names site) (read_page caller page kept reply)
@@ -61,15 +56,32 @@ names_by book caller (command.PutPage site page rev raw) kept =
 names_by book caller (command.DropPage site page rev) kept =
     entering_brings (Names site) needed.Editor caller kept _ (λ s _ _.
     on_page_brings (Names site) page s (drop_page site page rev) (λ p _. drop_page_brings (Names site) site page rev p (λ _. refl)))
+names_by book caller (command.Import site entries) kept =
+    entering_brings (Names site) needed.Editor caller kept _ (λ s _ _. import_brings (Names site) book site caller entries s (λ _ _ _ _. refl))
 names_by book caller (command.EditPage site page rev edits) kept =
     entering_brings (Names site) needed.Editor caller kept _ (λ s _ _.
     on_page_brings (Names site) page s (edit_page book site caller page rev edits s.site) (λ p _.
     edit_page_brings (Names site) book site caller page rev edits s.site p (λ _ _ _ _. refl)))
+names_by book caller (command.Judge site page rule node verdict seen note) kept =
+    entering_brings (Names site) needed.Judge caller kept _ (λ s _ _.
+    on_page_brings (Names site) page s (judge book site caller page rule node verdict seen note) (λ p _.
+    judge_brings (Names site) book site caller page rule node verdict seen note p (λ _ _. (λ _. tt, λ _. refl))))
 names_by book caller (command.GetPage site page) kept = page_names caller site kept page _
 names_by book caller (command.GetOutcomes site page) kept = page_names caller site kept page _
 names_by book caller (command.GetReport site page) kept = page_names caller site kept page _
 names_by book caller (command.GetEarl site page) kept = page_names caller site kept page _
 names_by book caller (command.GetNames site page) kept = page_names caller site kept page _
+names_by book caller (command.SiteReport site) kept = site_names caller site kept _
+names_by book caller (command.SiteEarl site) kept = site_names caller site kept _
+names_by book caller (command.SiteCsv site) kept = site_names caller site kept _
+
+pub decided_names : (book : Book) (q : Request) (state : State) → Brings (Names (site_of q.command)) (decided book q state)
+decided_names book q state = names_by book q.caller q.command (site_at (site_of q.command) state)
+
+-- so the rows of the others stay
+pub rows_stay : (site : List ℕ) (change : Option Change) (t : Tables) → Names site change → OthersStay site t (made change t)
+rows_stay site None t names n other = refl
+rows_stay site (Some c) t names n other = rows.others_stay c t n (λ same. other (same ∙ names))
 
 stays_after : (n site : List ℕ) (change : Option Change) (state : State) → Names site change → (n ≡ site → ⊥) → site_at n (after change state) ≡ site_at n state
 stays_after n site None state names other = refl
@@ -82,7 +94,7 @@ stays_stepped n site (Err refusal) state names other = refl
 -- a request leaves all sites but the one that it names
 pub other_sites_stay : (book : Book) (q : Request) (state : State) (n : List ℕ) → (n ≡ site_of q.command → ⊥) → site_at n (step book state q).0 ≡ site_at n state
 other_sites_stay book q state n other =
-    stays_stepped n (site_of q.command) (decided book q state) state (names_by book q.caller q.command (site_at (site_of q.command) state)) other
+    stays_stepped n (site_of q.command) (decided book q state) state (decided_names book q state) other
 
 -- what is decided depends on the row of the named site alone
 pub decided_by_site : (book : Book) (q : Request) (one other : State) → site_at (site_of q.command) one ≡ site_at (site_of q.command) other → decided book q one ≡ decided book q other

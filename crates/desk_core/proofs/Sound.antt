@@ -8,8 +8,10 @@ use Rattle.judge_core.specs.declared.outcomes.Outcomes.{Outcomes}
 use Rattle.judge_core.specs.Books.{Book}
 use Rattle.judge_core.specs.Outcomes.{outcomes}
 use Rattle.named_rows.specs.ByName.{at, put_rows, with_row}
-use Rattle.named_rows.proofs.Lookups.{all_at, all_put, all_put_rows, all_take, all_with_row}
+use Rattle.named_rows.proofs.Lookups.{all_at, all_put, all_put_rows, all_take, all_with_row, all_with_found}
 use Rattle.named_rows.proofs.Order.{in_order_none, in_order_put, in_order_put_rows, in_order_take, in_order_with_row}
+use Rattle.named_rows.proofs.Pairs.{pairs_none, pairs_take, pairs_with_row}
+use Rattle.named_rows.proofs.Lengths.{length_take, length_with_row}
 use Rattle.keep_core.specs.declared.member.MemberRole.{MemberRole}
 use Rattle.keep_core.specs.declared.site.Site.{Site}
 use Rattle.keep_core.specs.declared.page.PagePut.{PagePut}
@@ -23,7 +25,6 @@ use Rattle.keep_core.specs.Fits.{FitsPage, FitsPages, FitsKept}
 use Rattle.desk_core.specs.declared.limits.TheConstants.{MOST_PAGES}
 use Rattle.desk_core.specs.Members.{new_site, site_with, members_with}
 use Rattle.desk_core.specs.Soundness.{has_owner, IsSoundPage, IsSoundSite, IsSound}
-use Rattle.desk_core.proofs.Rows.{pairs_none, pairs_take, pairs_with_row, all_with_found, length_take, length_with_row}
 use Rattle.desk_core.proofs.Owners.{Owns, owner_stays}
 use Rattle.desk_core.proofs.Fitted.{new_site_fits, site_with_fits}
 use Rattle.desk_core.proofs.SoundPages.{Given, Differ, SoundPages}

@@ -14,6 +14,8 @@ use Rattle.judge_core.specs.Books.{Book}
 use Rattle.judge_core.specs.Outcomes.{outcomes}
 use Rattle.named_rows.specs.ByName.{at, put_row, put_rows}
 use Rattle.named_rows.proofs.Lookups.{all_put, at_put, at_put_other}
+use Rattle.named_rows.proofs.Pairs.{pairs_put}
+use Rattle.named_rows.proofs.Lengths.{more_by, length_put}
 use Rattle.keep_core.specs.declared.tables.KeptPage.{KeptPage}
 use Rattle.keep_core.specs.Tables.{page_name}
 use Rattle.keep_core.specs.Changes.{put_over}
@@ -26,7 +28,6 @@ use Rattle.desk_core.specs.Pages.{judged, has_room, page_put}
 use Rattle.desk_core.specs.Imports.{new_pages, first_fault, puts}
 use Rattle.desk_core.specs.Soundness.{rev_in, IsGiven, IsSoundPage}
 use Rattle.desk_core.proofs.Views.{page_seen, judged_seen, same_or_other}
-use Rattle.desk_core.proofs.Rows.{pairs_put, more_by, length_put}
 
 abbrev pub Given : ℕ → KeptPage → Type 0
 Given counter p = IsGiven counter (rev_in p)

@@ -1,5 +1,5 @@
 -- What follows from what is read of the tables: of a site's row, and of a page.
-use Rattle.std.proofs.Common.{◌≡◌, ℕ, List, map, length, Bool, true, false, Option, Some, None, option_map, Result, Ok, Err, refl, sym, ap, subst, ◌∙◌}
+use Rattle.std.proofs.Common.{◌≡◌, ℕ, List, true, false, Option, Some, None, option_map, Err, refl, sym, ap, ◌∙◌}
 use Rattle.named_rows.specs.ByName.{at}
 use Rattle.keep_core.specs.declared.fault.KeepFault.{KeepFault}
 use Rattle.keep_core.specs.declared.fault.KeepFault.TheVariants as keep
@@ -11,11 +11,10 @@ use Rattle.keep_core.specs.Tables.{Tables, kept_site, kept_page, pages_in, pages
 use Rattle.keep_core.specs.Tables as kept
 use Rattle.judge_core.specs.declared.judgement.Judgement.{Judgement}
 use Rattle.desk_core.specs.declared.refusal.Needed.{Needed}
-use Rattle.desk_core.specs.declared.refusal.Refusal.{Refusal}
 use Rattle.desk_core.specs.declared.refusal.Refusal.TheVariants.{NoSite, NotAllowed, NoPage}
 use Rattle.desk_core.specs.Refusals.{Decision, of_keep_fault, unless, on}
 use Rattle.desk_core.specs.State.{PageState, SiteState, page_state, site_state, state_of, site_at, page_at}
-use Rattle.desk_core.specs.Rights.{may, role_of, allowed, entering, on_page}
+use Rattle.desk_core.specs.Rights.{may, role_of, entering, on_page}
 use Rattle.desk_core.specs.Serving.{Stands, IsIn, page_in}
 use Rattle.desk_core.proofs.Views.{site_seen, page_seen}
 

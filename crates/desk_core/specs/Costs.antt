@@ -1,5 +1,5 @@
 -- How many judgings a request may cost: those of the pages that it audits.
-use Rattle.std.specs.Prelude.{ℕ, List, sum_by, option_map, Option, Some, None, Result, Ok, Err}
+use Rattle.std.specs.Prelude.{◌≡◌, ℕ, ◌+◌, ◌≤◌, List, sum_by, Option, Some, None, Result, Ok, Err}
 use Rattle.std.specs.Option.{option_map_or}
 use Rattle.snap_tree.specs.declared.row.Raw.{Raw}
 use Rattle.snap_tree.specs.Trees.{Trees, Document, with_trees}
@@ -10,12 +10,13 @@ use Rattle.snap_edit.specs.declared.fault.EditFault.{EditFault}
 use Rattle.snap_edit.specs.Edits.{edited_all}
 use Rattle.judge_core.specs.Books.{Book}
 use Rattle.judge_core.specs.Outcomes.{judgings}
+use Rattle.keep_core.specs.Tables.{Tables}
 use Rattle.desk_core.specs.declared.command.Entry.{Entry}
 use Rattle.desk_core.specs.declared.command.Command.{Command}
 use Rattle.desk_core.specs.declared.command.Command.TheVariants as command
 use Rattle.desk_core.specs.Imports.{first_fault}
-use Rattle.desk_core.specs.State.{PageState, SiteState, State, page_at, site_at}
-use Rattle.desk_core.specs.Steps.{Request}
+use Rattle.desk_core.specs.State.{PageState, SiteState, state_of, page_at, site_at}
+use Rattle.desk_core.specs.Steps.{site_of}
 
 -- a page that is put is audited where its rows make a tree
 abbrev pub put_judgings : Book → Raw → ℕ
@@ -40,5 +41,16 @@ at_page page (Some s) f = option_map_or f (page_at page s.pages) 0
 -- the judgings of a command in the site that it names
 abbrev pub command_judgings : Book → Command → Option SiteState → ℕ
 command_judgings book (command.PutPage site page rev raw) kept = put_judgings book raw
+command_judgings book (command.Import site entries) kept = import_judgings book entries
 command_judgings book (command.EditPage site page rev edits) kept = at_page page kept (edit_judgings book edits)
 command_judgings book other kept = 0
+
+abbrev pub IsEdit : Command → Type 0
+IsEdit (command.EditPage site page rev edits) = Unit {0}
+IsEdit other = ⊥
+
+-- a request judges no more than its command may: in the site as it was kept, where the tables are told at its end, and wherever
+-- that doesn't depend on what is kept
+pub record Costs (book : Book) (command : Command) (old new : Option Tables) (from to : ℕ) : Type 0 where
+  pub told : (s t : Tables) → old ≡ Some s → new ≡ Some t → to ≤ from + command_judgings book command (site_at (site_of command) (state_of s))
+  pub untold : (IsEdit command → ⊥) → to ≤ from + command_judgings book command None

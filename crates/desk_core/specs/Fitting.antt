@@ -45,11 +45,16 @@ FitsParts book (command.PutMember site user held) = IsTrue (is_name user)
 FitsParts book (command.PutPage site page rev raw) = FitsPut page rev raw.address
 FitsParts book (command.GetPage site page) = IsTrue (is_name page)
 FitsParts book (command.DropPage site page rev) = FitsRev page rev
+FitsParts book (command.Import site entries) = FitsEntries entries
 FitsParts book (command.EditPage site page rev edits) = FitsRev page rev
+FitsParts book (command.Judge site page rule node verdict seen note) = FitsJudging book page rule note
 FitsParts book (command.GetOutcomes site page) = IsTrue (is_name page)
 FitsParts book (command.GetReport site page) = IsTrue (is_name page)
 FitsParts book (command.GetEarl site page) = IsTrue (is_name page)
 FitsParts book (command.GetNames site page) = IsTrue (is_name page)
+FitsParts book (command.SiteReport site) = Unit {0}
+FitsParts book (command.SiteEarl site) = Unit {0}
+FitsParts book (command.SiteCsv site) = Unit {0}
 
 pub record FitsRequest (book : Book) (q : Request) : Type 0 where
   pub caller : IsTrue (is_name q.caller)

@@ -1,5 +1,5 @@
 -- Imports: what is decided on many pages at once.
-use Rattle.std.specs.Prelude.{ℕ, ◌+◌, List, [], ◌∷◌, length, map, ◌==◌, Bool, nat_le, if◌then◌else◌, Option, Some, None, is_none, option_map, Ok, count_by}
+use Rattle.std.specs.Prelude.{ℕ, ◌+◌, List, [], ◌∷◌, length, map, ◌==◌, nat_le, if◌then◌else◌, Option, Some, None, is_none, option_map, Ok, count_by}
 use Rattle.std.specs.Option.{option_or}
 use Rattle.snap_tree.specs.Grown.{page_of}
 use Rattle.snap_tree.specs.Faults.{tree_fault}

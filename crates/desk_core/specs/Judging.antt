@@ -1,5 +1,5 @@
 -- Judgements: what is decided on one.
-use Rattle.std.specs.Prelude.{ℕ, List, [], ◌∷◌, ◌++◌, Bool, not, false, if◌then◌else◌, Option, Some, None, Ok, reverse}
+use Rattle.std.specs.Prelude.{◌≡◌, ℕ, List, [], ◌∷◌, ◌++◌, Bool, not, false, if◌then◌else◌, Some, None, Ok, reverse}
 use Rattle.std.specs.Option.{option_map_or}
 use Rattle.std.specs.List.{find}
 use Rattle.std.specs.Str.{bytes_eq}
@@ -15,7 +15,8 @@ use Rattle.judge_core.specs.Equality.{same_judgement}
 use Rattle.judge_core.specs.Judgements.{is_on}
 use Rattle.judge_core.specs.Outcomes.{outcomes}
 use Rattle.judge_core.specs.RowLookups.{row_at}
-use Rattle.keep_core.specs.declared.change.Change.TheVariants.{AddJudgement}
+use Rattle.keep_core.specs.declared.change.Change.{Change}
+use Rattle.keep_core.specs.declared.change.Change.TheVariants.{PutSite, PutPages, DropPage, AddJudgement}
 use Rattle.desk_core.specs.declared.refusal.Refusal.TheVariants as refusal
 use Rattle.desk_core.specs.declared.reply.Reply.TheVariants as reply
 use Rattle.desk_core.specs.Refusals.{Decision, unless, on}
@@ -36,11 +37,23 @@ added book site page j kept =
       reply = answer;
     })
 
--- what is judged is an open outcome whose evidence the judge saw, of a page that another sent
+-- what follows with the row that is judged: an open one whose evidence the judge saw, of a page that another sent
+abbrev pub judged_row : List OutRow → List ℕ → List ℕ → RuleNo → NodeId → List ℕ → (OutRow → Decision) → Decision
+judged_row rows hand caller rule node seen next =
+    on (row_at rule node rows) refusal.NoTarget (λ row.
+    unless (is_open row.auto) (refusal.NotOpen row.auto) (
+    unless (not (bytes_eq caller hand)) refusal.SameHand (
+    unless (bytes_eq seen (digest row.evidence)) (refusal.EvidenceMoved (digest row.evidence)) (next row))))
+
+-- the evidence that is judged is that of the outcome now
 abbrev pub judge : Book → List ℕ → List ℕ → List ℕ → RuleNo → NodeId → Auto → List ℕ → List ℕ → PageState → Decision
 judge book site caller page rule node verdict seen note kept =
-    on (row_at rule node (outcomes book kept.page.tree kept.judgements)) refusal.NoTarget (λ row.
-    unless (is_open row.auto) (refusal.NotOpen row.auto) (
-    unless (not (bytes_eq caller kept.page.head.hand)) refusal.SameHand (
-    unless (bytes_eq seen (digest row.evidence)) (refusal.EvidenceMoved (digest row.evidence)) (
-    added book site page (record { rule = rule; node = node; verdict = verdict; hand = caller; note = note; evidence = row.evidence }) kept))))
+    judged_row (outcomes book kept.page.tree kept.judgements) kept.page.head.hand caller rule node seen (λ row.
+    added book site page (record { rule = rule; node = node; verdict = verdict; hand = caller; note = note; evidence = row.evidence }) kept)
+
+-- a change adds a judgement to this page
+abbrev pub AddsTo : List ℕ → List ℕ → Change → Type 0
+AddsTo site page (PutSite s) = ⊥
+AddsTo site page (PutPages s counter pages) = ⊥
+AddsTo site page (DropPage s p) = ⊥
+AddsTo site page (AddJudgement s p judgement outcomes) = (s ≡ site) × (p ≡ page)

@@ -14,5 +14,7 @@ pub mod Soundness
 pub mod Costs
 pub mod Runs
 pub mod Serving
+pub mod Sheets
+pub mod Placing
 pub mod Once
 pub mod Revisions

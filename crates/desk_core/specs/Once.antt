@@ -13,11 +13,16 @@ IsOnce (command.PutMember site user held) = ⊥
 IsOnce (command.PutPage site page rev raw) = Unit {0}
 IsOnce (command.GetPage site page) = ⊥
 IsOnce (command.DropPage site page rev) = Unit {0}
+IsOnce (command.Import site entries) = Unit {0}
 IsOnce (command.EditPage site page rev edits) = Unit {0}
+IsOnce (command.Judge site page rule node verdict seen note) = ⊥
 IsOnce (command.GetOutcomes site page) = ⊥
 IsOnce (command.GetReport site page) = ⊥
 IsOnce (command.GetEarl site page) = ⊥
 IsOnce (command.GetNames site page) = ⊥
+IsOnce (command.SiteReport site) = ⊥
+IsOnce (command.SiteEarl site) = ⊥
+IsOnce (command.SiteCsv site) = ⊥
 
 -- a request is refused
 abbrev pub IsRefused : Decision → Type 0
@@ -40,5 +45,6 @@ abbrev pub IsFor : Command → Refusal → Type 0
 IsFor (command.PutSite site) r = r ≡ refusal.SiteExists
 IsFor (command.PutPage site page rev raw) r = IsBehind r
 IsFor (command.DropPage site page rev) r = r ≡ refusal.NoPage
+IsFor (command.Import site entries) r = IsBehind r
 IsFor (command.EditPage site page rev edits) r = IsBehind r
 IsFor c r = ⊥

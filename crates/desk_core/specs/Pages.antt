@@ -1,8 +1,7 @@
 -- Pages of a site: what is decided on putting, editing and dropping one.
-use Rattle.std.specs.Prelude.{ℕ, ◌+◌, List, [], ◌∷◌, length, ◌==◌, ◌||◌, Bool, nat_lt, nat_le, if◌then◌else◌, Option, Some, None, is_some, Result, Ok, Err}
+use Rattle.std.specs.Prelude.{ℕ, ◌+◌, List, [], ◌∷◌, ◌==◌, ◌||◌, Bool, nat_lt, nat_le, Option, Some, None, is_some, Result, Ok, Err}
 use Rattle.std.specs.Option.{option_map_or}
 use Rattle.snap_tree.specs.declared.row.Raw.{Raw}
-use Rattle.snap_tree.specs.declared.fault.TreeFault.{TreeFault}
 use Rattle.snap_tree.specs.Trees.{Trees, Document, with_trees}
 use Rattle.snap_tree.specs.Grown.{page_of}
 use Rattle.snap_tree.specs.Faults.{tree_fault}
@@ -18,7 +17,6 @@ use Rattle.keep_core.specs.declared.page.PagePut.{PagePut}
 use Rattle.keep_core.specs.declared.change.Change.TheVariants.{PutPages, DropPage}
 use Rattle.desk_core.specs.declared.limits.TheConstants.{MOST_PAGES, MOST_REVISION}
 use Rattle.desk_core.specs.declared.refusal.Limit.TheVariants as limit
-use Rattle.desk_core.specs.declared.refusal.Refusal.{Refusal}
 use Rattle.desk_core.specs.declared.refusal.Refusal.TheVariants as refusal
 use Rattle.desk_core.specs.declared.reply.Stored.{Stored}
 use Rattle.desk_core.specs.declared.reply.Reply.TheVariants as reply

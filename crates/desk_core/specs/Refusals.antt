@@ -1,5 +1,5 @@
 -- Refusals, and the one order in which they are looked for.
-use Rattle.std.specs.Prelude.{Bool, if◌then◌else◌, Option, Some, None, Result, Ok, Err}
+use Rattle.std.specs.Prelude.{Bool, if◌then◌else◌, Option, Some, None, Result, Err}
 use Rattle.keep_core.specs.declared.fault.KeepFault.{KeepFault}
 use Rattle.keep_core.specs.declared.fault.KeepFault.TheVariants as kept
 use Rattle.desk_core.specs.declared.refusal.Refusal.{Refusal}

@@ -36,11 +36,16 @@ Carries page rev (command.PutMember site user held) = ⊥
 Carries page rev (command.PutPage site p r raw) = (p ≡ page) × (r ≡ rev)
 Carries page rev (command.GetPage site p) = ⊥
 Carries page rev (command.DropPage site p r) = (p ≡ page) × (r ≡ rev)
+Carries page rev (command.Import site entries) = HasEntry page rev entries
 Carries page rev (command.EditPage site p r edits) = (p ≡ page) × (r ≡ rev)
+Carries page rev (command.Judge site p rule node verdict seen note) = ⊥
 Carries page rev (command.GetOutcomes site p) = ⊥
 Carries page rev (command.GetReport site p) = ⊥
 Carries page rev (command.GetEarl site p) = ⊥
 Carries page rev (command.GetNames site p) = ⊥
+Carries page rev (command.SiteReport site) = ⊥
+Carries page rev (command.SiteEarl site) = ⊥
+Carries page rev (command.SiteCsv site) = ⊥
 
 -- and of these all but dropping put the page
 abbrev pub Puts : List ℕ → ℕ → Command → Type 0

@@ -7,7 +7,7 @@ use Rattle.judge_core.specs.Outcomes.{outcomes}
 use Rattle.keep_core.specs.declared.site.Site.{Site}
 use Rattle.keep_core.specs.declared.page.SitePage.{SitePage}
 use Rattle.keep_core.specs.declared.tables.KeptPage.{KeptPage}
-use Rattle.keep_core.specs.Tables.{Tables, site_of, kept_page, pages_of, outcomes_of}
+use Rattle.keep_core.specs.Tables.{Tables, kept_site, site_of, kept_page, pages_of, outcomes_of}
 use Rattle.keep_core.specs.Fits.{Fits, FitsSite, FitsPage, IsThere}
 use Rattle.keep_core.specs.Keeping.{Stays, Turns}
 use Rattle.keep_core.specs.declared.change.Change.{Change}
@@ -18,9 +18,11 @@ use Rattle.desk_core.specs.declared.look.Survey.{Survey}
 use Rattle.desk_core.specs.declared.refusal.Refusal.{Refusal}
 use Rattle.desk_core.specs.declared.refusal.Refusal.TheVariants.{NotAllowed, KeeperFault, OutOfMemory}
 use Rattle.desk_core.specs.declared.reply.Reply.{Reply}
+use Rattle.desk_core.specs.declared.reply.Reply.TheVariants.{Refused}
 use Rattle.desk_core.specs.Refusals.{Decision}
-use Rattle.desk_core.specs.State.{PageState, SiteState, State, page_state, state_of, site_at}
+use Rattle.desk_core.specs.State.{PageState, SiteState, page_state, state_of, site_at}
 use Rattle.desk_core.specs.Rights.{may, role_of, entering, on_page}
+use Rattle.desk_core.specs.Steps as steps
 use Rattle.desk_core.specs.Steps.{Request, read_page, decided}
 use Rattle.desk_core.specs.Reading.{answered, site_page}
 use Rattle.desk_core.specs.Soundness.{IsSound}
@@ -36,6 +38,14 @@ Stands fault refusal decision = decision ≡ Err refusal
 abbrev pub Agrees : Type 0 → Result Decided Refusal → Decision → Type 0
 Agrees fault (Ok d) decision = decision ≡ Ok d
 Agrees fault (Err refusal) decision = Stands fault refusal decision
+
+-- a reply that isn't a refusal, and an answer that has such a one
+abbrev pub IsAccepted : Reply → Type 0
+IsAccepted (Refused refusal) = ⊥
+IsAccepted other = Unit {0}
+
+abbrev pub Accepts : Result Decided Refusal → Type 0
+Accepts result = IfOk result (λ d. IsAccepted d.reply)
 
 -- tables are only read, and a keeper's fault is one that was counted
 pub record OnlyReads {A : Type 0} (old new : Option Tables) (before now : ℕ) (result : Result A Refusal) : Type 0 where
@@ -109,10 +119,10 @@ pub record FindsKept (leave : Needed) (caller site page : List ℕ) (old new : O
 abbrev pub IsTrueTo : Book → KeptPage → Type 0
 IsTrueTo book kept = kept.outcomes.rows ≡ outcomes book kept.page.tree kept.judgements
 
--- a page with its outcomes is shown by any reply that is made of it
-abbrev pub Shows : ((SitePage → Reply) → Decision) → Result SitePage Refusal → Type 0
-Shows decision (Ok shown) = (reply : SitePage → Reply) → decision reply ≡ answered (reply shown)
-Shows decision (Err refusal) = (reply : SitePage → Reply) → Stands (Unit {0}) refusal (decision reply)
+-- what was read, as a page with its outcomes, is shown by any reply that is made of it
+abbrev pub Shows : {A : Type 0} → ((A → Reply) → Decision) → Result A Refusal → Type 0
+Shows {A} decision (Ok shown) = (reply : A → Reply) → decision reply ≡ answered (reply shown)
+Shows {A} decision (Err refusal) = (reply : A → Reply) → Stands (Unit {0}) refusal (decision reply)
 
 -- a page with its outcomes is read, by any member
 pub record ReadsPage (book : Book) (caller site page : List ℕ) (old new : Option Tables) (before now : ℕ) (result : Result SitePage Refusal) : Type 0 where
@@ -127,12 +137,20 @@ pub record Decides (book : Book) (request : Request) (old new : Option Tables) (
   pub agrees : (t : Tables) → new ≡ Some t → IsSound book t → Agrees (Unit {0}) result (decided book request (state_of t))
   pub fits : IfOk result (λ d. IfSome d.change Fits)
   pub there : IfOk result (λ d. IfSome d.change (λ change. IfSome new (IsThere change)))
+  pub accepted : Accepts result
 
--- a request is served: where the tables that are told were sound, they are sound, and the reply is the machine's
+-- the rows of all sites but one stay
+abbrev pub OthersStay : List ℕ → Tables → Tables → Type 0
+OthersStay site old new = (n : List ℕ) → (n ≡ site → ⊥) → kept_site n new ≡ kept_site n old
+
+-- a request is served: where the tables that are told were sound, they are sound, the reply is the machine's, and the rows of all
+-- other sites stay. The keeper's fault is answered only where it was counted, whether the tables are told or not
 pub record Serves (book : Book) (request : Request) (old new : Option Tables) (before now : ℕ) (reply : Reply) : Type 0 where
   pub told :
       (t : Tables) → new ≡ Some t → (s : Tables) × (old ≡ Some s) × (IsSound book s → IsSound book t × Answers book (state_of s) request reply (state_of t) before now)
+  pub others : (s t : Tables) → old ≡ Some s → new ≡ Some t → IsSound book s → OthersStay (steps.site_of request.command) s t
   pub never_falls : before ≤ now
+  pub failed : reply ≡ Refused KeeperFault → Rose before now
 
 -- the tables after a change, or as they were without one
 abbrev pub TurnsBy : Option Change → Option Tables → Option Tables → Type 0

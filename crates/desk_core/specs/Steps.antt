@@ -28,11 +28,16 @@ site_of (command.PutMember site user held) = site
 site_of (command.PutPage site page rev raw) = site
 site_of (command.GetPage site page) = site
 site_of (command.DropPage site page rev) = site
+site_of (command.Import site entries) = site
 site_of (command.EditPage site page rev edits) = site
+site_of (command.Judge site page rule node verdict seen note) = site
 site_of (command.GetOutcomes site page) = site
 site_of (command.GetReport site page) = site
 site_of (command.GetEarl site page) = site
 site_of (command.GetNames site page) = site
+site_of (command.SiteReport site) = site
+site_of (command.SiteEarl site) = site
+site_of (command.SiteCsv site) = site
 
 -- what any member may: to ask for a page, and for a site
 abbrev pub read_page : List ℕ → List ℕ → Option SiteState → (PageState → Reply) → Decision
@@ -50,13 +55,19 @@ decision book caller (command.PutPage site page rev raw) kept =
     entering needed.Editor caller kept (λ s. put_page book site caller page rev raw s.site (page_at page s.pages) (length s.pages))
 decision book caller (command.DropPage site page rev) kept =
     entering needed.Editor caller kept (λ s. on_page page s (drop_page site page rev))
+decision book caller (command.Import site entries) kept = entering needed.Editor caller kept (import book site caller entries)
 decision book caller (command.EditPage site page rev edits) kept =
     entering needed.Editor caller kept (λ s. on_page page s (edit_page book site caller page rev edits s.site))
+decision book caller (command.Judge site page rule node verdict seen note) kept =
+    entering needed.Judge caller kept (λ s. on_page page s (judge book site caller page rule node verdict seen note))
 decision book caller (command.GetPage site page) kept = read_page caller page kept (λ p. reply.Page p.page)
 decision book caller (command.GetOutcomes site page) kept = read_page caller page kept (λ p. reply.Outcomes (site_page book p))
 decision book caller (command.GetReport site page) kept = read_page caller page kept (λ p. reply.Report (site_page book p))
 decision book caller (command.GetEarl site page) kept = read_page caller page kept (λ p. reply.Earl (site_page book p))
 decision book caller (command.GetNames site page) kept = read_page caller page kept (λ p. reply.Names p.page.tree)
+decision book caller (command.SiteReport site) kept = read_site caller kept (λ s. reply.SiteReport (sheet book site s))
+decision book caller (command.SiteEarl site) kept = read_site caller kept (λ s. reply.SiteEarl (sheet book site s))
+decision book caller (command.SiteCsv site) kept = read_site caller kept (λ s. reply.SiteCsv (sheet book site s))
 
 -- what is decided on a request in a state: it depends on the rows of the named site alone
 abbrev pub decided : Book → Request → State → Decision

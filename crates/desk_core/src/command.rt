@@ -1,6 +1,7 @@
 use keep_core::MemberRole;
+use rule_core::{Auto, RuleNo};
 use snap_edit::Edit;
-use snap_tree::{List, Raw, Text};
+use snap_tree::{List, NodeId, Raw, Text};
 
 /// A page of an import.
 #[derive(Debug, Drop)]
@@ -41,12 +42,27 @@ pub enum Command {
         page: Text,
         rev: u64,
     },
+    /// Puts pages in, all or none.
+    Import {
+        site: Text,
+        entries: List<Entry>,
+    },
     /// Edits a page.
     EditPage {
         site: Text,
         page: Text,
         rev: u64,
         edits: List<Edit>,
+    },
+    /// Judges a rule on a node of a page, by the digest of the evidence that was seen.
+    Judge {
+        site: Text,
+        page: Text,
+        rule: RuleNo,
+        node: NodeId,
+        verdict: Auto,
+        digest: [u8; 32],
+        note: Text,
     },
     GetOutcomes {
         site: Text,
@@ -63,5 +79,14 @@ pub enum Command {
     GetNames {
         site: Text,
         page: Text,
+    },
+    SiteReport {
+        site: Text,
+    },
+    SiteEarl {
+        site: Text,
+    },
+    SiteCsv {
+        site: Text,
     },
 }

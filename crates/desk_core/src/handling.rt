@@ -1,7 +1,5 @@
-ghost use Rattle.std.specs.Prelude.{◌≡◌, ◌+◌, ◌<◌, ◌≤◌, length, sum_by, Some};
-ghost use Rattle.keep_core.specs.Tables.{Tables};
-ghost use Rattle.desk_core.specs.State.{state_of, site_at};
-ghost use Rattle.desk_core.specs.Steps.{site_of};
+ghost use Rattle.std.specs.Prelude.{◌<◌, length, sum_by};
+ghost use Rattle.desk_core.specs.Costs.{Costs};
 ghost use Rattle.desk_core.specs.Fitting.{FitsRequest};
 ghost use Rattle.desk_core.specs.Serving.{Decides, Serves};
 
@@ -10,24 +8,36 @@ use crate::commit::commit;
 use crate::decided::Decided;
 use crate::drop_page::drop_page;
 use crate::edit_page::edit_page;
+use crate::import::import;
+use crate::judge::{Said, judge};
 use crate::members::{put_member, put_site};
 use crate::put_page::put_page;
-use crate::reads::{get_earl, get_names, get_outcomes, get_page, get_report};
+use crate::reads::{Showing, get_names, get_page, get_shown};
 use crate::refusal::Refusal;
 use crate::reply::Reply;
 use crate::sent::Sent;
+use crate::sheets::{SheetForm, get_sheet};
 use keep_core::Keeper;
 use rule_core::RuleBook;
 use snap_tree::Text;
 use std::alloc::Global;
+use std::thread::Threads;
 
-/// Handles one request of a caller, which fits: its names are names, its addresses web addresses, its
-/// numbers within their limits, and its rule is an atomic one of the book. There is at least one book.
+/// Handles one request of a caller and gives the reply. The request fits: its names are names, its addresses
+/// web addresses, its revisions and its note within their limits, and the rule that it judges is an atomic
+/// one of the book. There is at least one book: an import is audited by all of them, each in a thread of its
+/// own, and everything else is by the first.
 ///
-/// Where the keeper tells its tables and they are sound, they are sound afterwards, and the reply and the
-/// change are the machine's, or the request fails and changes nothing: with `KeeperFault`, where the
-/// keeper's count of faults rose in this request, or with `OutOfMemory`.
-pub fn handle<K: Keeper, B: RuleBook>(
+/// Where the keeper tells its tables and they were sound, they are sound afterwards, the reply and the
+/// change are the machine's, and the rows of all other sites stay. Or the request fails and changes nothing:
+/// with `KeeperFault`, where the keeper's count of faults rose in this request, which holds of tables that
+/// aren't told too, or with `OutOfMemory`.
+///
+/// The books judge at most: where rows make trees, each atomic rule on each node of a page that is put or
+/// imported, accepted or not; of an edited page the same, where the edits can be carried out; and for every
+/// other request nothing. What an edited page costs is said where the tables are told.
+pub fn handle<R: Threads + Sync, K: Keeper, B: RuleBook + Send>(
+    rt: &R,
     alloc: Global,
     books: &mut [B],
     keeper: &mut K,
@@ -36,16 +46,21 @@ pub fn handle<K: Keeper, B: RuleBook>(
 ) -> Reply
     requires some { 0 < length books.old }
     requires fits { FitsRequest (record { infos = B.infos; means = B.means }) (record { caller = caller.now; command = command }) }
-    ensures { Serves (record { infos = B.infos; means = B.means }) (record { caller = caller.now; command = command })
+    ensures served { Serves (record { infos = B.infos; means = B.means }) (record { caller = caller.now; command = command })
         (K.tables keeper.old) (K.tables keeper.new) (K.faults keeper.old) (K.faults keeper.new) result }
+    ensures counted { Costs (record { infos = B.infos; means = B.means }) command
+        (K.tables keeper.old) (K.tables keeper.new) (sum_by B.calls books.old) (sum_by B.calls books.new) }
 {
-    match decide(alloc, books, keeper, caller, command) {
+    match decide(rt, alloc, books, keeper, caller, command) {
         Ok(decided) => commit(alloc, keeper, decided),
         Err(refusal) => Reply::Refused(refusal),
     }
 }
 
-fn decide<K: Keeper, B: RuleBook>(
+// What is decided on a request. Its change isn't made yet.
+#[tactic(auto, using(crate::proofs::Costing::costs_nothing))]
+fn decide<R: Threads + Sync, K: Keeper, B: RuleBook + Send>(
+    rt: &R,
     alloc: Global,
     books: &mut [B],
     keeper: &mut K,
@@ -54,8 +69,10 @@ fn decide<K: Keeper, B: RuleBook>(
 ) -> Result<Decided, Refusal>
     requires some { 0 < length books.old }
     requires fits { FitsRequest (record { infos = B.infos; means = B.means }) (record { caller = caller.now; command = command }) }
-    ensures { Decides (record { infos = B.infos; means = B.means }) (record { caller = caller.now; command = command })
+    ensures decided { Decides (record { infos = B.infos; means = B.means }) (record { caller = caller.now; command = command })
         (K.tables keeper.old) (K.tables keeper.new) (K.faults keeper.old) (K.faults keeper.new) result }
+    ensures counted { Costs (record { infos = B.infos; means = B.means }) command
+        (K.tables keeper.old) (K.tables keeper.new) (sum_by B.calls books.old) (sum_by B.calls books.new) }
 {
     match command {
         Command::PutSite { site } => put_site(alloc, keeper, caller, site),
@@ -75,6 +92,9 @@ fn decide<K: Keeper, B: RuleBook>(
             let sent = Sent { site, page, rev };
             drop_page(alloc, keeper, caller, sent)
         }
+        Command::Import { site, entries } => {
+            import(rt, alloc, books, keeper, caller, site, entries)
+        }
         Command::EditPage {
             site,
             page,
@@ -84,10 +104,37 @@ fn decide<K: Keeper, B: RuleBook>(
             let sent = Sent { site, page, rev };
             edit_page(alloc, books, keeper, caller, sent, edits)
         }
+        Command::Judge {
+            site,
+            page,
+            rule,
+            node,
+            verdict,
+            digest,
+            note,
+        } => {
+            let said = Said {
+                rule,
+                node,
+                verdict,
+                digest,
+                note,
+            };
+            judge(alloc, &books[0], keeper, caller, site, page, said)
+        }
         Command::GetPage { site, page } => get_page(alloc, keeper, caller, &site, &page),
         Command::GetNames { site, page } => get_names(alloc, keeper, caller, &site, &page),
-        Command::GetOutcomes { site, page } => get_outcomes(alloc, keeper, caller, &site, &page),
-        Command::GetReport { site, page } => get_report(alloc, keeper, caller, &site, &page),
-        Command::GetEarl { site, page } => get_earl(alloc, keeper, caller, &site, &page),
+        Command::GetOutcomes { site, page } => {
+            get_shown(alloc, keeper, caller, &site, &page, Showing::Outcomes)
+        }
+        Command::GetReport { site, page } => {
+            get_shown(alloc, keeper, caller, &site, &page, Showing::Report)
+        }
+        Command::GetEarl { site, page } => {
+            get_shown(alloc, keeper, caller, &site, &page, Showing::Earl)
+        }
+        Command::SiteReport { site } => get_sheet(alloc, keeper, caller, site, SheetForm::Report),
+        Command::SiteEarl { site } => get_sheet(alloc, keeper, caller, site, SheetForm::Earl),
+        Command::SiteCsv { site } => get_sheet(alloc, keeper, caller, site, SheetForm::Csv),
     }
 }

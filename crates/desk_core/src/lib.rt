@@ -1,7 +1,9 @@
 //! The machine of the desk: one request at a time, from what is kept to what is kept after it. Start with
-//! `handle`. Its commands are those on sites, members and single pages: put, edit, drop and get.
+//! `handle`. Its commands are those on sites, members and pages: put, import, edit, judge, drop and get.
 #![tactic(auto)]
 
+mod arrival;
+mod built;
 mod command;
 mod commit;
 mod decided;
@@ -9,17 +11,21 @@ mod drop_page;
 mod edit_page;
 mod enter;
 mod handling;
+mod import;
+mod judge;
 mod laws;
 mod limits;
 mod look;
 mod members;
 mod page_state;
+mod placed;
 mod put_page;
 mod reads;
 mod refusal;
 mod reply;
 mod rights;
 mod sent;
+mod sheets;
 mod store;
 mod summaries;
 
@@ -33,8 +39,3 @@ pub use limits::{MOST_ENTRIES, MOST_NOTE, MOST_PAGES, MOST_REVISION};
 pub use page_state::PageState;
 pub use refusal::{Limit, Needed, Refusal};
 pub use reply::{Reply, Sheet, Stored, Summary};
-
-#[cfg(test)]
-mod samples;
-#[cfg(test)]
-mod tests;

@@ -1,7 +1,8 @@
 ghost use Rattle.std.specs.Prelude.{◌≡◌, None, IfOk};
 ghost use Rattle.judge_core.specs.Books.{Book};
-ghost use Rattle.desk_core.specs.declared.command.Command.TheVariants.{GetPage, GetNames, GetOutcomes, GetReport, GetEarl};
+ghost use Rattle.desk_core.specs.declared.command.Command.TheVariants.{GetPage, GetNames};
 ghost use Rattle.desk_core.specs.declared.reply.Reply.TheVariants as reply;
+ghost use Rattle.desk_core.specs.Reading.{shown_as, asked_as};
 ghost use Rattle.desk_core.specs.Serving.{Decides, ReadsPage};
 
 use crate::decided::Decided;
@@ -9,7 +10,8 @@ use crate::look::{find, find_kept};
 use crate::page_state::PageState;
 use crate::refusal::{Needed, Refusal};
 use crate::reply::Reply;
-use keep_core::{Keeper, KeptPage, SitePage};
+use judge_core::Outcomes;
+use keep_core::{Keeper, Page, SitePage};
 use snap_tree::{OutOfMemory, Text};
 use std::alloc::Global;
 
@@ -69,17 +71,16 @@ pub fn get_names<K: Keeper>(
     }
 }
 
-// A page with its outcomes.
-fn site_page(alloc: Global, kept: KeptPage) -> Result<SitePage, OutOfMemory>
+/// A page with its outcomes.
+pub fn site_page(alloc: Global, page: Page, outcomes: Outcomes) -> Result<SitePage, OutOfMemory>
     ensures { IfOk result
-        (λ p. p ≡ record { head = kept.page.head; address = kept.page.tree.address; outcomes = kept.outcomes }) }
+        (λ p. p ≡ record { head = page.head; address = page.tree.address; outcomes = outcomes }) }
 {
-    let page = kept.page;
     let address = page.tree.address().copy(alloc)?;
     Ok(SitePage {
         head: page.head,
         address,
-        outcomes: kept.outcomes,
+        outcomes,
     })
 }
 
@@ -95,60 +96,48 @@ fn read_page<K: Keeper>(
 {
     match find_kept(alloc, keeper, Needed::Reader, caller, site, page) {
         Ok(kept) => {
-            let shown = site_page(alloc, kept)?;
+            let shown = site_page(alloc, kept.page, kept.outcomes)?;
             Ok(shown)
         }
         Err(refusal) => Err(refusal),
     }
 }
 
-/// The outcomes of a page.
-pub fn get_outcomes<K: Keeper>(
-    alloc: Global,
-    keeper: &mut K,
-    caller: &Text,
-    site: &Text,
-    page: &Text,
-) -> Result<Decided, Refusal>
-    ensures { (book : Book) → Decides book (record { caller = caller.now; command = GetOutcomes site.now page.now })
-        (K.tables keeper.old) (K.tables keeper.new) (K.faults keeper.old) (K.faults keeper.new) result }
+/// How a page is shown with its outcomes.
+#[derive(Clone, Copy, Debug, PartialEq, Eq)]
+pub enum Showing {
+    /// As they are.
+    Outcomes,
+    /// In a report.
+    Report,
+    /// As EARL.
+    Earl,
+}
+
+fn shown_as(showing: Showing, shown: SitePage) -> Decided
+    ensures { result ≡ record { change = None; reply = shown_as showing shown } }
 {
-    match read_page(alloc, keeper, caller, site, page) {
-        Ok(shown) => Ok(answered(Reply::Outcomes(shown))),
-        Err(refusal) => Err(refusal),
+    match showing {
+        Showing::Outcomes => answered(Reply::Outcomes(shown)),
+        Showing::Report => answered(Reply::Report(shown)),
+        Showing::Earl => answered(Reply::Earl(shown)),
     }
 }
 
-/// A page with its outcomes, of which a report is wanted.
-pub fn get_report<K: Keeper>(
+/// A page with its outcomes, as it was asked for.
+pub fn get_shown<K: Keeper>(
     alloc: Global,
     keeper: &mut K,
     caller: &Text,
     site: &Text,
     page: &Text,
+    showing: Showing,
 ) -> Result<Decided, Refusal>
-    ensures { (book : Book) → Decides book (record { caller = caller.now; command = GetReport site.now page.now })
+    ensures { (book : Book) → Decides book (record { caller = caller.now; command = asked_as showing site.now page.now })
         (K.tables keeper.old) (K.tables keeper.new) (K.faults keeper.old) (K.faults keeper.new) result }
 {
     match read_page(alloc, keeper, caller, site, page) {
-        Ok(shown) => Ok(answered(Reply::Report(shown))),
-        Err(refusal) => Err(refusal),
-    }
-}
-
-/// A page with its outcomes, which are wanted as EARL.
-pub fn get_earl<K: Keeper>(
-    alloc: Global,
-    keeper: &mut K,
-    caller: &Text,
-    site: &Text,
-    page: &Text,
-) -> Result<Decided, Refusal>
-    ensures { (book : Book) → Decides book (record { caller = caller.now; command = GetEarl site.now page.now })
-        (K.tables keeper.old) (K.tables keeper.new) (K.faults keeper.old) (K.faults keeper.new) result }
-{
-    match read_page(alloc, keeper, caller, site, page) {
-        Ok(shown) => Ok(answered(Reply::Earl(shown))),
+        Ok(shown) => Ok(shown_as(showing, shown)),
         Err(refusal) => Err(refusal),
     }
 }

@@ -29,6 +29,3 @@ pub use names::is_name;
 pub use page::{Page, PageHead, PagePut, SitePage};
 pub use site::Site;
 pub use tables::{KeptPage, KeptSite};
-
-#[cfg(test)]
-mod tests;

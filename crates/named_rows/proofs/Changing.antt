@@ -1,5 +1,5 @@
 -- A row that is changed in its place.
-use Rattle.std.proofs.Common.{◌≡◌, ℕ, List, get_or, set, Result, Ok, Err, OnOk, refl, sym, ap, ◌∙◌}
+use Rattle.std.proofs.Common.{◌≡◌, ℕ, List, get_or, set, Result, Ok, Err, OnOk, sym, ap, ◌∙◌}
 use Rattle.named_rows.specs.ByName.{with_row}
 use Rattle.named_rows.specs.Placed.{StandsThere}
 

@@ -1,6 +1,9 @@
 pub mod Names
 pub mod Lookups
+pub mod Pairs
 pub mod Order
+pub mod Lengths
+pub mod Twice
 pub mod Views
 pub mod Places
 pub mod Changing

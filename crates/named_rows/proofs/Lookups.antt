@@ -1,12 +1,12 @@
 -- What is found by a name after a change, and what holds of each row.
-use Rattle.std.proofs.Common.{◌≡◌, ℕ, ◌<◌, List, [], ◌∷◌, length, Option, Some, None, option_map, IfSome, refl, sym, ap, ◌∙◌, arith}
+use Rattle.std.proofs.Common.{◌≡◌, ℕ, List, [], ◌∷◌, Option, Some, None, option_map, IfSome, refl, sym, ap, ◌∙◌}
 use Rattle.std.specs.declared.cmp.Ordering.{Ordering}
 use Rattle.std.specs.declared.cmp.Ordering.TheVariants.{Less, Equal, Greater}
-use Rattle.std.specs.Ordering.{match_ordering, ordering_reverse}
+use Rattle.std.specs.Ordering.{match_ordering}
 use Rattle.std.specs.List.{All}
-use Rattle.std.proofs.lemmas.List.Elements.{All-nil, All-cons, All-head, All-tail}
+use Rattle.std.proofs.lemmas.List.Elements.{All-cons, All-head, All-tail}
 use Rattle.named_rows.specs.ByName.{names_cmp, at, put_row, put_rows, take_row, with_row}
-use Rattle.named_rows.proofs.Names.{same_itself, same_name, turned, below_chain, chosen, through}
+use Rattle.named_rows.proofs.Names.{same_itself, same_name, below_chain, chosen}
 
 module _ {T : Type 0} (name : T → List ℕ) where
   -- a lookup past a row whose name is above the one that is looked for, and past one whose name is below
@@ -132,3 +132,16 @@ module _ {T : Type 0} (name : T → List ℕ) where
     pub all_with_row : (n : List ℕ) (f : T → T) (rows : List T) → ((s : T) → name s ≡ n → P s → P (f s)) → All P rows → All P (with_row name n f rows)
     all_with_row n f [] keeps all = all
     all_with_row n f (r ∷ rs) keeps all = all_with_row_by n f r rs (names_cmp n (name r)) refl keeps all (all_with_row n f rs keeps (All-tail P r rs all))
+
+  module _ (P : T → Type 0) (n : List ℕ) (f : T → T) where
+    found_by : (r : T) (rs : List T) (o : Ordering) → ((s : T) → match_ordering o None (Some r) (at name n rs) ≡ Some s → P s → P (f s)) → All P (r ∷ rs)
+        → (((s : T) → at name n rs ≡ Some s → P s → P (f s)) → All P (with_row name n f rs))
+        → All P (match_ordering o (r ∷ rs) (f r ∷ rs) (r ∷ with_row name n f rs))
+    found_by r rs Less keeps all below = all
+    found_by r rs Equal keeps all below = All-cons P (f r) rs (keeps r refl (All-head P r rs all)) (All-tail P r rs all)
+    found_by r rs Greater keeps all below = All-cons P r (with_row name n f rs) (All-head P r rs all) (below keeps)
+
+    -- what holds of each row, and of the one that is found when it is changed, holds of each then
+    pub all_with_found : (rows : List T) → ((s : T) → at name n rows ≡ Some s → P s → P (f s)) → All P rows → All P (with_row name n f rows)
+    all_with_found [] keeps all = all
+    all_with_found (r ∷ rs) keeps all = found_by r rs (names_cmp n (name r)) keeps all (λ below. all_with_found rs below (All-tail P r rs all))

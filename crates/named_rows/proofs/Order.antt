@@ -1,34 +1,32 @@
 -- What keeps rows in order, and what is found where one was taken out.
-use Rattle.std.proofs.Common.{◌≡◌, ℕ, zero, suc, ◌<◌, List, [], ◌∷◌, length, get_or, Option, Some, None, refl, sym, ap, ◌∙◌, subst, arith}
+use Rattle.std.proofs.Common.{◌≡◌, ℕ, List, [], ◌∷◌, get_or, Some, None, refl, sym, ap, ◌∙◌, arith}
 use Rattle.std.specs.declared.cmp.Ordering.{Ordering}
 use Rattle.std.specs.declared.cmp.Ordering.TheVariants.{Less, Equal, Greater}
 use Rattle.std.specs.Ordering.{match_ordering}
 use Rattle.std.specs.List.{All}
-use Rattle.std.proofs.lemmas.List.Elements.{All-cons, All-head, All-tail}
+use Rattle.std.proofs.lemmas.List.Elements.{All-cons, All-head}
+use Rattle.std.proofs.lemmas.List.Kept.{AllPairs-cons}
 use Rattle.named_rows.specs.ByName.{names_cmp, at, put_row, put_rows, take_row, with_row, IsInOrder}
 use Rattle.named_rows.proofs.Names.{same_itself, same_name, turned, below_chain}
-use Rattle.named_rows.proofs.Lookups.{not_reached, later, all_put, all_take, all_with_row}
+use Rattle.named_rows.proofs.Lookups.{not_reached, here, later, all_put, all_take, all_with_row}
+use Rattle.named_rows.proofs.Pairs.{pairs_none, pairs_first, pairs_rest}
 
 module _ {T : Type 0} (name : T → List ℕ) where
   -- a row whose name is below another's
   abbrev pub IsBelow : T → T → Type 0
   IsBelow r s = names_cmp (name r) (name s) ≡ Less
 
-  pub in_order_cons : (r : T) (rs : List T) → All (IsBelow r) rs → IsInOrder name rs
-      → (i j : ℕ) (d : T) → i < j → j < length (r ∷ rs) → IsBelow (get_or (r ∷ rs) i d) (get_or (r ∷ rs) j d)
-  in_order_cons r rs all order zero zero d lt within = absurd (omega arith)
-  in_order_cons r rs all order zero (suc j) d lt within = all j d (omega arith)
-  in_order_cons r rs all order (suc i) zero d lt within = absurd (omega arith)
-  in_order_cons r rs all order (suc i) (suc j) d lt within = order i j d (omega arith) (omega arith)
+  pub in_order_cons : (r : T) (rs : List T) → All (IsBelow r) rs → IsInOrder name rs → IsInOrder name (r ∷ rs)
+  in_order_cons r rs all order = AllPairs-cons IsBelow r rs all order
 
   pub in_order_first : (r : T) (rs : List T) → IsInOrder name (r ∷ rs) → All (IsBelow r) rs
-  in_order_first r rs order = λ k d within. order zero (suc k) d (omega arith) (omega arith)
+  in_order_first r rs order = pairs_first IsBelow r rs order
 
   pub in_order_rest : (r : T) (rs : List T) → IsInOrder name (r ∷ rs) → IsInOrder name rs
-  in_order_rest r rs order = λ i j d lt within. order (suc i) (suc j) d (omega arith) (omega arith)
+  in_order_rest r rs order = pairs_rest IsBelow r rs order
 
   pub in_order_none : IsInOrder name []
-  in_order_none = λ i j d lt within. absurd (omega arith)
+  in_order_none = pairs_none IsBelow
 
   chain_below : (row r : T) (rs : List T) → IsBelow row r → All (IsBelow r) rs → All (IsBelow row) rs
   chain_below row r rs below all = λ k d within. below_chain (name row) (name r) (name (get_or rs k d)) below (all k d within)
@@ -114,3 +112,15 @@ module _ {T : Type 0} (name : T → List ℕ) where
   pub at_take_other : (n m : List ℕ) (rows : List T) → (m ≡ n → ⊥) → IsInOrder name rows → at name m (take_row name n rows) ≡ at name m rows
   at_take_other n m [] other order = refl
   at_take_other n m (r ∷ rs) other order = at_take_other_by n m r rs (names_cmp n (name r)) other refl order (at_take_other n m rs other (in_order_rest r rs order))
+
+  reached : (r : T) (rs : List T) → IsInOrder name (r ∷ rs) → All (λ s. at name (name s) rs ≡ Some s) rs → All (λ s. at name (name s) (r ∷ rs) ≡ Some s) rs
+  reached r rs order below = λ k d within.
+      let s = get_or rs k d in
+      later name (name s) r rs (turned (name r) (name s) Less (in_order_first r rs order k d within)) ∙ below k d within
+
+  -- of rows in order each is found by its name
+  pub at_each : (rows : List T) → IsInOrder name rows → All (λ r. at name (name r) rows ≡ Some r) rows
+  at_each [] order = λ k d within. absurd (omega arith)
+  at_each (r ∷ rs) order =
+      All-cons (λ s. at name (name s) (r ∷ rs) ≡ Some s) r rs (here name (name r) r rs (same_itself (name r)))
+      (reached r rs order (at_each rs (in_order_rest r rs order)))

@@ -1,13 +1,12 @@
 -- What a binary search for a name finds among rows in order.
-use Rattle.std.proofs.Common.{◌≡◌, ℕ, zero, suc, ◌<◌, ◌≤◌, List, [], ◌∷◌, length, get_or, set, Option, Some, None, Result, Ok, Err, IfOk, IfErr, refl, sym, ap, ◌∙◌, arith}
+use Rattle.std.proofs.Common.{◌≡◌, ℕ, zero, suc, ◌<◌, ◌≤◌, List, [], ◌∷◌, length, get_or, Result, Ok, Err, IfOk, IfErr, refl, sym, ap, ◌∙◌, arith}
 use Rattle.std.specs.declared.cmp.Ordering.{Ordering}
 use Rattle.std.specs.declared.cmp.Ordering.TheVariants.{Less, Equal, Greater}
 use Rattle.std.specs.Ordering.{match_ordering, ordering_index}
-use Rattle.std.specs.List.{insert, remove}
 use Rattle.std.specs.List.Sorted.{IsSearchInRange, IsBinarySearchResult, IsNonDecreasingBy}
-use Rattle.named_rows.specs.ByName.{names_cmp, at, put_row, take_row, with_row, IsInOrder}
+use Rattle.named_rows.specs.ByName.{names_cmp, put_row, take_row, with_row, IsInOrder}
 use Rattle.named_rows.specs.Placed.{StandsThere, BelongsThere}
-use Rattle.named_rows.proofs.Names.{same_itself, same_name, tied_name, turned, rises}
+use Rattle.named_rows.proofs.Names.{same_name, turned, rises}
 use Rattle.named_rows.proofs.Lookups.{not_reached, here, later}
 use Rattle.named_rows.proofs.Order.{in_order_first, in_order_rest}
 

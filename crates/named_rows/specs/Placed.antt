@@ -1,5 +1,5 @@
 -- The place of a name among rows in order, and what looking up and changing by that name are there.
-use Rattle.std.specs.Prelude.{◌≡◌, ℕ, ◌<◌, ◌≤◌, List, length, Option, None, slice_get, slice_set}
+use Rattle.std.specs.Prelude.{◌≡◌, ℕ, ◌<◌, ◌≤◌, List, length, None, slice_get, slice_set}
 use Rattle.std.specs.List.{insert, remove, slice_index_or}
 use Rattle.named_rows.specs.declared.place.Place.{Place}
 use Rattle.named_rows.specs.declared.place.Place.TheVariants.{Found, Vacant}

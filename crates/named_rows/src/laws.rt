@@ -9,7 +9,7 @@ use crate::place::Named;
 /// What is found by a name has it. A row that was put is found by its name, a row that was changed is found
 /// changed, and every other name finds what it found. What holds of each row holds of the one that is
 /// found; it holds of each after a row of which it holds was put, after a row was taken out, and after a change
-/// that keeps it.
+/// that keeps it. Putting a row that is there, and taking a name out that isn't, change nothing.
 pub fn laws_of_lookups<T: Named>()
     ensures named { (n : List ℕ) (rows : List T) → IfSome (at T.name n rows) (λ r. T.name r ≡ n) }
     ensures at_put { (row : T) (rows : List T) → at T.name (T.name row) (put_row T.name row rows) ≡ Some row }
@@ -19,18 +19,22 @@ pub fn laws_of_lookups<T: Named>()
         → (rows : List T) → at T.name n (with_row T.name n f rows) ≡ option_map f (at T.name n rows) }
     ensures at_with_row_other { (n : List ℕ) (f : T → T) → ((r : T) → T.name r ≡ n → T.name (f r) ≡ T.name r)
         → (m : List ℕ) (rows : List T) → (m ≡ n → ⊥) → at T.name m (with_row T.name n f rows) ≡ at T.name m rows }
+    ensures put_same { (row : T) (rows : List T) → at T.name (T.name row) rows ≡ Some row → put_row T.name row rows ≡ rows }
+    ensures taken_absent { (n : List ℕ) (rows : List T) → at T.name n rows ≡ None → take_row T.name n rows ≡ rows }
 {}
 
 /// Laws of rows in byte order of their names. It does nothing: the clauses are what it is for.
 ///
 /// Rows stay in order where one is put, where one is taken out, and where one is changed that keeps its name. Of
-/// rows in order, one that was taken out isn't found, and every other name finds what it found.
+/// rows in order, each is found by its name, one that was taken out isn't found, and every other name finds what
+/// it found.
 pub fn laws_of_order<T: Named>()
     ensures put { (row : T) (rows : List T) → IsInOrder T.name rows → IsInOrder T.name (put_row T.name row rows) }
     ensures put_all { (more rows : List T) → IsInOrder T.name rows → IsInOrder T.name (put_rows T.name more rows) }
     ensures taken { (n : List ℕ) (rows : List T) → IsInOrder T.name rows → IsInOrder T.name (take_row T.name n rows) }
     ensures changed { (n : List ℕ) (f : T → T) → ((r : T) → T.name r ≡ n → T.name (f r) ≡ T.name r)
         → (rows : List T) → IsInOrder T.name rows → IsInOrder T.name (with_row T.name n f rows) }
+    ensures at_each { (rows : List T) → IsInOrder T.name rows → All (λ r. at T.name (T.name r) rows ≡ Some r) rows }
     ensures at_taken { (n : List ℕ) (rows : List T) → IsInOrder T.name rows → at T.name n (take_row T.name n rows) ≡ None }
     ensures at_other { (n m : List ℕ) (rows : List T) → (m ≡ n → ⊥) → IsInOrder T.name rows
         → at T.name m (take_row T.name n rows) ≡ at T.name m rows }

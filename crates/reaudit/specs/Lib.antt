@@ -3,4 +3,3 @@ pub mod Merging
 pub mod Parts
 pub mod Again
 pub mod Pages
-pub mod Samples

@@ -1,8 +1,9 @@
-use crate::samples::{Node, Said, Sample, judgements, lines, page, work};
+use crate::samples::{Node, lines, page, work};
 use crate::{after_judgement, audit_page, audit_pages};
 use judge_core::infos_of;
 use rule_core::Auto::{CantTell, Failed, Passed};
 use rule_core::RuleBook;
+use rule_sketches::{Judged, Marks, judgements};
 use std::test::Fail;
 
 // A page on which documents' order isn't that of the numbers.
@@ -70,7 +71,7 @@ const PARTLY: &str = "\
 ";
 
 // What was judged of the page, and its rows then.
-static CASES: [(&[Said], &str); 7] = [
+static CASES: [(&[Judged], &str); 7] = [
     (&[], UNJUDGED),
     (
         &[
@@ -121,7 +122,7 @@ fn a_page_has_the_rows_of_each_rule(rt: HostRuntime) -> Result<(), Fail> {
     let alloc = rt.alloc();
     let tree = page(alloc, PAGE.as_slice())?;
     for (said, wanted) in CASES.as_slice() {
-        let mut book = Sample::new();
+        let mut book = Marks::new();
         let js = judgements(alloc, said)?;
         let outcomes = audit_page(alloc, &mut book, &tree, js.as_slice())?;
         assert_eq!(rt; lines(alloc, &outcomes)?.as_str(), *wanted, "{said:?}");
@@ -151,9 +152,9 @@ fn pages_are_audited_in_their_order_by_any_number_of_books(rt: HostRuntime) -> R
     for count in [1, 2, 3, 16] {
         let mut books = Vec::new(alloc);
         for _ in 1..count {
-            books.push(Sample::new())?;
+            books.push(Marks::new())?;
         }
-        books.push(Sample::new())?;
+        books.push(Marks::new())?;
         let all = audit_pages(&rt, alloc, books.as_mut_slice(), pages.as_slice())?;
         assert_eq!(rt; all.len(), CASES.len());
         for (outcomes, (said, wanted)) in all.iter().zip(CASES.as_slice()) {

@@ -4,8 +4,6 @@
 //! the rules say of themselves.
 #![tactic(auto)]
 
-#[cfg(test)]
-mod samples;
 mod table;
 mod thirty;
 

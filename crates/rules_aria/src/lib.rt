@@ -12,8 +12,6 @@ mod joined;
 mod owned_elements;
 mod required_states;
 mod role;
-#[cfg(test)]
-mod samples;
 mod token;
 
 pub use aria_attribute::AriaAttributeIsDefined;

@@ -17,8 +17,6 @@ mod languages;
 mod page;
 mod page_title;
 mod refresh;
-#[cfg(test)]
-mod samples;
 mod title_descriptive;
 mod viewport;
 

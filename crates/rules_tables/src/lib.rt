@@ -8,8 +8,6 @@ mod grid;
 mod header_has_cells;
 mod headers_refer_to_cells;
 mod laws;
-#[cfg(test)]
-mod samples;
 mod spans;
 mod survey;
 mod table_rows;

@@ -8,8 +8,8 @@ use serde_json::Value;
 use snap_tree::{Attr, Facts, List, NodeId, OutOfMemory, Space, Text};
 use std::alloc::Global;
 
-/// A whole number from 1 to 4,294,967,295.
-pub(crate) fn number_of(member: Option<&Value>) -> Option<NodeId>
+/// The number that a member is: a whole number from 1 to 4,294,967,295; None where it is absent or none.
+pub fn number_of(member: Option<&Value>) -> Option<NodeId>
     ensures { result ≡ number_of (seen member.entry) }
 {
     whole(member?)
@@ -40,16 +40,16 @@ fn null_or_number(value: &Value) -> Option<Option<NodeId>>
     Some(Some(whole(value)?))
 }
 
-/// A text, lent by the member.
+/// The text that a member is, lent by it; None where it is absent or no text.
 #[tactic(auto, using(crate::proofs::FieldCases::text_by))]
-pub(crate) fn lent_text(member: Option<&Value>) -> Option<&str>
+pub fn lent_text(member: Option<&Value>) -> Option<&str>
     ensures { option_copied result ≡ text_of (seen member.entry) }
 {
     member?.as_str()
 }
 
-/// A text.
-pub(crate) fn text_of(alloc: Global, member: Option<&Value>) -> Result<Option<Text>, OutOfMemory>
+/// The text that a member is, as a copy; None where it is absent or no text.
+pub fn text_of(alloc: Global, member: Option<&Value>) -> Result<Option<Text>, OutOfMemory>
     ensures { IfOk result (λ t. t ≡ text_of (seen member.entry)) }
 {
     match lent_text(member) {
@@ -92,8 +92,9 @@ fn space_named(name: &str) -> Option<Space>
     }
 }
 
-/// The browser's facts, each named by a letter; rendered and visible where the member is absent.
-pub(crate) fn facts_of(member: Option<&Value>) -> Option<Facts>
+/// The browser's facts that a member is, each named by a letter, at most once and in any order; rendered and
+/// visible where it is absent, None where it is anything else.
+pub fn facts_of(member: Option<&Value>) -> Option<Facts>
     ensures { result ≡ facts_of (seen member.entry) }
 {
     match member {

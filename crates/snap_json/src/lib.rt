@@ -14,6 +14,9 @@
 //! `specs/Fields.antt`. [`write_snapshot`] writes a tree, and what it wrote of a tree at a web address is
 //! read back, within the limits. The address is a URL of the scheme http or https by the URL Standard, and
 //! is kept as that standard writes it.
+//!
+//! What else is sent as JSON is read by the same words: [`json_of`] reads bytes, [`raw_of`] and [`rows_of`] a
+//! snapshot and rows within a value, and [`number_of`], [`text_of`], [`lent_text`] and [`facts_of`] a member.
 #![tactic(auto)]
 
 mod fault;
@@ -26,7 +29,8 @@ mod tests;
 mod writing;
 
 pub use fault::{Field, SnapFault};
+pub use fields::{facts_of, lent_text, number_of, text_of};
 pub use limits::{MOST_ADDRESS_BYTES, MOST_SNAPSHOT_BYTES};
-pub use reading::{raw_of, read_kept, read_raw, read_snapshot};
+pub use reading::{json_of, raw_of, read_kept, read_raw, read_snapshot};
 pub use rows::rows_of;
 pub use writing::write_snapshot;

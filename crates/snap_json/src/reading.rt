@@ -90,9 +90,10 @@ fn page_in(alloc: Global, limits: Limits, bytes: &[u8]) -> Result<Raw, SnapFault
     }
 }
 
-/// The JSON value that bytes are; none where they are not UTF-8, or no JSON.
+/// The JSON value that bytes are; None where they aren't UTF-8, or aren't JSON nested at most 127 deep, or
+/// hold a number too great for a 64-bit float or an escape of a lone surrogate.
 #[tactic(auto, unfolding(crate::specs::Pages::json_of))]
-fn json_of(alloc: Global, bytes: &[u8]) -> Result<Option<Value>, OutOfMemory>
+pub fn json_of(alloc: Global, bytes: &[u8]) -> Result<Option<Value>, OutOfMemory>
     ensures { IfOk result (λ v. option_map view v ≡ json_of bytes.now) }
 {
     match Value::from_slice(alloc, bytes) {

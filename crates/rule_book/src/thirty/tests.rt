@@ -1,18 +1,22 @@
 use super::*;
-use crate::samples::{Node, Said, is_told, page};
-use rule_core::Auto::{CantTell, Failed, Passed};
+use page_sketches::{Node, page};
+use rule_core::Auto::{self, CantTell, Failed, Passed};
 use rule_core::Reason::{
-    BadTokens, Delay, FocusableInside, JudgeCollapse, JudgeHeading, JudgeHeadingStart,
+    self, BadTokens, Delay, FocusableInside, JudgeCollapse, JudgeHeading, JudgeHeadingStart,
     JudgeLandmark, JudgeSkipLink, JudgeTitle, Met, MissingState, NoName, NoZoom, NothingOwned,
 };
+use rule_sketches::is_told;
 use std::test::Fail;
+
+// An outcome, a reason and an evidence.
+type Said<'a> = (Auto, Reason, &'a str);
 
 // A page on which each atomic rule has a target.
 static PAGE: [Node<'static>; 29] = [
     Node::Html(0, "html", &[("lang", "en")]),
     Node::Html(1, "head", &[]),
     Node::Html(2, "title", &[]),
-    Node::Text(3, "Home"),
+    Node::Words(3, "Home"),
     Node::Html(
         2,
         "meta",
@@ -21,18 +25,18 @@ static PAGE: [Node<'static>; 29] = [
     Node::Html(2, "meta", &[("http-equiv", "refresh"), ("content", "30")]),
     Node::Html(1, "body", &[]),
     Node::Html(7, "p", &[("lang", "de")]),
-    Node::Text(8, "Guten Tag"),
+    Node::Words(8, "Guten Tag"),
     Node::Stop(7, "button", &[("aria-expanded", "true")]),
-    Node::Text(10, "Menu"),
+    Node::Words(10, "Menu"),
     Node::Stop(7, "a", &[("href", "#start")]),
-    Node::Text(12, "Skip"),
+    Node::Words(12, "Skip"),
     Node::Html(7, "img", &[]),
     Node::Html(7, "input", &[("type", "image"), ("alt", "Go")]),
     Node::Html(7, "input", &[("type", "text"), ("autocomplete", "foo")]),
     Node::Html(7, "iframe", &[("title", "Map")]),
     Node::Html(7, "main", &[("id", "start"), ("title", "Start")]),
     Node::Html(18, "h1", &[]),
-    Node::Text(19, "One"),
+    Node::Words(19, "One"),
     Node::Svg(7, "svg", &[("role", "img")]),
     Node::Html(7, "div", &[("role", "checkbox"), ("title", "Agree")]),
     Node::Html(7, "ul", &[("role", "list")]),
@@ -98,7 +102,7 @@ fn each_rule_judges_by_its_number(rt: HostRuntime) -> Result<(), Fail> {
     for rule in 1..=30u16 {
         for n in 1..=29u32 {
             let verdict = book.judge(alloc, &tree, RuleNo(rule), NodeId(n))?;
-            assert!(rt; is_told(verdict, said_of(rule, n)), "rule {rule} node {n}");
+            assert!(rt; is_told(&verdict, said_of(rule, n)), "rule {rule} node {n}");
         }
     }
     assert_eq!(rt; book.calls(), 870);
@@ -127,7 +131,7 @@ fn nothing_said_is_counted_too(rt: HostRuntime) -> Result<(), Fail> {
     }
     let mut full = Thirty { calls: u64::MAX };
     let verdict = full.judge(alloc, &tree, RuleNo(3), NodeId(1))?;
-    assert!(rt; is_told(verdict, said_of(3, 1)));
+    assert!(rt; is_told(&verdict, said_of(3, 1)));
     assert_eq!(rt; full.calls(), u64::MAX);
     Ok(())
 }

@@ -1,8 +1,9 @@
 use super::*;
-use crate::samples::Node::{Facts, Html};
-use crate::samples::{Attrs, Told, tells};
+use page_sketches::Attrs;
+use page_sketches::Node::{Facts, Html};
 use rule_core::Auto::{CantTell, Failed, Passed};
 use rule_core::Reason::{LaterAttr, Met, UnknownAttr};
+use rule_sketches::{Told, tells};
 use std::test::Fail;
 
 static ELEMENTS: [(Attrs, Told); 8] = [

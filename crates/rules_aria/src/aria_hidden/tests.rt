@@ -1,8 +1,8 @@
 use super::*;
-use crate::samples::Node::{Facts, Html, Text as Words};
-use crate::samples::{Node, Told, tells};
+use page_sketches::Node::{self, Facts, Html, Text, Words};
 use rule_core::Auto::{Failed, Passed};
 use rule_core::Reason::{FocusableInside, Met};
+use rule_sketches::{Told, tells};
 use std::test::Fail;
 
 const HIDDEN: (&str, &str) = ("aria-hidden", "true");
@@ -13,7 +13,7 @@ static HOLDERS: [(&[Node], u32, Told); 8] = [
             Html(0, "html", &[]),
             Html(1, "body", &[HIDDEN]),
             Facts(2, "button", &[], "rvft"),
-            Words(3, "rv"),
+            Words(3, "text"),
         ],
         2,
         Some((Failed, FocusableInside, "3")),
@@ -23,7 +23,7 @@ static HOLDERS: [(&[Node], u32, Told); 8] = [
             Facts(0, "div", &[("ARIA-hidden", "True")], "rvft"),
             Facts(1, "p", &[], "rvf"),
             Facts(2, "a", &[], "t"),
-            Words(1, "t"),
+            Text(1, "text", "t"),
         ],
         1,
         Some((Failed, FocusableInside, "1 3 4")),

@@ -1,8 +1,9 @@
 use super::*;
-use crate::samples::Node::{Facts, Html};
-use crate::samples::{Attrs, Told, tells};
+use page_sketches::Node::{Facts, Html};
+use page_sketches::{Attrs, page};
 use rule_core::Auto::{Failed, Passed};
 use rule_core::Reason::{BadValue, DeadReference, Met};
+use rule_sketches::{Told, tells};
 use std::test::Fail;
 
 static ELEMENTS: [(Attrs, Told); 9] = [
@@ -64,7 +65,7 @@ fn a_reference_finds_an_element(rt: HostRuntime) -> Result<(), Fail> {
             Html(0, "div", &[(*name, *value)]),
             Html(1, "p", &[("id", "here")]),
         ];
-        let tree = crate::samples::page(rt.alloc(), &nodes)?;
+        let tree = page(rt.alloc(), &nodes)?;
         let verdict = AriaValueIsValid.judge(rt.alloc(), &tree, NodeId(1))?;
         let auto = verdict.map(|verdict| (verdict.auto, verdict.reason));
         let wanted = if *alive {

@@ -1,7 +1,7 @@
 use super::*;
-use crate::samples::Node::{Facts, Html, Svg};
-use crate::samples::{Node, tells};
+use page_sketches::Node::{self, Facts, Html, Svg};
 use rule_core::Auto::{Failed, Passed};
+use rule_sketches::tells;
 use std::test::Fail;
 
 // Values, and whether they are those of a detail.

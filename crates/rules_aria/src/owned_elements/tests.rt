@@ -1,8 +1,8 @@
 use super::*;
-use crate::samples::Node::{Facts, Html, Text as Words};
-use crate::samples::{Node, Told, tells};
+use page_sketches::Node::{self, Facts, Html, Words};
 use rule_core::Auto::{CantTell, Failed, Passed};
 use rule_core::Reason::{BadOwned, Met, NothingOwned};
+use rule_sketches::{Told, tells};
 use std::test::Fail;
 
 const LIST: (&str, &str) = ("role", "list");
@@ -33,7 +33,7 @@ static OWNERS: [(&[Node], Told); 14] = [
         Some((Failed, BadOwned, "listitem paragraph")),
     ),
     (&[Html(0, "ul", &[]), Html(1, "p", &[])], None),
-    (&[Html(0, "div", &[LIST]), Words(1, "rv")], NOTHING),
+    (&[Html(0, "div", &[LIST]), Words(1, "text")], NOTHING),
     (&[Html(0, "div", &[LIST, ("aria-busy", "TRUE")])], None),
     (&[Html(0, "div", &[LIST, ("aria-busy", "maybe")])], NOTHING),
     (

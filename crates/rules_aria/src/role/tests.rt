@@ -1,8 +1,8 @@
 use super::*;
-use crate::samples::Node::{Facts, Html};
-use crate::samples::{Node, Told, tells};
+use page_sketches::Node::{self, Facts, Html};
 use rule_core::Auto::{CantTell, Failed, Passed};
 use rule_core::Reason::{Met, NoKnownRole, OutsideRole};
+use rule_sketches::{Told, tells};
 use std::test::Fail;
 
 const FOO: (&str, &str) = ("role", "foo");

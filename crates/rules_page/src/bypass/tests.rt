@@ -2,29 +2,28 @@ use crate::bypass_collapse::HasCollapse;
 use crate::bypass_heading::HasHeadingToStart;
 use crate::bypass_landmark::HasLandmark;
 use crate::bypass_skip_link::HasSkipLink;
-use crate::samples::Node::{Attrs, Stop, Tag, Text as Words};
-use crate::samples::{Node, Told, tells};
+use page_sketches::Node::{self, Html, Stop, Words};
 use rule_core::Auto::{CantTell, Failed};
 use rule_core::Reason::{
     JudgeCollapse, JudgeHeadingStart, JudgeLandmark, JudgeSkipLink, NoCollapse, NoHeading,
     NoLandmark, NoSkipLink,
 };
-use snap_tree::Space::Html;
+use rule_sketches::{Told, tells};
 use std::test::Fail;
 
-const HTML: Node<'static> = Tag(0, Html, "html");
+const HTML: Node<'static> = Html(0, "html", &[]);
 
 // A page with each of the nodes that count.
 static FULL: [Node<'static>; 12] = [
     HTML,
     Stop(1, "a", &[("href", "#start")]),
     Words(2, "Skip"),
-    Attrs(1, Html, "main", &[("id", "start"), ("title", "Start")]),
-    Tag(4, Html, "h1"),
+    Html(1, "main", &[("id", "start"), ("title", "Start")]),
+    Html(4, "h1", &[]),
     Words(5, "One"),
-    Tag(4, Html, "h2"),
+    Html(4, "h2", &[]),
     Words(7, "Two"),
-    Tag(4, Html, "h3"),
+    Html(4, "h3", &[]),
     Stop(4, "button", &[("aria-expanded", ""), ("title", "Menu")]),
     Stop(1, "a", &[("href", "#stop")]),
     Words(11, "Away"),
@@ -33,16 +32,16 @@ static FULL: [Node<'static>; 12] = [
 // A page on which the Tab key stops, with nothing that counts: each is hidden, or isn't reached.
 static BARE: [Node<'static>; 7] = [
     HTML,
-    Attrs(1, Html, "div", &[("aria-hidden", "true")]),
+    Html(1, "div", &[("aria-hidden", "true")]),
     Stop(2, "a", &[("href", "#start")]),
-    Attrs(2, Html, "main", &[("id", "start")]),
-    Tag(2, Html, "h1"),
+    Html(2, "main", &[("id", "start")]),
+    Html(2, "h1", &[]),
     Words(5, "One"),
-    Attrs(1, Html, "button", &[("aria-expanded", "true")]),
+    Html(1, "button", &[("aria-expanded", "true")]),
 ];
 
 // A page on which the Tab key stops nowhere.
-static STILL: [Node<'static>; 3] = [HTML, Tag(1, Html, "h1"), Words(2, "One")];
+static STILL: [Node<'static>; 3] = [HTML, Html(1, "h1", &[]), Words(2, "One")];
 
 #[test]
 fn what_counts_is_left_to_a_person(rt: HostRuntime) -> Result<(), Fail> {

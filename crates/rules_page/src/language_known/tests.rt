@@ -1,9 +1,8 @@
 use super::*;
-use crate::samples::Node::{Attr, Tag};
-use crate::samples::{Node, Told, tells};
+use page_sketches::Node::{self, Html};
 use rule_core::Auto::{CantTell, Failed, Passed};
 use rule_core::Reason::{Met, ThreeLetter, UnknownLang};
-use snap_tree::Space::Html;
+use rule_sketches::{Told, tells};
 use std::test::Fail;
 
 // Values of lang, and what is said of a page in that language.
@@ -25,21 +24,26 @@ static LANGUAGES: [(&str, Told<'static>); 12] = [
 #[test]
 fn the_primary_subtag_is_looked_up(rt: HostRuntime) -> Result<(), Fail> {
     for (lang, told) in &LANGUAGES {
-        let nodes = [Attr(0, "html", "lang", lang)];
+        let nodes = [Html(0, "html", &[("lang", lang)])];
         let agrees = tells(rt.alloc(), &LanguageIsKnown, &nodes, 1, *told)?;
         assert!(rt; agrees, "lang {lang}");
     }
     Ok(())
 }
 
+// Nodes that are no targets.
+static OTHERS: [(&[Node], u32); 3] = [
+    (&[Html(0, "html", &[])], 1),
+    (
+        &[Html(0, "html", &[]), Html(1, "body", &[("lang", "en")])],
+        2,
+    ),
+    (&[Html(0, "p", &[("lang", "en")])], 1),
+];
+
 #[test]
 fn only_the_root_of_a_page_is_a_target(rt: HostRuntime) -> Result<(), Fail> {
-    let rows: [(&[Node], u32); 3] = [
-        (&[Tag(0, Html, "html")], 1),
-        (&[Tag(0, Html, "html"), Attr(1, "body", "lang", "en")], 2),
-        (&[Attr(0, "p", "lang", "en")], 1),
-    ];
-    for (row, (nodes, n)) in rows.iter().enumerate() {
+    for (row, (nodes, n)) in OTHERS.iter().enumerate() {
         let silent = tells(rt.alloc(), &LanguageIsKnown, nodes, *n, None)?;
         assert!(rt; silent, "row {row}");
     }

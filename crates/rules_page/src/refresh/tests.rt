@@ -1,12 +1,11 @@
 use super::*;
-use crate::samples::Node::{Attrs, Tag};
-use crate::samples::{Node, Told, tells};
+use page_sketches::Node::{self, Html};
 use rule_core::Auto::{Failed, Passed};
 use rule_core::Reason::{Delay, Met};
-use snap_tree::Space::Html;
+use rule_sketches::{Told, tells};
 use std::test::Fail;
 
-const HTML: Node<'static> = Tag(0, Html, "html");
+const HTML: Node<'static> = Html(0, "html", &[]);
 
 // Contents of the only `meta`, and the outcome; None where they don't read as a time.
 static CONTENTS: [(&str, Option<(rule_core::Auto, Reason)>); 18] = [
@@ -34,7 +33,7 @@ static CONTENTS: [(&str, Option<(rule_core::Auto, Reason)>); 18] = [
 fn a_delay_fails(rt: HostRuntime) -> Result<(), Fail> {
     for (content, outcome) in &CONTENTS {
         let attrs = [("http-equiv", "Refresh"), ("content", *content)];
-        let nodes = [HTML, Attrs(1, Html, "meta", &attrs)];
+        let nodes = [HTML, Html(1, "meta", &attrs)];
         let told: Told = match outcome {
             Some((auto, reason)) => Some((*auto, *reason, content)),
             None => None,
@@ -49,30 +48,10 @@ fn a_delay_fails(rt: HostRuntime) -> Result<(), Fail> {
 fn the_first_that_reads_counts(rt: HostRuntime) -> Result<(), Fail> {
     let nodes = [
         HTML,
-        Attrs(
-            1,
-            Html,
-            "meta",
-            &[("http-equiv", "refresh"), ("content", "x")],
-        ),
-        Attrs(
-            1,
-            Html,
-            "meta",
-            &[("http-equiv", "expires"), ("content", "9")],
-        ),
-        Attrs(
-            1,
-            Html,
-            "meta",
-            &[("http-equiv", "refresh"), ("content", "5")],
-        ),
-        Attrs(
-            1,
-            Html,
-            "meta",
-            &[("http-equiv", "refresh"), ("content", "0")],
-        ),
+        Html(1, "meta", &[("http-equiv", "refresh"), ("content", "x")]),
+        Html(1, "meta", &[("http-equiv", "expires"), ("content", "9")]),
+        Html(1, "meta", &[("http-equiv", "refresh"), ("content", "5")]),
+        Html(1, "meta", &[("http-equiv", "refresh"), ("content", "0")]),
     ];
     for n in 1..=5 {
         let told = (n == 4).then_some((Failed, Delay, "5"));

@@ -1,14 +1,13 @@
 use super::*;
-use crate::samples::Node::{Tag, Text as Words};
-use crate::samples::{Node, Told, tells};
+use page_sketches::Node::{self, Html, Words};
 use rule_core::Auto::CantTell;
 use rule_core::Reason::JudgeTitle;
-use snap_tree::Space::Html;
+use rule_sketches::{Told, tells};
 use std::test::Fail;
 
-const HTML: Node<'static> = Tag(0, Html, "html");
+const HTML: Node<'static> = Html(0, "html", &[]);
 
-const TITLE: Node<'static> = Tag(1, Html, "title");
+const TITLE: Node<'static> = Html(1, "title", &[]);
 
 #[test]
 fn a_person_judges_a_title(rt: HostRuntime) -> Result<(), Fail> {
@@ -21,7 +20,7 @@ fn a_person_judges_a_title(rt: HostRuntime) -> Result<(), Fail> {
         (&[HTML, TITLE, Words(2, " ")], 1, None),
         (&[HTML], 1, None),
         (&[HTML, TITLE, Words(2, "Home")], 2, None),
-        (&[Tag(0, Html, "p"), TITLE, Words(2, "Home")], 1, None),
+        (&[Html(0, "p", &[]), TITLE, Words(2, "Home")], 1, None),
     ];
     for (row, (nodes, n, told)) in rows.iter().enumerate() {
         let agrees = tells(rt.alloc(), &TitleIsDescriptive, nodes, *n, *told)?;

@@ -1,12 +1,12 @@
 use super::*;
-use crate::samples::Node::{Attrs, Tag};
-use crate::samples::{Node, Told, tells};
+use page_sketches::Node::{self, Element};
 use rule_core::Auto::{Failed, Passed};
 use rule_core::Reason::{Met, NoZoom, SmallScale};
+use rule_sketches::{Told, tells};
 use snap_tree::Space::{self, Html, Svg};
 use std::test::Fail;
 
-const HTML: Node<'static> = Tag(0, Html, "html");
+const HTML: Node<'static> = Node::Html(0, "html", &[]);
 
 // Contents that pass, as they are written on the web.
 static PASSING: [&str; 11] = [
@@ -56,7 +56,7 @@ fn agree(
     let mut all = true;
     for content in contents {
         let attrs = [("name", "Viewport"), ("content", *content)];
-        let nodes = [HTML, Attrs(1, Html, "meta", &attrs)];
+        let nodes = [HTML, Node::Html(1, "meta", &attrs)];
         let told: Told = match told {
             Some((auto, reason)) => Some((auto, reason, content)),
             None => None,
@@ -86,7 +86,7 @@ static OTHERS: [(Space, &str, &str); 3] = [
 fn only_a_viewport_is_a_target(rt: HostRuntime) -> Result<(), Fail> {
     for (space, tag, name) in &OTHERS {
         let attrs = [("name", *name), ("content", "user-scalable=no")];
-        let nodes = [HTML, Attrs(1, *space, tag, &attrs)];
+        let nodes = [HTML, Element(1, *space, tag, &attrs, "rv")];
         let silent = tells(rt.alloc(), &ViewportAllowsZoom, &nodes, 2, None)?;
         assert!(rt; silent, "{tag} {name}");
     }

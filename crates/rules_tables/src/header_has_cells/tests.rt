@@ -1,8 +1,9 @@
 use super::*;
-use crate::samples::Node::{Html, Unseen};
-use crate::samples::{Node, Told, built, page, row, says};
+use page_sketches::Node::{self, Facts, Html};
+use page_sketches::{built, page, row};
 use rule_core::Auto::{CantTell, Failed, Passed};
 use rule_core::Reason::{LargeGrid, Met, NoCells};
+use rule_sketches::{Told, says};
 use snap_tree::Space;
 use std::test::Fail;
 
@@ -56,7 +57,7 @@ static TARGETS: [Case; 13] = [
         3,
         None,
     ),
-    (&[TABLE, LINE, Unseen(2, "th", &[]), CELL], 3, None),
+    (&[TABLE, LINE, Facts(2, "th", &[], ""), CELL], 3, None),
     (
         &[
             Html(0, "table", &[("aria-hidden", "true")]),
@@ -327,7 +328,7 @@ static CELLS: [Case; 16] = [
         TWO,
     ),
     (&[TABLE, LINE, HEAD, HEAD], 3, NONE_OF_TWO),
-    (&[TABLE, LINE, HEAD, Unseen(2, "td", &[])], 3, TWO),
+    (&[TABLE, LINE, HEAD, Facts(2, "td", &[], "")], 3, TWO),
     // By `headers`, and then by nothing else.
     (
         &[
@@ -429,7 +430,7 @@ static CELLS: [Case; 16] = [
 
 fn agrees(alloc: Global, case: &Case) -> Result<bool, Fail> {
     let (nodes, n, told) = *case;
-    says(alloc, &HeaderHasCells, &page(alloc, nodes)?, n, told)
+    Ok(says(alloc, &HeaderHasCells, &page(alloc, nodes)?, n, told)?)
 }
 
 #[test]
@@ -450,35 +451,19 @@ fn headers_have_cells(rt: HostRuntime) -> Result<(), Fail> {
 // A header of so many columns above so many rows, each with a cell.
 fn tall(alloc: Global, columns: &str, rows: u32) -> Result<Tree, Fail> {
     let mut list = Vec::new(alloc);
-    list.push(row(alloc, 1, 0, Space::Html, "table", &[], true)?)?;
-    list.push(row(alloc, 2, 1, Space::Html, "tr", &[], true)?)?;
-    list.push(row(
-        alloc,
-        3,
-        2,
-        Space::Html,
-        "th",
-        &[("colspan", columns)],
-        true,
-    )?)?;
+    list.push(row(alloc, 1, Html(0, "table", &[]))?)?;
+    list.push(row(alloc, 2, Html(1, "tr", &[]))?)?;
+    list.push(row(alloc, 3, Html(2, "th", &[("colspan", columns)]))?)?;
     let mut id = 3u32;
     for n in 0..rows {
         id = id.saturating_add(1);
-        list.push(row(alloc, id, 1, Space::Html, "tr", &[], true)?)?;
+        list.push(row(alloc, id, Html(1, "tr", &[]))?)?;
         if n < 99 {
-            list.push(row(
-                alloc,
-                id.saturating_add(1),
-                id,
-                Space::Html,
-                "td",
-                &[],
-                true,
-            )?)?;
+            list.push(row(alloc, id.saturating_add(1), Html(id, "td", &[]))?)?;
             id = id.saturating_add(1);
         }
     }
-    built(alloc, list)
+    Ok(built(alloc, list)?)
 }
 
 // The columns of a header, the rows below it, and what is said of it.

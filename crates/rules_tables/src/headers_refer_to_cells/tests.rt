@@ -1,8 +1,9 @@
 use super::*;
-use crate::samples::Node::{Html, Svg, Unseen};
-use crate::samples::{Node, Told, page, says};
+use page_sketches::Node::{self, Facts, Html, Svg};
+use page_sketches::page;
 use rule_core::Auto::{Failed, Passed};
 use rule_core::Reason::{HeadersOutside, Met};
+use rule_sketches::{Told, says};
 use std::test::Fail;
 
 const TABLE: Node = Html(0, "table", &[]);
@@ -55,7 +56,7 @@ static TARGETS: [Case; 14] = [
         None,
     ),
     (
-        &[TABLE, LINE, Unseen(2, "td", &[("headers", "b")]), HEAD],
+        &[TABLE, LINE, Facts(2, "td", &[("headers", "b")], ""), HEAD],
         3,
         None,
     ),
@@ -232,7 +233,8 @@ static WORDS: [Case; 16] = [
 
 fn agrees(alloc: Global, case: &Case) -> Result<bool, Fail> {
     let (nodes, n, told) = *case;
-    says(alloc, &HeadersReferToCells, &page(alloc, nodes)?, n, told)
+    let tree = page(alloc, nodes)?;
+    Ok(says(alloc, &HeadersReferToCells, &tree, n, told)?)
 }
 
 #[test]

@@ -1,7 +1,8 @@
 use super::*;
-use crate::samples::{built, row};
 use crate::tables::below;
 use acc_tree::sight_of;
+use page_sketches::Node::{Element, Html};
+use page_sketches::{built, row};
 use snap_tree::{NodeId, Space, Tree};
 use std::test::Fail;
 
@@ -316,7 +317,7 @@ struct Sketch {
 impl Sketch {
     fn new(alloc: Global) -> Result<Self, Fail> {
         let mut rows = Vec::new(alloc);
-        rows.push(row(alloc, 1, 0, Space::Html, "table", &[], true)?)?;
+        rows.push(row(alloc, 1, Html(0, "table", &[]))?)?;
         Ok(Sketch {
             rows,
             last: 1,
@@ -343,11 +344,15 @@ impl Sketch {
         self.last = self.last.saturating_add(1);
         let id = self.last;
         let row = match (columns.is_empty(), rows.is_empty()) {
-            (true, true) => row(alloc, id, parent, space, tag, &[], false)?,
-            (true, false) => row(alloc, id, parent, space, tag, &[("rowspan", rows)], false)?,
+            (true, true) => row(alloc, id, Element(parent, space, tag, &[], ""))?,
+            (true, false) => row(
+                alloc,
+                id,
+                Element(parent, space, tag, &[("rowspan", rows)], ""),
+            )?,
             (false, _) => {
                 let spans = [("COLSPAN", columns), ("rowspan", rows)];
-                row(alloc, id, parent, space, tag, &spans, false)?
+                row(alloc, id, Element(parent, space, tag, &spans, ""))?
             }
         };
         self.rows.push(row)?;

@@ -4,6 +4,7 @@ use Rattle.desk_core.specs.declared.refusal.Needed.TheVariants.{Editor}
 use Rattle.desk_core.specs.Pages.{drop_page}
 use Rattle.desk_core.specs.Steps.{Request}
 use Rattle.desk_core.proofs.Fitted.{drop_page_fits}
+use Rattle.desk_core.proofs.Accepting.{drop_page_accepts}
 use Rattle.desk_core.proofs.Onward.{decides_found, decides_not_found}
 use Rattle.desk_core.proofs.drop_page.drop_page.Goals as goal
 
@@ -14,6 +15,7 @@ returns-in-Ok g c =
     let request : Request = record { caller = c.args.caller.now; command = DropPage sent.site sent.page sent.rev } in
     decides_found book request Editor sent.site sent.page (λ s p. drop_page sent.site sent.page sent.rev p) (λ t. refl) _ _ _ _ c.in-Ok.found.0 c.in-Ok.found.1 c.decide.result
     c.in-Ok.ensures c.decide.ensures (drop_page_fits sent.site sent.page sent.rev c.in-Ok.found.1 c.requires.site c.requires.page)
+    (drop_page_accepts sent.site sent.page sent.rev c.in-Ok.found.1)
 
 pub returns-in-Err : goal.returns-in-Err
 returns-in-Err g c =

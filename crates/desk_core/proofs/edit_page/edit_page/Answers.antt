@@ -1,4 +1,4 @@
-use Rattle.std.proofs.Common.{◌≡◌, ◌+◌, ◌≤◌, sum_by, refl, sym, subst, ap, arith}
+use Rattle.std.proofs.Common.{◌+◌, ◌≤◌, sum_by, refl, sym, subst}
 use Rattle.judge_core.specs.Books.{Book}
 use Rattle.desk_core.specs.declared.command.Command.TheVariants.{EditPage}
 use Rattle.desk_core.specs.declared.refusal.Needed.TheVariants.{Editor}
@@ -7,6 +7,7 @@ use Rattle.desk_core.specs.Pages.{edit_page}
 use Rattle.desk_core.specs.Costs.{edit_judgings}
 use Rattle.desk_core.specs.Serving.{Agrees}
 use Rattle.desk_core.proofs.Fitted.{edit_page_fits}
+use Rattle.desk_core.proofs.Accepting.{edit_page_accepts}
 use Rattle.desk_core.proofs.Onward.{decides_found, decides_not_found}
 use Rattle.desk_core.proofs.EditLaws.{costs_at}
 use Rattle.desk_core.proofs.edit_page.edit_page.Goals as goal
@@ -22,6 +23,7 @@ returns-in-Ok-clause-decides g c =
     c.in-Ok.ensures
     (subst (λ edits. Agrees ⊥ c.decide.result (edit_page book sent.site c.args.caller.now sent.page sent.rev edits site p)) c.as_slice.ensures c.decide.ensures.decided)
     (edit_page_fits book sent.site c.args.caller.now sent.page sent.rev c.args.edits site p c.requires.site c.requires.page c.in-Ok.ensures.fits.1)
+    (edit_page_accepts book sent.site c.args.caller.now sent.page sent.rev c.args.edits site p)
 
 pub returns-in-Ok-clause-counted : goal.returns-in-Ok-clause-counted
 returns-in-Ok-clause-counted g c =

@@ -19,4 +19,5 @@ pub returns-in-Err-clause-decided : goal.returns-in-Err-clause-decided
 returns-in-Err-clause-decided g c =
     let book : Book = record { infos = g.B.RuleBook.infos; means = g.B.RuleBook.means } in
     let sent = c.args.sent in
-    edit_refused book sent.site c.args.caller.now sent.page sent.rev c.args.edits.now c.args.site.now c.args.kept.now c.requires.revision c.requires.current c.in-Err.refusal (c.in-Err.ensures.refused (renewed book sent.site c.args.caller.now sent.page c.args.site.now.counter c.args.kept.now.judgements))
+    edit_refused book sent.site c.args.caller.now sent.page sent.rev c.args.edits.now c.args.site.now c.args.kept.now c.requires.revision c.requires.current c.in-Err.refusal
+    (c.in-Err.ensures.refused (renewed book sent.site c.args.caller.now sent.page c.args.site.now.counter c.args.kept.now.judgements))

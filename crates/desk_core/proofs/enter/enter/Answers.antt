@@ -1,4 +1,4 @@
-use Rattle.std.proofs.Common.{sym, ap, ◌∙◌, refl}
+use Rattle.std.proofs.Common.{sym, ◌∙◌}
 use Rattle.desk_core.proofs.Ways.{no_site}
 use Rattle.desk_core.proofs.Sound.{some_has}
 use Rattle.desk_core.proofs.Onward.{admitted}

@@ -1,108 +1,103 @@
-use Rattle.judge_core.specs.Books.{Book}
-use Rattle.desk_core.proofs.Arms.{fits_at, decides_at}
+use Rattle.desk_core.proofs.Arms.{fits_at, decides_at, costs_at}
+use Rattle.desk_core.proofs.Costing.{costs_put, costs_import, costs_edit}
 use Rattle.desk_core.proofs.handling.decide.Goals as goal
 
-pub returns-in-PutSite : goal.returns-in-PutSite
-returns-in-PutSite g c =
-    let book : Book = record { infos = g.B.RuleBook.infos; means = g.B.RuleBook.means } in
-    decides_at book c.args.caller.now c.args.command _ _ _ _ _ c.put_site.result c.in-PutSite.is (c.put_site.ensures book)
+pub returns-in-PutSite-clause-decided : goal.returns-in-PutSite-clause-decided
+returns-in-PutSite-clause-decided g c = decides_at c.in-PutSite.is (c.put_site.ensures _)
 
 pub put_site-requires-clause-site : goal.put_site-requires-clause-site
-put_site-requires-clause-site g c =
-    let book : Book = record { infos = g.B.RuleBook.infos; means = g.B.RuleBook.means } in
-    (fits_at book c.args.caller.now c.args.command _ c.in-PutSite.is c.requires.fits).site
+put_site-requires-clause-site g c = (fits_at c.in-PutSite.is c.requires.fits).site
 
 pub put_site-requires-clause-caller : goal.put_site-requires-clause-caller
-put_site-requires-clause-caller g c =
-    let book : Book = record { infos = g.B.RuleBook.infos; means = g.B.RuleBook.means } in
-    (fits_at book c.args.caller.now c.args.command _ c.in-PutSite.is c.requires.fits).caller
+put_site-requires-clause-caller g c = (fits_at c.in-PutSite.is c.requires.fits).caller
 
-pub returns-in-PutMember : goal.returns-in-PutMember
-returns-in-PutMember g c =
-    let book : Book = record { infos = g.B.RuleBook.infos; means = g.B.RuleBook.means } in
-    decides_at book c.args.caller.now c.args.command _ _ _ _ _ c.put_member.result c.in-PutMember.is (c.put_member.ensures book)
+pub returns-in-PutMember-clause-decided : goal.returns-in-PutMember-clause-decided
+returns-in-PutMember-clause-decided g c = decides_at c.in-PutMember.is (c.put_member.ensures _)
 
 pub put_member-requires-clause-site : goal.put_member-requires-clause-site
-put_member-requires-clause-site g c =
-    let book : Book = record { infos = g.B.RuleBook.infos; means = g.B.RuleBook.means } in
-    (fits_at book c.args.caller.now c.args.command _ c.in-PutMember.is c.requires.fits).site
+put_member-requires-clause-site g c = (fits_at c.in-PutMember.is c.requires.fits).site
 
 pub put_member-requires-clause-user : goal.put_member-requires-clause-user
-put_member-requires-clause-user g c =
-    let book : Book = record { infos = g.B.RuleBook.infos; means = g.B.RuleBook.means } in
-    (fits_at book c.args.caller.now c.args.command _ c.in-PutMember.is c.requires.fits).parts
+put_member-requires-clause-user g c = (fits_at c.in-PutMember.is c.requires.fits).parts
 
-pub returns-in-PutPage : goal.returns-in-PutPage
-returns-in-PutPage g c =
-    let book : Book = record { infos = g.B.RuleBook.infos; means = g.B.RuleBook.means } in
-    decides_at book c.args.caller.now c.args.command _ _ _ _ _ c.put_page.result c.in-PutPage.is c.put_page.ensures.decides
+pub returns-in-PutPage-clause-decided : goal.returns-in-PutPage-clause-decided
+returns-in-PutPage-clause-decided g c = decides_at c.in-PutPage.is c.put_page.ensures.decides
 
 pub put_page-requires-clause-site : goal.put_page-requires-clause-site
-put_page-requires-clause-site g c =
-    let book : Book = record { infos = g.B.RuleBook.infos; means = g.B.RuleBook.means } in
-    (fits_at book c.args.caller.now c.args.command _ c.in-PutPage.is c.requires.fits).site
+put_page-requires-clause-site g c = (fits_at c.in-PutPage.is c.requires.fits).site
 
 pub put_page-requires-clause-page : goal.put_page-requires-clause-page
-put_page-requires-clause-page g c =
-    let book : Book = record { infos = g.B.RuleBook.infos; means = g.B.RuleBook.means } in
-    (fits_at book c.args.caller.now c.args.command _ c.in-PutPage.is c.requires.fits).parts.seen.named
+put_page-requires-clause-page g c = (fits_at c.in-PutPage.is c.requires.fits).parts.seen.named
 
 pub put_page-requires-clause-address : goal.put_page-requires-clause-address
-put_page-requires-clause-address g c =
-    let book : Book = record { infos = g.B.RuleBook.infos; means = g.B.RuleBook.means } in
-    (fits_at book c.args.caller.now c.args.command _ c.in-PutPage.is c.requires.fits).parts.web
+put_page-requires-clause-address g c = (fits_at c.in-PutPage.is c.requires.fits).parts.web
 
-pub returns-in-DropPage : goal.returns-in-DropPage
-returns-in-DropPage g c =
-    let book : Book = record { infos = g.B.RuleBook.infos; means = g.B.RuleBook.means } in
-    decides_at book c.args.caller.now c.args.command _ _ _ _ _ c.drop_page.result c.in-DropPage.is (c.drop_page.ensures book)
+pub returns-in-PutPage-clause-counted : goal.returns-in-PutPage-clause-counted
+returns-in-PutPage-clause-counted g c = costs_at c.in-PutPage.is (costs_put _ _ _ _ _ _ _ _ _ c.put_page.ensures.counted)
+
+pub returns-in-DropPage-clause-decided : goal.returns-in-DropPage-clause-decided
+returns-in-DropPage-clause-decided g c = decides_at c.in-DropPage.is (c.drop_page.ensures _)
 
 pub drop_page-requires-clause-site : goal.drop_page-requires-clause-site
-drop_page-requires-clause-site g c =
-    let book : Book = record { infos = g.B.RuleBook.infos; means = g.B.RuleBook.means } in
-    (fits_at book c.args.caller.now c.args.command _ c.in-DropPage.is c.requires.fits).site
+drop_page-requires-clause-site g c = (fits_at c.in-DropPage.is c.requires.fits).site
 
 pub drop_page-requires-clause-page : goal.drop_page-requires-clause-page
-drop_page-requires-clause-page g c =
-    let book : Book = record { infos = g.B.RuleBook.infos; means = g.B.RuleBook.means } in
-    (fits_at book c.args.caller.now c.args.command _ c.in-DropPage.is c.requires.fits).parts.named
+drop_page-requires-clause-page g c = (fits_at c.in-DropPage.is c.requires.fits).parts.named
 
-pub returns-in-EditPage : goal.returns-in-EditPage
-returns-in-EditPage g c =
-    let book : Book = record { infos = g.B.RuleBook.infos; means = g.B.RuleBook.means } in
-    decides_at book c.args.caller.now c.args.command _ _ _ _ _ c.edit_page.result c.in-EditPage.is c.edit_page.ensures.decides
+pub returns-in-Import-clause-decided : goal.returns-in-Import-clause-decided
+returns-in-Import-clause-decided g c = decides_at c.in-Import.is c.import.ensures.decides
+
+pub import-requires-clause-site : goal.import-requires-clause-site
+import-requires-clause-site g c = λ _. λ _. (fits_at c.in-Import.is c.requires.fits).site
+
+pub import-requires-clause-entries : goal.import-requires-clause-entries
+import-requires-clause-entries g c = λ _. λ _. (fits_at c.in-Import.is c.requires.fits).parts
+
+pub returns-in-Import-clause-counted : goal.returns-in-Import-clause-counted
+returns-in-Import-clause-counted g c = costs_at c.in-Import.is (costs_import _ _ _ _ _ _ _ c.import.ensures.counted)
+
+pub returns-in-EditPage-clause-decided : goal.returns-in-EditPage-clause-decided
+returns-in-EditPage-clause-decided g c = decides_at c.in-EditPage.is c.edit_page.ensures.decides
 
 pub edit_page-requires-clause-site : goal.edit_page-requires-clause-site
-edit_page-requires-clause-site g c =
-    let book : Book = record { infos = g.B.RuleBook.infos; means = g.B.RuleBook.means } in
-    (fits_at book c.args.caller.now c.args.command _ c.in-EditPage.is c.requires.fits).site
+edit_page-requires-clause-site g c = (fits_at c.in-EditPage.is c.requires.fits).site
 
 pub edit_page-requires-clause-page : goal.edit_page-requires-clause-page
-edit_page-requires-clause-page g c =
-    let book : Book = record { infos = g.B.RuleBook.infos; means = g.B.RuleBook.means } in
-    (fits_at book c.args.caller.now c.args.command _ c.in-EditPage.is c.requires.fits).parts.named
+edit_page-requires-clause-page g c = (fits_at c.in-EditPage.is c.requires.fits).parts.named
 
-pub returns-in-GetPage : goal.returns-in-GetPage
-returns-in-GetPage g c =
-    let book : Book = record { infos = g.B.RuleBook.infos; means = g.B.RuleBook.means } in
-    decides_at book c.args.caller.now c.args.command _ _ _ _ _ c.get_page.result c.in-GetPage.is (c.get_page.ensures book)
+pub returns-in-EditPage-clause-counted : goal.returns-in-EditPage-clause-counted
+returns-in-EditPage-clause-counted g c =
+    costs_at c.in-EditPage.is (costs_edit _ _ _ _ _ _ _ _ _ c.edit_page.ensures.decides.reads.stays c.edit_page.ensures.counted)
 
-pub returns-in-GetNames : goal.returns-in-GetNames
-returns-in-GetNames g c =
-    let book : Book = record { infos = g.B.RuleBook.infos; means = g.B.RuleBook.means } in
-    decides_at book c.args.caller.now c.args.command _ _ _ _ _ c.get_names.result c.in-GetNames.is (c.get_names.ensures book)
+pub returns-in-Judge-clause-decided : goal.returns-in-Judge-clause-decided
+returns-in-Judge-clause-decided g c = decides_at c.in-Judge.is c.judge.ensures
 
-pub returns-in-GetOutcomes : goal.returns-in-GetOutcomes
-returns-in-GetOutcomes g c =
-    let book : Book = record { infos = g.B.RuleBook.infos; means = g.B.RuleBook.means } in
-    decides_at book c.args.caller.now c.args.command _ _ _ _ _ c.get_outcomes.result c.in-GetOutcomes.is (c.get_outcomes.ensures book)
+pub judge-requires-clause-site : goal.judge-requires-clause-site
+judge-requires-clause-site g c = (fits_at c.in-Judge.is c.requires.fits).site
 
-pub returns-in-GetReport : goal.returns-in-GetReport
-returns-in-GetReport g c =
-    let book : Book = record { infos = g.B.RuleBook.infos; means = g.B.RuleBook.means } in
-    decides_at book c.args.caller.now c.args.command _ _ _ _ _ c.get_report.result c.in-GetReport.is (c.get_report.ensures book)
+pub judge-requires-clause-page : goal.judge-requires-clause-page
+judge-requires-clause-page g c = (fits_at c.in-Judge.is c.requires.fits).parts.named
 
-pub returns-in-GetEarl : goal.returns-in-GetEarl
-returns-in-GetEarl g c =
-    let book : Book = record { infos = g.B.RuleBook.infos; means = g.B.RuleBook.means } in
-    decides_at book c.args.caller.now c.args.command _ _ _ _ _ c.get_earl.result c.in-GetEarl.is (c.get_earl.ensures book)
+pub returns-in-GetPage-clause-decided : goal.returns-in-GetPage-clause-decided
+returns-in-GetPage-clause-decided g c = decides_at c.in-GetPage.is (c.get_page.ensures _)
+
+pub returns-in-GetNames-clause-decided : goal.returns-in-GetNames-clause-decided
+returns-in-GetNames-clause-decided g c = decides_at c.in-GetNames.is (c.get_names.ensures _)
+
+pub returns-in-GetOutcomes-clause-decided : goal.returns-in-GetOutcomes-clause-decided
+returns-in-GetOutcomes-clause-decided g c = decides_at c.in-GetOutcomes.is (c.get_shown.ensures _)
+
+pub returns-in-GetReport-clause-decided : goal.returns-in-GetReport-clause-decided
+returns-in-GetReport-clause-decided g c = decides_at c.in-GetReport.is (c.get_shown-in-GetReport.ensures _)
+
+pub returns-in-GetEarl-clause-decided : goal.returns-in-GetEarl-clause-decided
+returns-in-GetEarl-clause-decided g c = decides_at c.in-GetEarl.is (c.get_shown-in-GetEarl.ensures _)
+
+pub returns-in-SiteReport-clause-decided : goal.returns-in-SiteReport-clause-decided
+returns-in-SiteReport-clause-decided g c = decides_at c.in-SiteReport.is (c.get_sheet.ensures _)
+
+pub returns-in-SiteEarl-clause-decided : goal.returns-in-SiteEarl-clause-decided
+returns-in-SiteEarl-clause-decided g c = decides_at c.in-SiteEarl.is (c.get_sheet-in-SiteEarl.ensures _)
+
+pub returns-in-SiteCsv-clause-decided : goal.returns-in-SiteCsv-clause-decided
+returns-in-SiteCsv-clause-decided g c = decides_at c.in-SiteCsv.is (c.get_sheet-in-SiteCsv.ensures _)

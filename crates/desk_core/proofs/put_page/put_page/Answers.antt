@@ -1,12 +1,9 @@
-use Rattle.std.proofs.Common.{◌≡◌, ap, sym, subst, refl, ◌∙◌, length}
-use Rattle.keep_core.specs.declared.site.Site.{Site}
 use Rattle.judge_core.specs.Books.{Book}
 use Rattle.desk_core.specs.declared.command.Command.TheVariants.{PutPage}
-use Rattle.desk_core.specs.declared.refusal.Needed.TheVariants.{Editor}
 use Rattle.desk_core.specs.Steps.{Request}
-use Rattle.desk_core.specs.State.{page_at}
 use Rattle.desk_core.specs.Pages.{put_page}
 use Rattle.desk_core.proofs.Fitted.{put_page_fits}
+use Rattle.desk_core.proofs.Accepting.{put_page_accepts}
 use Rattle.desk_core.proofs.Onward.{decides_by, surveyed, read_as}
 use Rattle.desk_core.proofs.put_page.put_page.Goals as goal
 
@@ -18,6 +15,7 @@ returns-in-Ok-clause-decides g c =
     let request : Request = record { caller = c.args.caller.now; command = PutPage sent.site sent.page sent.rev c.args.raw } in
     decides_by book request _ _ _ _ _ c.decide.result (put_page book sent.site c.args.caller.now sent.page sent.rev c.args.raw at.site at.kept at.pages)
     c.in-Ok.ensures.reads c.decide.ensures.decided (put_page_fits book sent.site c.args.caller.now sent.page sent.rev c.args.raw at.site at.kept at.pages c.requires.site c.requires.page c.requires.address)
+    (put_page_accepts book sent.site c.args.caller.now sent.page sent.rev c.args.raw at.site at.kept at.pages)
     (λ t told.
     let found = c.in-Ok.ensures.found t told in
     surveyed c.args.caller.now sent.site sent.page t at.site at.kept at.pages (put_page book sent.site c.args.caller.now sent.page sent.rev c.args.raw) found.0 found.1 found.2)
@@ -28,4 +26,5 @@ returns-in-Err-clause-decides g c = record {
   agrees = λ t told sound. c.in-Err.ensures.refused t told _;
   fits = tt;
   there = tt;
+  accepted = tt;
 }

@@ -1,4 +1,4 @@
-use Rattle.std.proofs.Common.{sym, subst}
+use Rattle.std.proofs.Common.{subst}
 use Rattle.judge_core.specs.Books.{Book}
 use Rattle.desk_core.specs.Pages.{judged, renewed}
 use Rattle.desk_core.specs.Serving.{Agrees}

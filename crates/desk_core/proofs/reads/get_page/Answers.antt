@@ -12,7 +12,8 @@ pub returns-in-Ok : goal.returns-in-Ok
 returns-in-Ok g c =
     λ book.
     let request : Request = record { caller = c.args.caller.now; command = GetPage c.args.site.now c.args.page.now } in
-    decides_found book request Reader c.args.site.now c.args.page.now (λ s p. answered (reply.Page p.page)) (λ t. refl) _ _ _ _ c.in-Ok.found.0 c.in-Ok.found.1 (Ok c.page_of.result) c.in-Ok.ensures (ap Ok (sym c.page_of.ensures)) tt
+    decides_found book request Reader c.args.site.now c.args.page.now (λ s p. answered (reply.Page p.page)) (λ t. refl) _ _ _ _
+    c.in-Ok.found.0 c.in-Ok.found.1 (Ok c.page_of.result) c.in-Ok.ensures (ap Ok (sym c.page_of.ensures)) tt tt
 
 pub returns-in-Err : goal.returns-in-Err
 returns-in-Err g c =

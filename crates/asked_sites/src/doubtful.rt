@@ -1,0 +1,56 @@
+//! A keeper that ceases to tell what it keeps.
+
+use judge_core::{Judgement, Outcomes};
+use keep_core::{Batch, KeepFault, Keeper, MemoryKeeper, Page, PageHead, Site};
+use snap_tree::{List, Text};
+use std::alloc::Global;
+
+/// A keeper over one in memory that tells its tables until its first fault, as a store does that is shut
+/// then.
+#[derive(Drop)]
+pub struct Doubtful {
+    memory: MemoryKeeper,
+}
+
+impl Doubtful {
+    pub fn over(memory: MemoryKeeper) -> Self {
+        Doubtful { memory }
+    }
+}
+
+impl Keeper for Doubtful {
+    ghost use Rattle.keep_core.specs.Telling.{told_until_fault};
+
+    ghost tables = { λ k. told_until_fault k.memory.faults k.memory.tables };
+
+    ghost faults = { λ k. k.memory.faults };
+
+    fn site(&mut self, alloc: Global, site: &Text) -> Result<Option<Site>, KeepFault> {
+        self.memory.site(alloc, site)
+    }
+
+    fn load(&mut self, alloc: Global, site: &Text, page: &Text) -> Result<Option<Page>, KeepFault> {
+        self.memory.load(alloc, site, page)
+    }
+
+    fn list(&mut self, alloc: Global, site: &Text) -> Result<List<PageHead>, KeepFault> {
+        self.memory.list(alloc, site)
+    }
+
+    fn judgements(
+        &mut self,
+        alloc: Global,
+        site: &Text,
+        page: &Text,
+    ) -> Result<List<Judgement>, KeepFault> {
+        self.memory.judgements(alloc, site, page)
+    }
+
+    fn outcomes(&mut self, alloc: Global, site: &Text, page: &Text) -> Result<Outcomes, KeepFault> {
+        self.memory.outcomes(alloc, site, page)
+    }
+
+    fn apply(&mut self, alloc: Global, batch: &Batch) -> Result<(), KeepFault> {
+        self.memory.apply(alloc, batch)
+    }
+}

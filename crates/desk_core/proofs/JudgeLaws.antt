@@ -1,0 +1,120 @@
+-- What is decided on a judgement of a page that was found.
+use Rattle.std.proofs.Common.{◌≡◌, ℕ, List, Option, Some, None, option_map, Result, Ok, Err, IsTrue, IsSome, IfSome, IfOk, IsErrAnd, IsErrOf, refl, sym, ap, subst, ◌∙◌}
+use Rattle.snap_tree.specs.declared.row.NodeId.{NodeId}
+use Rattle.rule_core.specs.declared.info.RuleNo.{RuleNo}
+use Rattle.rule_core.specs.declared.verdict.Auto.{Auto}
+use Rattle.judge_core.specs.Books.{Book}
+use Rattle.judge_core.specs.declared.judgement.Judgement.{Judgement}
+use Rattle.judge_core.specs.declared.outcomes.OutRow.{OutRow}
+use Rattle.keep_core.specs.declared.change.Change.{Change}
+use Rattle.keep_core.specs.declared.change.Change.TheVariants.{PutSite, PutPages, DropPage, AddJudgement}
+use Rattle.keep_core.specs.declared.tables.KeptPage.{KeptPage}
+use Rattle.keep_core.specs.Names.{is_name}
+use Rattle.keep_core.specs.Tables.{Tables, kept_page}
+use Rattle.keep_core.specs.Fits.{Fits, IsThere}
+use Rattle.desk_core.specs.declared.command.Command.TheVariants as command
+use Rattle.desk_core.specs.declared.decided.Decided.{Decided}
+use Rattle.desk_core.specs.declared.refusal.Needed.TheVariants as needed
+use Rattle.desk_core.specs.declared.refusal.Refusal.{Refusal}
+use Rattle.desk_core.specs.declared.refusal.Refusal.TheVariants as refusal
+use Rattle.desk_core.specs.State.{PageState, page_state}
+use Rattle.desk_core.specs.Refusals.{Decision}
+use Rattle.desk_core.specs.Judging.{judged_row, judge, added, AddsTo}
+use Rattle.desk_core.specs.Steps.{decided}
+use Rattle.desk_core.specs.Serving.{Stands, Agrees, Accepts, Decides, FindsKept, IsTrueTo}
+use Rattle.desk_core.proofs.Ways.{followed}
+use Rattle.desk_core.proofs.Onward.{not_fault, agrees_with, only_read, read_as}
+use Rattle.desk_core.proofs.ReadLaws.{found_is_true}
+
+fits_of : (site page : List ℕ) → IsTrue (is_name site) → IsTrue (is_name page) → (change : Option Change) → IfSome change (AddsTo site page) → IfSome change Fits
+fits_of site page named page_named None is = tt
+fits_of site page named page_named (Some (PutSite s)) is = absurd is
+fits_of site page named page_named (Some (PutPages s counter pages)) is = absurd is
+fits_of site page named page_named (Some (DropPage s p)) is = absurd is
+fits_of site page named page_named (Some (AddJudgement s p j o)) is =
+    let P : List ℕ → Type 0 = λ n. IsTrue (is_name n) in (subst P (sym is.0) named, subst P (sym is.1) page_named)
+
+there_of : (site page : List ℕ) (t : Tables) → IsSome (kept_page site page t) → (change : Option Change) → IfSome change (AddsTo site page)
+    → IfSome change (λ c. IfSome (Some t) (IsThere c))
+there_of site page t kept None is = tt
+there_of site page t kept (Some (PutSite s)) is = absurd is
+there_of site page t kept (Some (PutPages s counter pages)) is = absurd is
+there_of site page t kept (Some (DropPage s p)) is = absurd is
+there_of site page t kept (Some (AddJudgement s p j o)) is =
+    let P : List ℕ → Type 0 = λ n. IsSome (kept_page n p t) in
+    let Q : List ℕ → Type 0 = λ n. IsSome (kept_page site n t) in
+    subst P (sym is.0) (subst Q (sym is.1) kept)
+
+untold : (change : Option Change) → IfSome change (λ c. IfSome None (IsThere c))
+untold None = tt
+untold (Some change) = tt
+
+there_in : (o : Option KeptPage) (p : PageState) → option_map page_state o ≡ Some p → IsSome o
+there_in None p is = cc
+there_in (Some k) p is = refl
+
+all_fit : (site page : List ℕ) → IsTrue (is_name site) → IsTrue (is_name page) → (result : Result Decided Refusal) → IfOk result (λ d. IfSome d.change (AddsTo site page))
+    → IfOk result (λ d. IfSome d.change Fits)
+all_fit site page named page_named (Ok d) is = fits_of site page named page_named d.change is
+all_fit site page named page_named (Err r) is = tt
+
+all_there : (site page : List ℕ) (new : Option Tables) → ((t : Tables) → new ≡ Some t → IsSome (kept_page site page t)) → (result : Result Decided Refusal)
+    → IfOk result (λ d. IfSome d.change (AddsTo site page)) → IfOk result (λ d. IfSome d.change (λ change. IfSome new (IsThere change)))
+all_there site page None kept (Ok d) is = untold d.change
+all_there site page None kept (Err r) is = tt
+all_there site page (Some t) kept (Ok d) is = there_of site page t (kept t refl) d.change is
+all_there site page (Some t) kept (Err r) is = tt
+
+-- a refusal that stands where no keeper is asked is handed on, and isn't the keeper's fault
+err_no_fault : (result : Result Decided Refusal) (r : Refusal) (decision : Decision) → IsErrAnd result (λ s. s ≡ r) → Stands ⊥ r decision → IsErrOf result refusal.KeeperFault → ⊥
+err_no_fault (Ok d) r decision same stands is = absurd same
+err_no_fault (Err s) r decision same stands is =
+    not_fault (let e : Result Decided Refusal = Err s in e) decision (subst (λ (r : Refusal). Stands ⊥ r decision) (sym same) stands) is
+
+module _ (book : Book) (site caller page : List ℕ) (rule : RuleNo) (node : NodeId) (verdict : Auto) (seen note : List ℕ) where
+  abbrev judgement_on : OutRow → Judgement
+  judgement_on row = record { rule = rule; node = node; verdict = verdict; hand = caller; note = note; evidence = row.evidence }
+
+  -- what is decided on the row that was found among the kept outcomes, where these are the page's
+  pub judge_is : (kept : KeptPage) (row : OutRow) (j : Judgement) → IsTrueTo book kept
+      → ((next : OutRow → Decision) → judged_row kept.outcomes.rows kept.page.head.hand caller rule node seen next ≡ next row) → j ≡ judgement_on row
+      → judge book site caller page rule node verdict seen note (page_state kept) ≡ added book site page j (page_state kept)
+  judge_is kept row j holds found same =
+      let add = λ (row : OutRow). added book site page (judgement_on row) (page_state kept) in
+      ap (λ rows. judged_row rows kept.page.head.hand caller rule node seen add) (sym holds)
+      ∙ (found add ∙ ap (λ (k : Judgement). added book site page k (page_state kept)) (sym same))
+
+  -- and a refusal of that row is no fault of the keeper's
+  pub no_fault_on : (kept : KeptPage) (result : Result Decided Refusal) (r : Refusal) → IsErrAnd result (λ s. s ≡ r)
+      → ((next : OutRow → Decision) → Stands ⊥ r (judged_row kept.outcomes.rows kept.page.head.hand caller rule node seen next)) → IsErrOf result refusal.KeeperFault → ⊥
+  no_fault_on kept result r same refused =
+      err_no_fault result r (judged_row kept.outcomes.rows kept.page.head.hand caller rule node seen (λ _. Err r)) same (refused (λ _. Err r))
+
+  pub decides_judge : (old new : Option Tables) (before now : ℕ) (kept : KeptPage) (result : Result Decided Refusal)
+      → IsTrue (is_name site) → IsTrue (is_name page)
+      → FindsKept needed.Judge caller site page old new before now (Ok kept)
+      → (IsTrueTo book kept → Agrees ⊥ result (judge book site caller page rule node verdict seen note (page_state kept)))
+      → (IsErrOf result refusal.KeeperFault → ⊥) → IfOk result (λ d. IfSome d.change (AddsTo site page)) → Accepts result
+      → Decides book (record { caller = caller; command = command.Judge site page rule node verdict seen note }) old new before now result
+  decides_judge old new before now kept result named page_named finds agrees no_fault adds accepted = record {
+    reads = only_read old new before now (let r : Result KeptPage Refusal = Ok kept in r) result (λ e. absurd (no_fault e)) finds.reads;
+    agrees =
+        λ t told sound.
+        let f = finds.found t told in
+        agrees_with result (judge book site caller page rule node verdict seen note (page_state kept)) _
+        (followed needed.Judge caller site page t f.0 (Some (page_state kept)) (λ _ p. judge book site caller page rule node verdict seen note p) _ f.1 f.2 (λ k has same. refl))
+        (agrees (found_is_true book t sound site page kept f.2 f.3));
+    fits = all_fit site page named page_named result adds;
+    there = all_there site page new (λ t told. there_in (kept_page site page t) (page_state kept) (finds.found t told).2) result adds;
+    accepted = accepted;
+  }
+
+  pub decides_no_judge : (old new : Option Tables) (before now : ℕ) (r : Refusal) → FindsKept needed.Judge caller site page old new before now (Err r)
+      → Decides book (record { caller = caller; command = command.Judge site page rule node verdict seen note }) old new before now (Err r)
+  decides_no_judge old new before now r finds = record {
+    reads = read_as old new before now r finds.reads;
+    agrees = λ t told sound. finds.refused t told (λ _ p. judge book site caller page rule node verdict seen note p);
+    fits = tt;
+    there = tt;
+    accepted = tt;
+  }

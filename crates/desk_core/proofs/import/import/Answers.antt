@@ -1,0 +1,40 @@
+use Rattle.std.proofs.Common.{◌≤◌, ◌+◌, sum_by, sym, subst}
+use Rattle.judge_core.specs.Books.{Book}
+use Rattle.desk_core.specs.declared.command.Command.TheVariants as command
+use Rattle.desk_core.specs.Fitting.{FitsEntries}
+use Rattle.desk_core.specs.Steps.{Request}
+use Rattle.desk_core.specs.Costs.{import_judgings}
+use Rattle.desk_core.specs.Placing.{import_placed}
+use Rattle.desk_core.proofs.Onward.{decides_by, read_as}
+use Rattle.desk_core.proofs.ImportLaws.{arrived}
+use Rattle.desk_core.proofs.Accepting.{import_placed_accepts}
+use Rattle.desk_core.proofs.ImportFits.{import_placed_fits}
+use Rattle.desk_core.proofs.import.import.Goals as goal
+
+pub returns-in-Ok-clause-decides : goal.returns-in-Ok-clause-decides
+returns-in-Ok-clause-decides g c =
+    let book : Book = record { infos = g.B.RuleBook.infos; means = g.B.RuleBook.means } in
+    let a = c.args in
+    let at = c.in-Ok.arrival in
+    let request : Request = record { caller = a.caller.now; command = command.Import a.site a.entries } in
+    decides_by book request _ _ _ _ _ c.decide.result (import_placed book a.site a.caller.now at.counter at.pages at.placed)
+    c.in-Ok.ensures.reads c.decide.ensures.decided
+    (import_placed_fits book a.caller.now a.site at.counter at.pages at.placed c.requires.site (subst FitsEntries (sym c.in-Ok.ensures.listed) c.requires.entries))
+    (import_placed_accepts book a.site a.caller.now at.counter at.pages at.placed)
+    (λ t told.
+    let f = c.in-Ok.ensures.found t told in
+    arrived book a.caller.now a.site a.entries t f.0 at.counter at.pages at.placed f.1 f.2 f.3 f.4)
+
+pub returns-in-Ok-clause-counted : goal.returns-in-Ok-clause-counted
+returns-in-Ok-clause-counted g c =
+    let book : Book = record { infos = g.B.RuleBook.infos; means = g.B.RuleBook.means } in
+    subst (λ es. sum_by g.B.RuleBook.calls c.decide.new.books ≤ sum_by g.B.RuleBook.calls c.args.books.now + import_judgings book es) c.in-Ok.ensures.listed c.decide.ensures.counted
+
+pub returns-in-Err-clause-decides : goal.returns-in-Err-clause-decides
+returns-in-Err-clause-decides g c = record {
+  reads = read_as _ _ _ _ _ c.in-Err.ensures.reads;
+  agrees = λ t told sound. c.in-Err.ensures.refused t told _;
+  fits = tt;
+  there = tt;
+  accepted = tt;
+}

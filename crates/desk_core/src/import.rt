@@ -1,0 +1,219 @@
+ghost use Rattle.std.specs.Prelude.{◌≡◌, ◌+◌, ◌<◌, ◌≤◌, length, sum_by, map, true, None, is_none, IsTrue, IfOk, IfErr, OnOk, nat_le};
+ghost use Rattle.reaudit.specs.Pages.{pages_judgings};
+ghost use Rattle.keep_core.specs.Names.{is_name};
+ghost use Rattle.desk_core.specs.declared.command.Command.TheVariants.{Import};
+ghost use Rattle.desk_core.specs.declared.limits.TheConstants as limits;
+ghost use Rattle.desk_core.specs.Refusals.{Decision, unless_refused};
+ghost use Rattle.desk_core.specs.Pages.{has_revisions, stored};
+ghost use Rattle.std.specs.Option.{option_copied};
+ghost use Rattle.std.specs.List.{find};
+ghost use Rattle.desk_core.specs.Fitting.{FitsEntries};
+ghost use Rattle.desk_core.specs.Costs.{import_judgings};
+ghost use Rattle.desk_core.specs.Placing.{entries_of, new_among, current_of, is_stale, stale_among, puts_by, storing_all, import_placed};
+ghost use Rattle.desk_core.specs.Serving.{Agrees, Decides, Stands};
+
+use crate::arrival::{Arrival, arrive};
+use crate::built::{Built, build_all, put_all};
+use crate::command::Entry;
+use crate::decided::Decided;
+use crate::limits::{MOST_PAGES, MOST_REVISION};
+use crate::placed::Placed;
+use crate::refusal::{Limit, Refusal};
+use crate::reply::{Reply, Stored};
+use crate::store::stored;
+use keep_core::{Change, Keeper, PagePut};
+use reaudit::audit_pages;
+use rule_core::RuleBook;
+use snap_tree::{List, OutOfMemory, Text};
+use std::alloc::Global;
+use std::thread::Threads;
+
+/// Puts pages, all or none, each in the place of the one that the sender saw. They are audited by all the
+/// books, each in a thread of its own.
+pub fn import<R: Threads + Sync, K: Keeper, B: RuleBook + Send>(
+    rt: &R,
+    alloc: Global,
+    books: &mut [B],
+    keeper: &mut K,
+    caller: &Text,
+    site: Text,
+    entries: List<Entry>,
+) -> Result<Decided, Refusal>
+    requires some { 0 < length books.old }
+    requires site { IsTrue (is_name site) }
+    requires entries { FitsEntries entries }
+    ensures decides { Decides (record { infos = B.infos; means = B.means })
+        (record { caller = caller.now; command = Import site entries })
+        (K.tables keeper.old) (K.tables keeper.new) (K.faults keeper.old) (K.faults keeper.new) result }
+    ensures counted { sum_by B.calls books.new ≤ sum_by B.calls books.old
+        + import_judgings (record { infos = B.infos; means = B.means }) entries }
+{
+    match arrive(alloc, keeper, caller, &site, entries) {
+        Ok(arrival) => decide(rt, alloc, books, caller, site, arrival),
+        Err(refusal) => Err(refusal),
+    }
+}
+
+// What is decided on pages, by what was found in their places.
+#[tactic(auto, using(crate::proofs::ImportLaws::no_room, crate::proofs::ImportLaws::no_revisions, crate::proofs::ImportLaws::refused_stale))]
+fn decide<R: Threads + Sync, B: RuleBook + Send>(
+    rt: &R,
+    alloc: Global,
+    books: &mut [B],
+    caller: &Text,
+    site: Text,
+    arrival: Arrival,
+) -> Result<Decided, Refusal>
+    requires { 0 < length books.old }
+    ensures decided { Agrees ⊥ result (import_placed (record { infos = B.infos; means = B.means }) site caller.now
+        arrival.counter arrival.pages arrival.placed) }
+    ensures counted { sum_by B.calls books.new ≤ sum_by B.calls books.old
+        + import_judgings (record { infos = B.infos; means = B.means }) (entries_of arrival.placed) }
+{
+    if !has_room(arrival.pages, new_among(arrival.placed.as_slice())) {
+        return Err(Refusal::PageLimit {
+            limit: Limit::Pages,
+        });
+    }
+    if !has_revisions(arrival.counter, arrival.placed.len()) {
+        return Err(Refusal::PageLimit {
+            limit: Limit::Revisions,
+        });
+    }
+    match check_current(alloc, &arrival.placed) {
+        Ok(()) => import_there(rt, alloc, books, caller, site, arrival),
+        Err(refusal) => Err(refusal),
+    }
+}
+
+// A site with so many pages has room for so many new ones.
+fn has_room(pages: usize, new: usize) -> bool
+    ensures { result ≡ nat_le (pages + new) limits.MOST_PAGES }
+{
+    pages <= MOST_PAGES && new <= MOST_PAGES - pages
+}
+
+// A site with this counter can give so many revisions more.
+fn has_revisions(counter: u64, more: usize) -> bool
+    ensures { result ≡ has_revisions counter more }
+{
+    counter <= MOST_REVISION && more as u64 <= MOST_REVISION - counter
+}
+
+// The page of an entry isn't there.
+fn is_new(placed: &Placed) -> bool
+    ensures { result ≡ is_none placed.now.current }
+{
+    placed.current.is_none()
+}
+
+// The entries whose page isn't there.
+fn new_among(placed: &[Placed]) -> usize
+    ensures { result ≡ new_among placed.now }
+{
+    placed.iter().filter(|p| is_new(p)).count()
+}
+
+// The revision of the page in an entry's place; 0 for none.
+fn current_of(placed: &Placed) -> u64
+    ensures { result ≡ current_of placed.now }
+{
+    placed.current.unwrap_or(0)
+}
+
+fn first_stale(placed: &[Placed]) -> Option<&Placed>
+    ensures { option_copied result ≡ find is_stale placed.now }
+{
+    placed.iter().find(|p| p.entry.rev != current_of(p))
+}
+
+// Refuses where some entry's revision isn't its page's.
+fn check_current(alloc: Global, placed: &List<Placed>) -> Result<(), Refusal>
+    ensures fresh { OnOk result (stale_among placed.now ≡ None) }
+    ensures refused { IfErr result
+        (λ r. (next : Decision) → Stands ⊥ r (unless_refused (stale_among placed.now) next)) }
+{
+    match first_stale(placed.as_slice()) {
+        Some(stale) => {
+            let page = stale.entry.page.copy(alloc)?;
+            Err(Refusal::StaleRevision {
+                current: current_of(stale),
+                page: Some(page),
+            })
+        }
+        None => Ok(()),
+    }
+}
+
+// What is decided where neither a limit nor a revision stands against it.
+#[tactic(auto, using(crate::proofs::Fitted::has_revisions_le))]
+fn import_there<R: Threads + Sync, B: RuleBook + Send>(
+    rt: &R,
+    alloc: Global,
+    books: &mut [B],
+    caller: &Text,
+    site: Text,
+    arrival: Arrival,
+) -> Result<Decided, Refusal>
+    requires some { 0 < length books.old }
+    requires room { nat_le (arrival.pages + new_among arrival.placed) limits.MOST_PAGES ≡ true }
+    requires revisions { has_revisions arrival.counter (length arrival.placed) ≡ true }
+    requires fresh { stale_among arrival.placed ≡ None }
+    ensures decided { Agrees ⊥ result (import_placed (record { infos = B.infos; means = B.means }) site caller.now
+        arrival.counter arrival.pages arrival.placed) }
+    ensures counted { sum_by B.calls books.new ≤ sum_by B.calls books.old
+        + import_judgings (record { infos = B.infos; means = B.means }) (entries_of arrival.placed) }
+{
+    let counter = arrival.counter + arrival.placed.len() as u64;
+    match build_all(alloc, caller, arrival.counter, arrival.placed) {
+        Ok(built) => store_all(rt, alloc, books, site, counter, built),
+        Err(refusal) => Err(refusal),
+    }
+}
+
+// Pages that are put at once, with what is said of them.
+#[tactic(auto, using(crate::proofs::ImportLaws::stored_is))]
+fn store_all<R: Threads + Sync, B: RuleBook + Send>(
+    rt: &R,
+    alloc: Global,
+    books: &mut [B],
+    site: Text,
+    counter: u64,
+    built: Built,
+) -> Result<Decided, Refusal>
+    requires { 0 < length books.old }
+    ensures decided { Agrees ⊥ result (storing_all (record { infos = B.infos; means = B.means }) site counter
+        (puts_by (record { infos = B.infos; means = B.means }) built.heads built.works)) }
+    ensures counted { sum_by B.calls books.new ≤ sum_by B.calls books.old
+        + pages_judgings (record { infos = B.infos; means = B.means }) built.works }
+{
+    let outcomes = audit_pages(rt, alloc, books, built.works.as_slice())?;
+    let pages = put_all(alloc, built, outcomes)?;
+    let told = stored_all(alloc, &books[0], pages.as_slice())?;
+    Ok(Decided {
+        change: Some(Change::PutPages {
+            site,
+            counter,
+            pages,
+        }),
+        reply: Reply::Imported {
+            pages: List::from_vec(told),
+        },
+    })
+}
+
+// What is said of pages that are put.
+fn stored_all<B: RuleBook>(
+    alloc: Global,
+    book: &B,
+    pages: &[PagePut],
+) -> Result<Vec<Stored>, OutOfMemory>
+    ensures { IfOk result
+        (λ told. told.items ≡ map (stored (record { infos = B.infos; means = B.means })) pages.now) }
+{
+    let mut told = Vec::with_capacity(alloc, pages.len())?;
+    for put in pages {
+        told.push(stored(alloc, book, put)?)?;
+    }
+    Ok(told)
+}

@@ -1,0 +1,226 @@
+ghost use Rattle.std.specs.Prelude.{◌≡◌, [], ◌∷◌, ◌++◌, reverse, IsTrue, IfOk, IfErr, IfSome, IsErrOf};
+ghost use Rattle.std.specs.List.{find};
+ghost use Rattle.std.specs.Option.{option_copied};
+ghost use Rattle.snap_tree.specs.Trees.{Document};
+ghost use Rattle.judge_core.specs.declared.outcomes.OutRow.{OutRow};
+ghost use Rattle.judge_core.specs.Composites.{is_open};
+ghost use Rattle.judge_core.specs.Judgements.{is_on};
+ghost use Rattle.judge_core.specs.Outcomes.{outcomes};
+ghost use Rattle.keep_core.specs.Names.{is_name};
+ghost use Rattle.desk_core.specs.declared.command.Command.TheVariants.{Judge};
+ghost use Rattle.desk_core.specs.declared.refusal.Refusal.TheVariants.{KeeperFault};
+ghost use Rattle.desk_core.specs.Refusals.{Decision};
+ghost use Rattle.desk_core.specs.Judging.{is_latest, added, judged_row, judge, AddsTo};
+ghost use Rattle.desk_core.specs.State.{PageState, page_state};
+ghost use Rattle.desk_core.specs.Serving.{Accepts, Agrees, Decides, IsTrueTo, Stands};
+
+use crate::decided::Decided;
+use crate::look::find_kept;
+use crate::refusal::{Needed, Refusal};
+use crate::reply::Reply;
+use judge_core::{Judgement, OutRow, Outcomes, evidence_digest};
+use keep_core::{Change, Keeper, KeptPage};
+use reaudit::after_judgement;
+use rule_core::{Auto, RuleBook, RuleNo};
+use snap_tree::{List, NodeId, OutOfMemory, Text};
+use std::alloc::Global;
+
+/// A judgement as it is sent: of which rule on which node, by the digest of the evidence that was seen.
+#[derive(Drop)]
+pub struct Said {
+    pub rule: RuleNo,
+    pub node: NodeId,
+    pub verdict: Auto,
+    pub digest: [u8; 32],
+    pub note: Text,
+}
+
+/// Judges a rule on a node of a page. The page's outcomes are found anew from its kept ones, and no rule
+/// is asked again.
+pub fn judge<K: Keeper, B: RuleBook>(
+    alloc: Global,
+    book: &B,
+    keeper: &mut K,
+    caller: &Text,
+    site: Text,
+    page: Text,
+    said: Said,
+) -> Result<Decided, Refusal>
+    requires site { IsTrue (is_name site) }
+    requires page { IsTrue (is_name page) }
+    ensures { Decides (record { infos = B.infos; means = B.means })
+        (record { caller = caller.now; command = Judge site page said.rule said.node said.verdict said.digest said.note })
+        (K.tables keeper.old) (K.tables keeper.new) (K.faults keeper.old) (K.faults keeper.new) result }
+{
+    match find_kept(alloc, keeper, Needed::Judge, caller, &site, &page) {
+        Ok(kept) => decide(alloc, book, caller, site, page, said, kept),
+        Err(refusal) => Err(refusal),
+    }
+}
+
+// What is decided on a judgement of a page, whose outcomes are kept.
+fn decide<B: RuleBook>(
+    alloc: Global,
+    book: &B,
+    caller: &Text,
+    site: Text,
+    page: Text,
+    said: Said,
+    kept: KeptPage,
+) -> Result<Decided, Refusal>
+    ensures agrees { IsTrueTo (record { infos = B.infos; means = B.means }) kept
+        → Agrees ⊥ result (judge (record { infos = B.infos; means = B.means }) site caller.now page
+        said.rule said.node said.verdict said.digest said.note (page_state kept)) }
+    ensures no_fault { IsErrOf result KeeperFault → ⊥ }
+    ensures adds { IfOk result (λ d. IfSome d.change (AddsTo site page)) }
+    ensures accepted { Accepts result }
+{
+    let row = judged_row(&kept.outcomes, &said, caller, &kept.page.head.hand)?;
+    let judgement = judgement_of(alloc, caller, said, row)?;
+    let KeptPage {
+        judgements,
+        outcomes,
+        ..
+    } = kept;
+    added(alloc, book, site, page, judgement, judgements, &outcomes)
+}
+
+// The row that is judged: an open one whose evidence the judge saw, of a page that another sent.
+fn judged_row<'a>(
+    outcomes: &'a Outcomes,
+    said: &Said,
+    caller: &Text,
+    hand: &Text,
+) -> Result<&'a OutRow, Refusal>
+    ensures row { IfOk result (λ row. (next : OutRow → Decision)
+        → judged_row outcomes.now.rows hand.now caller.now said.now.rule said.now.node said.now.digest next
+        ≡ next row.now) }
+    ensures refused { IfErr result (λ r. (next : OutRow → Decision) → Stands ⊥ r
+        (judged_row outcomes.now.rows hand.now caller.now said.now.rule said.now.node said.now.digest next)) }
+{
+    let Some(row) = outcomes.row(said.rule, said.node) else {
+        return Err(Refusal::NoTarget);
+    };
+    if !is_open(row.auto) {
+        return Err(Refusal::NotOpen {
+            automatic: row.auto,
+        });
+    }
+    if *caller == *hand {
+        return Err(Refusal::SameHand);
+    }
+    let current = evidence_digest(&row.evidence);
+    if said.digest == current {
+        Ok(row)
+    } else {
+        Err(Refusal::EvidenceMoved { current })
+    }
+}
+
+fn is_open(auto: Auto) -> bool
+    ensures { result ≡ is_open auto }
+{
+    matches!(auto, Auto::CantTell)
+}
+
+// The judgement that is given, of the evidence that the row has.
+fn judgement_of(
+    alloc: Global,
+    caller: &Text,
+    said: Said,
+    row: &OutRow,
+) -> Result<Judgement, OutOfMemory>
+    ensures { IfOk result (λ j. j ≡ record {
+      rule = said.rule;
+      node = said.node;
+      verdict = said.verdict;
+      hand = caller.now;
+      note = said.note;
+      evidence = row.now.evidence;
+    }) }
+{
+    let hand = caller.copy(alloc)?;
+    let evidence = row.evidence.copy(alloc)?;
+    Ok(Judgement {
+        rule: said.rule,
+        node: said.node,
+        verdict: said.verdict,
+        hand,
+        note: said.note,
+        evidence,
+    })
+}
+
+// A judgement goes to the end of the page's list, unless the latest one is the same.
+fn added<B: RuleBook>(
+    alloc: Global,
+    book: &B,
+    site: Text,
+    page: Text,
+    judgement: Judgement,
+    js: List<Judgement>,
+    found: &Outcomes,
+) -> Result<Decided, Refusal>
+    ensures agrees { (kept : PageState) → js ≡ kept.judgements
+        → found.now.rows ≡ outcomes (record { infos = B.infos; means = B.means }) kept.page.tree js
+        → Agrees ⊥ result (added (record { infos = B.infos; means = B.means }) site page judgement kept) }
+    ensures no_fault { IsErrOf result KeeperFault → ⊥ }
+    ensures adds { IfOk result (λ d. IfSome d.change (AddsTo site page)) }
+    ensures accepted { Accepts result }
+{
+    let reply = Reply::Judged {
+        rule: judgement.rule,
+        node: judgement.node,
+        outcome: judgement.verdict,
+    };
+    if is_latest(&judgement, js.as_slice()) {
+        return Ok(Decided {
+            change: None,
+            reply,
+        });
+    }
+    let outcomes = outcomes_with(alloc, book, &judgement, js, found)?;
+    Ok(Decided {
+        change: Some(Change::AddJudgement {
+            site,
+            page,
+            judgement,
+            outcomes,
+        }),
+        reply,
+    })
+}
+
+// Whether the latest judgement of its rule on its node is the same.
+fn is_latest(judgement: &Judgement, js: &[Judgement]) -> bool
+    ensures { result ≡ is_latest judgement.now js.now }
+{
+    match latest_on(judgement.rule, judgement.node, js) {
+        Some(latest) => *latest == *judgement,
+        None => false,
+    }
+}
+
+fn latest_on(rule: RuleNo, node: NodeId, js: &[Judgement]) -> Option<&Judgement>
+    ensures { option_copied result ≡ find (is_on rule node) (reverse js.now) }
+{
+    js.iter().rev().find(|j| j.is_on(rule, node))
+}
+
+// The outcomes of a page under one judgement more than those under which these were found.
+fn outcomes_with<B: RuleBook>(
+    alloc: Global,
+    book: &B,
+    judgement: &Judgement,
+    js: List<Judgement>,
+    found: &Outcomes,
+) -> Result<Outcomes, OutOfMemory>
+    ensures { (tree : Document)
+        → found.now.rows ≡ outcomes (record { infos = B.infos; means = B.means }) tree js
+        → IfOk result (λ o. o.rows
+        ≡ outcomes (record { infos = B.infos; means = B.means }) tree (js ++ judgement.now ∷ [])) }
+{
+    let mut js = js.into_vec();
+    js.push(judgement.copy(alloc)?)?;
+    after_judgement(alloc, book, found, js.as_slice())
+}
