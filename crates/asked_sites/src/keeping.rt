@@ -1,18 +1,17 @@
 //! What a keeper answers of what it keeps.
 
 ghost use Rattle.std.specs.Prelude.{◌≡◌, ◌∷◌, [], IfOk};
-ghost use Rattle.keep_core.specs.Fits.{Fits, FitsSite, FitsPage};
+ghost use Rattle.keep_core.specs.Fits.{Fits, FitsPage};
 
 use crate::doubtful::Doubtful;
-use crate::failing::{keeper_failing, named};
 use judge_core::{Judgement, OutRow, Outcomes};
 use keep_core::{
-    Batch, Change, Keeper, Member, MemberRole, MemoryKeeper, Page, PageHead, PagePut, Site,
-    is_name, laws_of_changes,
+    Batch, Change, Keeper, MemoryKeeper, Page, PageHead, PagePut, is_name, laws_of_changes,
 };
 use page_sketches::Node::Html;
 use rule_core::Auto::{CantTell, Passed};
 use rule_core::{Reason, RuleNo};
+use site_scripts::{Unasked, keeper_failing, named, site_at};
 use snap_tree::{List, NodeId, OutOfMemory, Text};
 use std::alloc::Global;
 use std::process::Abort;
@@ -86,27 +85,11 @@ fn one<T: Drop>(alloc: Global, item: T) -> Result<List<T>, OutOfMemory>
     Ok(List::from_vec(items))
 }
 
-fn site(rt: &impl Abort, alloc: Global) -> Result<Site, OutOfMemory>
-    ensures { IfOk result FitsSite }
-{
-    let name = named(rt, alloc, "s")?;
-    let owner = Member {
-        user: named(rt, alloc, "ann")?,
-        role: MemberRole::Owner,
-    };
-    let members = one(alloc, owner)?;
-    Ok(Site {
-        name,
-        counter: 0,
-        members,
-    })
-}
-
 fn page(rt: &impl Abort, alloc: Global, rev: u16) -> Result<Page, Fail>
     ensures { IfOk result FitsPage }
 {
     let head = PageHead {
-        page: named(rt, alloc, "p")?,
+        page: named(alloc, "p")?,
         rev: u64::from(rev),
         hand: Text::from_str(alloc, "Ann")?,
     };
@@ -132,7 +115,7 @@ fn outcomes(alloc: Global) -> Result<Outcomes, OutOfMemory> {
 fn put_pages(rt: &impl Abort, alloc: Global, rev: u16) -> Result<Change, Fail>
     ensures { IfOk result Fits }
 {
-    let site = named(rt, alloc, "s")?;
+    let site = named(alloc, "s")?;
     let put = PagePut {
         page: page(rt, alloc, rev)?,
         outcomes: outcomes(alloc)?,
@@ -145,18 +128,18 @@ fn put_pages(rt: &impl Abort, alloc: Global, rev: u16) -> Result<Change, Fail>
     })
 }
 
-fn put_site(rt: &impl Abort, alloc: Global) -> Result<Change, OutOfMemory>
+fn put_site(alloc: Global) -> Result<Change, Unasked>
     ensures { IfOk result Fits }
 {
-    let site = site(rt, alloc)?;
+    let site = site_at(alloc, "s", "ann", 0)?;
     Ok(Change::PutSite { site })
 }
 
-fn add_judgement(rt: &impl Abort, alloc: Global) -> Result<Change, OutOfMemory>
+fn add_judgement(alloc: Global) -> Result<Change, Unasked>
     ensures { IfOk result Fits }
 {
-    let site = named(rt, alloc, "s")?;
-    let page = named(rt, alloc, "p")?;
+    let site = named(alloc, "s")?;
+    let page = named(alloc, "p")?;
     let judgement = Judgement {
         rule: RuleNo(16),
         node: NodeId(1),
@@ -176,11 +159,11 @@ fn add_judgement(rt: &impl Abort, alloc: Global) -> Result<Change, OutOfMemory>
     })
 }
 
-fn drop_page(rt: &impl Abort, alloc: Global) -> Result<Change, OutOfMemory>
+fn drop_page(alloc: Global) -> Result<Change, Unasked>
     ensures { IfOk result Fits }
 {
-    let site = named(rt, alloc, "s")?;
-    let page = named(rt, alloc, "p")?;
+    let site = named(alloc, "s")?;
+    let page = named(alloc, "p")?;
     Ok(Change::DropPage { site, page })
 }
 
@@ -188,10 +171,10 @@ fn change(rt: &impl Abort, alloc: Global, step: Step) -> Result<Change, Fail>
     ensures { IfOk result Fits }
 {
     match step {
-        Step::Site => Ok(put_site(rt, alloc)?),
+        Step::Site => Ok(put_site(alloc)?),
         Step::Page(rev) => put_pages(rt, alloc, rev),
-        Step::Judgement => Ok(add_judgement(rt, alloc)?),
-        Step::Drop => Ok(drop_page(rt, alloc)?),
+        Step::Judgement => Ok(add_judgement(alloc)?),
+        Step::Drop => Ok(drop_page(alloc)?),
     }
 }
 
@@ -220,10 +203,10 @@ fn each_change_is_seen(rt: HostRuntime) -> Result<(), Fail> {
 }
 
 // Whether each of the six calls fails, in the order of the trait.
-fn failing(rt: &impl Abort, alloc: Global, keeper: &mut MemoryKeeper) -> Result<[bool; 6], Fail> {
+fn failing(alloc: Global, keeper: &mut MemoryKeeper) -> Result<[bool; 6], Fail> {
     let site = Text::from_str(alloc, "s")?;
     let page = Text::from_str(alloc, "p")?;
-    let change = put_site(rt, alloc)?;
+    let change = put_site(alloc)?;
     let site_fails = keeper.site(alloc, &site).is_err();
     let load_fails = keeper.load(alloc, &site, &page).is_err();
     let list_fails = keeper.list(alloc, &site).is_err();
@@ -245,7 +228,7 @@ fn the_calls_that_the_list_names_fail(rt: HostRuntime) -> Result<(), Fail> {
     let alloc = rt.alloc();
     for named in 1..7 {
         let mut keeper = keeper_failing(alloc, &[named])?;
-        let fails = failing(&rt, alloc, &mut keeper)?;
+        let fails = failing(alloc, &mut keeper)?;
         for (place, failed) in fails.iter().enumerate() {
             assert_eq!(rt; *failed, place as u64 + 1 == named, "{place} of {named}");
         }
@@ -259,7 +242,7 @@ fn the_calls_that_the_list_names_fail(rt: HostRuntime) -> Result<(), Fail> {
 fn a_keeper_may_cease_to_tell(rt: HostRuntime) -> Result<(), Fail> {
     let alloc = rt.alloc();
     let mut memory = keeper_failing(alloc, &[2])?;
-    let change = put_site(&rt, alloc)?;
+    let change = put_site(alloc)?;
     memory.apply(alloc, &Batch { change })?;
     let mut keeper = Doubtful::over(memory);
     let site = Text::from_str(alloc, "s")?;

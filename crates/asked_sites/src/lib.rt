@@ -1,9 +1,14 @@
-//! Tests that cross crates: what a keeper answers of the sites that it keeps. There is no call of its own.
+//! Tests that cross crates: what a keeper answers of the sites that it keeps, and the machine to requests on
+//! them. There is no call of its own.
 #![tactic(auto)]
 
 #[cfg(test)]
 mod doubtful;
 #[cfg(test)]
-mod failing;
+mod faults;
 #[cfg(test)]
 mod keeping;
+#[cfg(test)]
+mod random;
+#[cfg(test)]
+mod scripts;

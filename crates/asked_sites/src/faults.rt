@@ -1,0 +1,123 @@
+//! Keepers that fail, and one that ceases to tell what it keeps.
+
+use crate::doubtful::Doubtful;
+use keep_core::MemberRole;
+use rule_sketches::Marks;
+use site_scripts::Alter::Mark;
+use site_scripts::Ask::{Alter, Get, NewSite, Put, Role};
+use site_scripts::{
+    Brief, Case, KEEPER_FAULT, Kind, NONE, PAGE, SITE_EXISTS, STALE, View, first_otherwise,
+    keeper_failing,
+};
+use std::test::Fail;
+
+const MADE: Brief<'static> = (Kind::Site, "acme", NONE);
+
+const STORED: Brief<'static> = (Kind::Stored, "home", [1, 2, 0, 3, 1]);
+
+// What is answered to making a site, making it again, and putting a page, where each call of the keeper
+// fails in turn: where the call of that number fails.
+static FAULTS: [[Case; 3]; 8] = [
+    [
+        ("ann", "acme", NewSite, KEEPER_FAULT),
+        ("ann", "acme", NewSite, MADE),
+        ("ann", "acme", Put("home", 0, PAGE), STORED),
+    ],
+    [
+        ("ann", "acme", NewSite, KEEPER_FAULT),
+        ("ann", "acme", NewSite, MADE),
+        ("ann", "acme", Put("home", 0, PAGE), STORED),
+    ],
+    [
+        ("ann", "acme", NewSite, MADE),
+        ("ann", "acme", NewSite, KEEPER_FAULT),
+        ("ann", "acme", Put("home", 0, PAGE), STORED),
+    ],
+    [
+        ("ann", "acme", NewSite, MADE),
+        ("ann", "acme", NewSite, SITE_EXISTS),
+        ("ann", "acme", Put("home", 0, PAGE), KEEPER_FAULT),
+    ],
+    [
+        ("ann", "acme", NewSite, MADE),
+        ("ann", "acme", NewSite, SITE_EXISTS),
+        ("ann", "acme", Put("home", 0, PAGE), KEEPER_FAULT),
+    ],
+    [
+        ("ann", "acme", NewSite, MADE),
+        ("ann", "acme", NewSite, SITE_EXISTS),
+        ("ann", "acme", Put("home", 0, PAGE), KEEPER_FAULT),
+    ],
+    [
+        ("ann", "acme", NewSite, MADE),
+        ("ann", "acme", NewSite, SITE_EXISTS),
+        ("ann", "acme", Put("home", 0, PAGE), KEEPER_FAULT),
+    ],
+    [
+        ("ann", "acme", NewSite, MADE),
+        ("ann", "acme", NewSite, SITE_EXISTS),
+        ("ann", "acme", Put("home", 0, PAGE), STORED),
+    ],
+];
+
+#[test]
+fn a_fault_of_the_keeper_is_of_one_request(rt: HostRuntime) -> Result<(), Fail> {
+    let alloc = rt.alloc();
+    for (place, cases) in FAULTS.iter().enumerate() {
+        let mut keeper = keeper_failing(alloc, &[place as u64 + 1])?;
+        let found = first_otherwise(&rt, alloc, &mut [Marks::new()], &mut keeper, cases)?;
+        assert_eq!(rt; found, None, "call {place}");
+    }
+    Ok(())
+}
+
+// What is asked of a keeper whose eighth call fails, and what is answered.
+static ASKED: [Case; 8] = [
+    ("ann", "acme", NewSite, MADE),
+    ("ann", "acme", Put("home", 0, PAGE), STORED),
+    (
+        "ann",
+        "acme",
+        Alter("home", 1, &[Mark(2, "y")]),
+        KEEPER_FAULT,
+    ),
+    (
+        "ann",
+        "acme",
+        Alter("home", 1, &[Mark(2, "y")]),
+        (Kind::Stored, "home", [2, 2, 0, 3, 1]),
+    ),
+    (
+        "ann",
+        "acme",
+        Alter("home", 1, &[Mark(2, "y")]),
+        (STALE, "", [2, 0, 0, 0, 0]),
+    ),
+    (
+        "ann",
+        "acme",
+        Role("bob", Some(MemberRole::Reader)),
+        (Kind::Member(Some(MemberRole::Reader)), "bob", NONE),
+    ),
+    (
+        "ann",
+        "acme",
+        Get(View::Page, "home"),
+        (Kind::Page, "home", [2, 3, 0, 0, 0]),
+    ),
+    (
+        "ann",
+        "acme",
+        Get(View::Outcomes, "home"),
+        (Kind::Outcomes, "home", [2, 5, 3, 0, 0]),
+    ),
+];
+
+#[test]
+fn a_keeper_that_tells_nothing_any_more_is_served(rt: HostRuntime) -> Result<(), Fail> {
+    let alloc = rt.alloc();
+    let mut keeper = Doubtful::over(keeper_failing(alloc, &[8])?);
+    let found = first_otherwise(&rt, alloc, &mut [Marks::new()], &mut keeper, &ASKED)?;
+    assert_eq!(rt; found, None);
+    Ok(())
+}
