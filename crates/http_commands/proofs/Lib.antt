@@ -1,0 +1,7 @@
+pub mod Steps
+pub mod Lists
+pub mod Rules
+pub mod RevisionFits
+pub mod EntryFits
+pub mod OpinionFits
+pub mod RequestFits

@@ -1,0 +1,10 @@
+pub mod Shapes
+pub mod Revisions
+pub mod Roles
+pub mod Entries
+pub mod Edits
+pub mod EditLists
+pub mod Judging
+pub mod Commands
+pub mod Fitting
+pub mod Requests

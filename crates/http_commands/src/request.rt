@@ -1,0 +1,60 @@
+ghost use Rattle.std.specs.Prelude.{◌≡◌, IfOk};
+ghost use Rattle.desk_core.specs.Fitting.{FitsRequest};
+ghost use Rattle.http_commands.specs.Requests.{request_of};
+ghost use Rattle.http_commands.specs.Fitting.{IsWeb};
+
+use crate::command::command_of;
+use crate::unasked::Unasked;
+use desk_core::Command;
+use http_messages::Head;
+use http_routes::{Call, call_of};
+use request_faults::RequestFault;
+use rule_core::RuleBook;
+use snap_tree::{OutOfMemory, Text};
+use std::alloc::Global;
+
+/// What a message asks of the desk, and who asks.
+#[derive(Debug, Drop)]
+pub struct Asked {
+    pub caller: Text,
+    pub command: Command,
+}
+
+/// The request that a message makes, by its head and its body; the inner `Err` is the first refusal that
+/// holds, in the order of `RequestFault`.
+///
+/// Of the parts that are out of shape the first is told: the revision, which is exactly one field `x-rev` of
+/// 1 to 19 digits and at most 9,223,372,036,854,775,807; the body, where it is no object; then its members in
+/// the order of the definitions. The rules that may be judged are the atomic ones of the book.
+pub fn request_of<B: RuleBook>(
+    alloc: Global,
+    book: &B,
+    head: &Head,
+    body: &[u8],
+) -> Result<Result<Asked, RequestFault>, OutOfMemory>
+    ensures exact { IfOk result (λ asked. asked ≡ request_of B.infos head.now body.now) }
+    ensures fits { IfOk result (λ asked. IfOk asked (λ q. FitsRequest (record { infos = B.infos; means = B.means }) (record { caller = q.caller; command = q.command }))) }
+{
+    read_request(alloc, book, head, body)
+}
+
+#[tactic(auto, unfolding(crate::specs::Requests::request_of))]
+fn read_request<B: RuleBook>(
+    alloc: Global,
+    book: &B,
+    head: &Head,
+    body: &[u8],
+) -> Result<Result<Asked, RequestFault>, OutOfMemory>
+    ensures exact { IfOk result (λ asked. asked ≡ request_of B.infos head.now body.now) }
+    ensures web { IfOk result (λ asked. IfOk asked (λ q. IsWeb q.command)) }
+{
+    let Call { route, caller } = match call_of(alloc, head)? {
+        Ok(call) => call,
+        Err(fault) => return Ok(Err(fault)),
+    };
+    match command_of(alloc, book, head, body, route) {
+        Ok(command) => Ok(Ok(Asked { caller, command })),
+        Err(Unasked::Refused(fault)) => Ok(Err(fault)),
+        Err(Unasked::OutOfMemory) => Err(OutOfMemory),
+    }
+}

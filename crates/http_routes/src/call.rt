@@ -1,0 +1,122 @@
+ghost use Rattle.std.specs.Prelude.{◌≡◌, IfOk};
+ghost use Rattle.http_routes.specs.Calls.{method_of, route_of, caller_of, call_of};
+ghost use Rattle.http_routes.specs.Named.{IsNamed};
+
+use crate::place::{Place, name_of, place_of};
+use http_messages::Head;
+use request_faults::RequestFault;
+use snap_tree::{OutOfMemory, Text};
+use std::alloc::Global;
+
+/// The methods that routes have.
+#[derive(Clone, Copy, Debug, PartialEq, Eq)]
+pub(crate) enum Method {
+    Get,
+    Put,
+    Post,
+    Delete,
+}
+
+/// What is asked, by the path and the method: each route of the table, with the names in its path.
+#[derive(Debug, Drop)]
+pub enum Route {
+    /// `PUT /sites/{site}`
+    PutSite { site: Text },
+    /// `PUT /sites/{site}/members/{user}`
+    PutMember { site: Text, user: Text },
+    /// `PUT /sites/{site}/pages/{page}`
+    PutPage { site: Text, page: Text },
+    /// `GET /sites/{site}/pages/{page}`
+    GetPage { site: Text, page: Text },
+    /// `DELETE /sites/{site}/pages/{page}`
+    DropPage { site: Text, page: Text },
+    /// `POST /sites/{site}/import`
+    Import { site: Text },
+    /// `POST /sites/{site}/pages/{page}/edits`
+    EditPage { site: Text, page: Text },
+    /// `POST /sites/{site}/pages/{page}/judgements`
+    Judge { site: Text, page: Text },
+    /// `GET /sites/{site}/pages/{page}/outcomes`
+    GetOutcomes { site: Text, page: Text },
+}
+
+/// A request by its head: what is asked, and who asks.
+#[derive(Debug, Drop)]
+pub struct Call {
+    pub route: Route,
+    pub caller: Text,
+}
+
+/// The request that a head makes; the inner `Err` is the first refusal that holds.
+///
+/// `NoRoute` is answered where no route has the path, or a name in it isn't of the form; `WrongMethod` where
+/// the route hasn't the method; `NoCaller` where there isn't exactly one field `x-caller`, or its value isn't
+/// a name.
+pub fn call_of(alloc: Global, head: &Head) -> Result<Result<Call, RequestFault>, OutOfMemory>
+    ensures exact { IfOk result (λ call. call ≡ call_of head.now) }
+    ensures named { IfOk result (λ call. IfOk call IsNamed) }
+{
+    read_call(alloc, head)
+}
+
+#[tactic(auto, unfolding(crate::specs::Calls::call_of))]
+fn read_call(alloc: Global, head: &Head) -> Result<Result<Call, RequestFault>, OutOfMemory>
+    ensures { IfOk result (λ call. call ≡ call_of head.now) }
+{
+    let Some(place) = place_of(alloc, head.target.as_slice())? else {
+        return Ok(Err(RequestFault::NoRoute));
+    };
+    let Some(method) = method_of(head.method.as_slice()) else {
+        return Ok(Err(RequestFault::WrongMethod));
+    };
+    let Some(route) = route_of(place, method) else {
+        return Ok(Err(RequestFault::WrongMethod));
+    };
+    match caller_of(alloc, head)? {
+        Some(caller) => Ok(Ok(Call { route, caller })),
+        None => Ok(Err(RequestFault::NoCaller)),
+    }
+}
+
+fn method_of(text: &[u8]) -> Option<Method>
+    ensures { result ≡ method_of text.now }
+{
+    if text == b"GET".as_slice() {
+        Some(Method::Get)
+    } else if text == b"PUT".as_slice() {
+        Some(Method::Put)
+    } else if text == b"POST".as_slice() {
+        Some(Method::Post)
+    } else if text == b"DELETE".as_slice() {
+        Some(Method::Delete)
+    } else {
+        None
+    }
+}
+
+// The route of a place that has the method.
+fn route_of(place: Place, method: Method) -> Option<Route>
+    ensures { result ≡ route_of place method }
+{
+    match (place, method) {
+        (Place::Site { site }, Method::Put) => Some(Route::PutSite { site }),
+        (Place::Member { site, user }, Method::Put) => Some(Route::PutMember { site, user }),
+        (Place::Page { site, page }, Method::Put) => Some(Route::PutPage { site, page }),
+        (Place::Page { site, page }, Method::Get) => Some(Route::GetPage { site, page }),
+        (Place::Page { site, page }, Method::Delete) => Some(Route::DropPage { site, page }),
+        (Place::Import { site }, Method::Post) => Some(Route::Import { site }),
+        (Place::Edits { site, page }, Method::Post) => Some(Route::EditPage { site, page }),
+        (Place::Judgements { site, page }, Method::Post) => Some(Route::Judge { site, page }),
+        (Place::Outcomes { site, page }, Method::Get) => Some(Route::GetOutcomes { site, page }),
+        _ => None,
+    }
+}
+
+fn caller_of(alloc: Global, head: &Head) -> Result<Option<Text>, OutOfMemory>
+    ensures { IfOk result (λ caller. caller ≡ caller_of head.now) }
+{
+    match head.only_named(b"x-caller") {
+        Some(field) => name_of(alloc, field.value.as_slice()),
+        None => Ok(None),
+    }
+}
