@@ -1,0 +1,18 @@
+//! Tests that cross crates: what messages ask, route by route and body by body, and how each reply is
+//! printed. Nothing but tests stands here: in the crates that they are about each would be proved once more.
+#![tactic(auto)]
+
+#[cfg(test)]
+mod bodies;
+#[cfg(test)]
+mod lists;
+#[cfg(test)]
+mod printing;
+#[cfg(test)]
+mod refusals;
+#[cfg(test)]
+mod replies;
+#[cfg(test)]
+mod routes;
+#[cfg(test)]
+mod told;

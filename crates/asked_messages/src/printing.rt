@@ -1,0 +1,59 @@
+//! What is printed for an answer, against what is wanted.
+
+use http_replies::{Answer, MOST_REPLY, print};
+use rule_core::{Class, RuleInfo};
+use snap_tree::{OutOfMemory, Text};
+use std::alloc::Global;
+use std::process::Abort;
+
+pub fn text(alloc: Global, text: &str) -> Result<Text, OutOfMemory> {
+    Text::from_str(alloc, text)
+}
+
+/// A reply with a JSON body.
+pub fn json(alloc: Global, status: &str, body: &str, closes: bool) -> Result<String, OutOfMemory> {
+    let n = body.len();
+    let closing = if closes { "connection: close\r\n" } else { "" };
+    Ok(format!(in alloc;
+        "HTTP/1.1 {status}\r\ncontent-type: application/json\r\ncontent-length: {n}\r\n{closing}\r\n{body}"
+    )?)
+}
+
+// What is printed for an answer, by the infos of two rules.
+fn printed(alloc: Global, answer: &Answer, closes: bool) -> Result<Vec<u8>, OutOfMemory> {
+    let infos = [
+        RuleInfo::atomic(1, b"2779a5", Class::Title, Class::Title),
+        RuleInfo::atomic(3, b"b5c3f8", Class::SelfOnly, Class::SelfOnly),
+    ];
+    let room = Vec::with_capacity(alloc, MOST_REPLY)?;
+    print(alloc, room, &infos, answer, closes)
+}
+
+fn is_equal(
+    rt: &impl Abort,
+    alloc: Global,
+    answer: &Answer,
+    closes: bool,
+    status: &str,
+    body: &str,
+) -> Result<(), OutOfMemory> {
+    let wanted = json(alloc, status, body, closes)?;
+    assert_eq!(rt;
+        printed(alloc, answer, closes)?.as_slice(),
+        wanted.as_bytes(),
+        "{body}"
+    );
+    Ok(())
+}
+
+/// Whether this is printed for an answer.
+pub fn is_printed(
+    rt: &impl Abort,
+    alloc: Global,
+    answer: Answer,
+    closes: bool,
+    status: &str,
+    body: &str,
+) -> Result<(), OutOfMemory> {
+    is_equal(rt, alloc, &answer, closes, status, body)
+}

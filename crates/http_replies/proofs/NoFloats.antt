@@ -1,0 +1,77 @@
+-- What is written has no float.
+use Rattle.std.proofs.Common.{◌≡◌, List, [], ◌∷◌, map, filter, false, Option, Some, None, refl}
+use Rattle.serde_json.specs.Data.{string, array, object}
+use Rattle.serde_json.specs.View.{items_of}
+use Rattle.serde_json.specs.Written.{has_float, items_have_float}
+use Rattle.rule_core.specs.declared.info.RuleInfo.{RuleInfo}
+use Rattle.judge_core.specs.declared.outcomes.OutRow.{OutRow}
+use Rattle.keep_core.specs.declared.page.SitePage.{SitePage}
+use Rattle.text_reports.specs.TextReport.{is_inapplicable, is_known}
+use Rattle.snap_edit.specs.declared.fault.EditKind.{EditKind}
+use Rattle.snap_edit.specs.declared.fault.EditKind.TheVariants as kind
+use Rattle.desk_core.specs.declared.refusal.Refusal.{Refusal}
+use Rattle.desk_core.specs.declared.refusal.Refusal.TheVariants as refusal
+use Rattle.http_messages.specs.declared.fault.HeadFault.{HeadFault}
+use Rattle.request_faults.specs.declared.fault.RequestFault.{RequestFault}
+use Rattle.request_faults.specs.declared.fault.RequestFault.TheVariants as request
+use Rattle.http_replies.specs.Refusals.{members, edit_members, plain, refusal_data, head_data, request_members, request_data}
+use Rattle.http_replies.specs.Shown.{row_data, outcomes_data}
+
+of_members : (r : Refusal) → has_float (object (members r)) ≡ false
+of_members refusal.NoSite = refl
+of_members refusal.SiteExists = refl
+of_members (refusal.NotAllowed needed) = refl
+of_members refusal.NoPage = refl
+of_members (refusal.PageLimit limit) = refl
+of_members (refusal.StaleRevision current None) = refl
+of_members (refusal.StaleRevision current (Some page)) = refl
+of_members (refusal.TreeFault fault None) = refl
+of_members (refusal.TreeFault fault (Some page)) = refl
+of_members (refusal.EditFault index kind.NoNode) = refl
+of_members (refusal.EditFault index kind.NotElement) = refl
+of_members (refusal.EditFault index kind.NotText) = refl
+of_members (refusal.EditFault index kind.NumberTaken) = refl
+of_members (refusal.EditFault index kind.IntoItself) = refl
+of_members (refusal.EditFault index kind.RootMoved) = refl
+of_members (refusal.EditFault index kind.PlaceOut) = refl
+of_members (refusal.EditFault index (kind.Tree fault)) = refl
+of_members (refusal.EditFault index kind.TooManyEdits) = refl
+of_members refusal.NoTarget = refl
+of_members (refusal.NotOpen automatic) = refl
+of_members refusal.SameHand = refl
+of_members (refusal.EvidenceMoved current) = refl
+of_members refusal.KeeperFault = refl
+of_members refusal.OutOfMemory = refl
+
+pub refusal_has_no_float : (r : Refusal) → has_float (refusal_data r) ≡ false
+unfolding refusal_data
+refusal_has_no_float r = of_members r
+
+pub head_has_no_float : (f : HeadFault) → has_float (head_data f) ≡ false
+unfolding head_data
+head_has_no_float f = refl
+
+of_request : (f : RequestFault) → has_float (object (request_members f)) ≡ false
+of_request request.NoRoute = refl
+of_request request.WrongMethod = refl
+of_request request.NoCaller = refl
+of_request request.BadJson = refl
+of_request (request.BadShape part place) = refl
+
+pub request_has_no_float : (f : RequestFault) → has_float (request_data f) ≡ false
+unfolding request_data
+request_has_no_float f = of_request f
+
+ids : (infos : List RuleInfo) → items_have_float (items_of (map (λ info. string info.id) infos)) ≡ false
+ids [] = refl
+ids (info ∷ infos) = ids infos
+
+rows : (infos : List RuleInfo) (outcomes : List OutRow) → items_have_float (items_of (map (row_data infos) outcomes)) ≡ false
+unfolding row_data
+rows infos [] = refl
+rows infos (row ∷ outcomes) = rows infos outcomes
+
+pub outcomes_have_no_float : (infos : List RuleInfo) (p : SitePage) → has_float (outcomes_data infos p) ≡ false
+unfolding outcomes_data
+outcomes_have_no_float infos p =
+    rw (ids (filter (is_inapplicable p.outcomes.rows) infos), rows infos (filter (is_known infos) p.outcomes.rows)) refl

@@ -1,0 +1,75 @@
+-- What is sent back for one thing that came over a connection.
+use Rattle.std.specs.Prelude.{ℕ, ◌≤◌, List, length, Bool, false}
+use Rattle.serde_json.specs.Written.{compact_text}
+use Rattle.rule_core.specs.declared.info.RuleInfo.{RuleInfo}
+use Rattle.text_reports.specs.TextReport.{text_report}
+use Rattle.desk_core.specs.declared.refusal.Refusal.TheVariants as refusal
+use Rattle.desk_core.specs.declared.reply.Reply.{Reply}
+use Rattle.desk_core.specs.declared.reply.Reply.TheVariants as reply
+use Rattle.http_messages.specs.Faults as head
+use Rattle.request_faults.specs.Faults as request
+use Rattle.reply_frames.specs.declared.kind.Kind.{Kind}
+use Rattle.reply_frames.specs.declared.kind.Kind.TheVariants as kind
+use Rattle.reply_frames.specs.Frames.{framed}
+use Rattle.http_replies.specs.declared.answer.Answer.{Answer}
+use Rattle.http_replies.specs.declared.answer.Answer.TheVariants.{Misread, Misasked, Replied}
+use Rattle.http_replies.specs.Refusals as refused
+use Rattle.http_replies.specs.Refusals.{refusal_data, head_data, request_data}
+use Rattle.http_replies.specs.Made.{is_made, made_text}
+use Rattle.http_replies.specs.declared.made.TheConstants.{MOST_BODY}
+use Rattle.http_replies.specs.Shown.{page_text, outcomes_data}
+
+-- The status code of a reply: 201 where a site was made. No route leads to the replies of the last lines yet.
+abbrev pub reply_status : Reply → ℕ
+reply_status (reply.Site site) = 201
+reply_status (reply.Refused r) = refused.status r
+reply_status (reply.Earl p) = 507
+reply_status (reply.Names t) = 507
+reply_status (reply.SiteReport s) = 507
+reply_status (reply.SiteEarl s) = 507
+reply_status (reply.SiteCsv s) = 507
+reply_status other = 200
+
+abbrev pub status : Answer → ℕ
+status (Misread fault) = head.status fault
+status (Misasked fault) = request.status fault
+status (Replied r) = reply_status r
+
+abbrev pub kind_of : Answer → Kind
+kind_of (Replied (reply.Report p)) = kind.Text
+kind_of other = kind.Json
+
+abbrev pub reply_body : List RuleInfo → Reply → List ℕ
+reply_body infos (reply.Refused r) = compact_text (refusal_data r)
+reply_body infos (reply.Page p) = page_text p
+reply_body infos (reply.Outcomes p) = compact_text (outcomes_data infos p)
+reply_body infos (reply.Report p) = text_report p.address infos p.outcomes.rows
+reply_body infos (reply.Earl p) = compact_text (refusal_data refusal.OutOfMemory)
+reply_body infos (reply.Names t) = compact_text (refusal_data refusal.OutOfMemory)
+reply_body infos (reply.SiteReport s) = compact_text (refusal_data refusal.OutOfMemory)
+reply_body infos (reply.SiteEarl s) = compact_text (refusal_data refusal.OutOfMemory)
+reply_body infos (reply.SiteCsv s) = compact_text (refusal_data refusal.OutOfMemory)
+reply_body infos made = made_text infos made
+
+abbrev pub body : List RuleInfo → Answer → List ℕ
+body infos (Misread fault) = compact_text (head_data fault)
+body infos (Misasked fault) = compact_text (request_data fault)
+body infos (Replied r) = reply_body infos r
+
+-- the bytes of an answer, after which the connection is closed or not
+unfoldable pub answer_bytes : List RuleInfo → Answer → Bool → List ℕ
+answer_bytes infos answer closes = framed (status answer) (kind_of answer) closes (body infos answer)
+
+-- the answer for want of memory
+abbrev pub no_memory : Answer
+no_memory = Replied (reply.Refused refusal.OutOfMemory)
+
+-- the answer is the reply to a change
+abbrev pub is_made_answer : Answer → Bool
+is_made_answer (Replied r) = is_made r
+is_made_answer other = false
+
+-- a body was printed in this room, of which none was lost
+pub record HasRoom (room : ℕ) (body : List ℕ) (now_room : ℕ) : Type 0 where
+  pub kept : room ≤ now_room
+  pub short : length body ≤ MOST_BODY

@@ -1,0 +1,5 @@
+pub mod Words
+pub mod Refusals
+pub mod Made
+pub mod Shown
+pub mod Answers
