@@ -1,0 +1,20 @@
+//! What bytes are read from and written to: `Source` and `Sink`, each with a count of faults. `MemSource` and
+//! `MemSink` are those in memory, which tell their bytes; `Reader` and `Writer` are those over a stream of the
+//! system.
+#![tactic(auto)]
+
+mod mem_sink;
+mod mem_source;
+mod reading;
+mod sink;
+mod source;
+mod stream;
+mod writing;
+
+pub use mem_sink::MemSink;
+pub use mem_source::MemSource;
+pub use reading::{ReadFault, read_all};
+pub use sink::Sink;
+pub use source::Source;
+pub use stream::{Reader, Writer};
+pub use writing::write_all;

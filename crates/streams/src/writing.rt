@@ -1,0 +1,21 @@
+ghost use Rattle.std.specs.Prelude.{◌≤◌, OnOk, OnErr};
+ghost use Rattle.streams.specs.Streams.{Took, BrokeOff};
+
+use crate::sink::Sink;
+use links::Failed;
+
+/// Writes all the bytes, or a front of them where the sink fails. A sink that failed isn't written
+/// again: its count rises by at most one.
+pub fn write_all<O: Sink>(out: &mut O, bytes: &[u8]) -> Result<(), Failed>
+    ensures took { OnOk result (Took (O.told out.old) (O.told out.new) bytes.now) }
+    ensures broke_off { OnErr result (BrokeOff (O.told out.old) (O.told out.new) bytes.now) }
+    ensures never_falls { (O.told out.old).faults ≤ (O.told out.new).faults }
+{
+    let mut at = 0;
+    while at < bytes.len() {
+        let (_, rest) = bytes.split_at(at);
+        let n = out.write(rest)?;
+        at += n;
+    }
+    Ok(())
+}
