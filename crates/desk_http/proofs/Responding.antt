@@ -1,0 +1,180 @@
+-- How a request is answered: by the machine's reply, or for want of memory, where nothing changed.
+use Rattle.std.proofs.Common.{◌≡◌, ℕ, ◌+◌, ◌<◌, ◌≤◌, ◌⊎◌, inl, inr, List, ◌++◌, Bool, true, false, Option, Result, Ok, Err, OnOk, OnErr, refl, sym, ap, ◌∙◌, subst, arith}
+use Rattle.links.specs.declared.failed.Failed.{Failed}
+use Rattle.links.specs.Wires.{Wire, Wrote, WroteFront}
+use Rattle.judge_core.specs.Books.{Book}
+use Rattle.keep_core.specs.Tables.{Tables}
+use Rattle.desk_core.specs.declared.refusal.Refusal.TheVariants.{OutOfMemory}
+use Rattle.desk_core.specs.declared.reply.Reply.{Reply}
+use Rattle.desk_core.specs.declared.reply.Reply.TheVariants.{Refused}
+use Rattle.desk_core.specs.State.{State, state_of}
+use Rattle.desk_core.specs.Steps.{Request}
+use Rattle.desk_core.specs.Fitting.{FitsRequest}
+use Rattle.desk_core.specs.Costs.{Costs}
+use Rattle.desk_core.specs.Runs.{Answers}
+use Rattle.desk_core.specs.Serving as machine
+use Rattle.http_messages.specs.declared.item.Sent.{Sent}
+use Rattle.http_messages.specs.declared.item.Sent.TheVariants as sent
+use Rattle.http_messages.specs.declared.item.Item.{Item}
+use Rattle.http_messages.specs.declared.item.Message.{Message}
+use Rattle.http_messages.specs.declared.fault.HeadFault.{HeadFault}
+use Rattle.request_faults.specs.declared.fault.RequestFault.{RequestFault}
+use Rattle.http_commands.specs.declared.request.Asked.{Asked}
+use Rattle.http_commands.specs.Requests.{request_of}
+use Rattle.http_replies.specs.declared.answer.Answer.{Answer}
+use Rattle.http_replies.specs.declared.answer.Answer.TheVariants.{Misread, Misasked, Replied}
+use Rattle.http_replies.specs.Made.{is_made}
+use Rattle.http_replies.specs.Answers.{answer_bytes, no_memory}
+use Rattle.desk_http.specs.Printed.{PrintsReply}
+use Rattle.desk_http.specs.Answering.{as_request, AnswersMessage, message_judgings}
+use Rattle.desk_http.specs.Serving.{AnsweredBy, Responds, RespondsTo, IsEither, WritesAll, ServesItem}
+use Rattle.desk_http.proofs.Quiet.{unmade_keeps}
+
+-- ---- a request
+
+-- the machine's reply was printed
+replied : (book : Book) (q : Request) (closes : Bool) (old new : Option Tables) (from to calls now_calls : ℕ) (reply : Reply) (bytes : List ℕ) →
+    machine.Serves book q old new from to reply → Costs book q.command old new calls now_calls → bytes ≡ answer_bytes book.infos (Replied reply) closes →
+    RespondsTo book q closes old new from to calls now_calls bytes
+replied book q closes old new from to calls now_calls reply bytes served costs printed = record {
+  reply = reply;
+  bytes_are = printed;
+  told = λ t is. let s = served.told t is in (s.0, s.1, λ sound. let z = s.2 sound in (z.0, (z.1, costs.told s.0 t s.1 is)));
+  never_falls = served.never_falls;
+}
+
+-- an answer that changed nothing may be any that changes nothing
+answers_full : (book : Book) (s t : State) (q : Request) (reply : Reply) (from to : ℕ) → FitsRequest book q → is_made reply ≡ false →
+    Answers book s q reply t from to → Answers book s q (Refused OutOfMemory) t from to
+answers_full book s t q reply from to fits unmade (inl is) = inr (unmade_keeps book s t q reply fits unmade is, inr refl)
+answers_full book s t q reply from to fits unmade (inr (same, fails)) = inr (same, inr refl)
+
+-- the machine's reply wasn't printed, which is none to a change
+unprinted : (book : Book) (q : Request) (closes : Bool) (old new : Option Tables) (from to calls now_calls : ℕ) (reply : Reply) (bytes : List ℕ) →
+    FitsRequest book q → is_made reply ≡ false → machine.Serves book q old new from to reply → Costs book q.command old new calls now_calls →
+    bytes ≡ answer_bytes book.infos no_memory closes → RespondsTo book q closes old new from to calls now_calls bytes
+unprinted book q closes old new from to calls now_calls reply bytes fits unmade served costs full = record {
+  reply = Refused OutOfMemory;
+  bytes_are = full;
+  told = λ t is.
+      let s = served.told t is in (
+        s.0,
+        s.1,
+        λ sound.
+            let z = s.2 sound in
+            (z.0, (answers_full book (state_of s.0) (state_of t) q reply from to fits unmade z.1, costs.told s.0 t s.1 is)),
+      );
+  never_falls = served.never_falls;
+}
+
+-- the machine's reply was printed, or it wasn't
+pub answered : (book : Book) (q : Request) (closes : Bool) (old new : Option Tables) (from to calls now_calls : ℕ) (reply : Reply) (bytes : List ℕ) →
+    FitsRequest book q → machine.Serves book q old new from to reply → Costs book q.command old new calls now_calls →
+    PrintsReply book.infos reply closes bytes → RespondsTo book q closes old new from to calls now_calls bytes
+answered book q closes old new from to calls now_calls reply bytes fits served costs (inl printed) =
+    replied book q closes old new from to calls now_calls reply bytes served costs printed
+answered book q closes old new from to calls now_calls reply bytes fits served costs (inr (unmade, full)) =
+    unprinted book q closes old new from to calls now_calls reply bytes fits unmade served costs full
+
+-- there was no memory before the request was handled
+pub unhandled : (book : Book) (q : Request) (closes : Bool) (kept : Option Tables) (f c : ℕ) (bytes : List ℕ) →
+    bytes ≡ answer_bytes book.infos no_memory closes → RespondsTo book q closes kept kept f f c c bytes
+unhandled book q closes kept f c bytes full = record {
+  reply = Refused OutOfMemory;
+  bytes_are = full;
+  told = λ t is. (t, is, λ sound. (sound, (inr (refl, inr refl), omega arith)));
+  never_falls = omega arith;
+}
+
+-- what printing fails of where there was room
+pub unmade : (made : Bool) (room most : ℕ) → (made ≡ true → room < most) → most ≤ room → made ≡ false
+unmade true room most full is = absurd (let less = full refl in omega (arith, less, is))
+unmade false room most full is = refl
+
+-- ---- what came
+
+-- nothing is done
+declines : (book : Book) (refusal : Answer) (came : Sent) (closes : Bool) (kept : Option Tables) (f c : ℕ) (bytes : List ℕ) →
+    ((a : Answer) → (a ≡ refusal) ⊎ (a ≡ no_memory) → (s : Tables) → AnsweredBy book came a f f c c s s) →
+    IsEither (answer_bytes book.infos refusal closes) (answer_bytes book.infos no_memory closes) bytes → Responds book came closes kept kept f f c c bytes
+declines book refusal came closes kept f c bytes answers (inl due) = record {
+  answer = refusal;
+  bytes_are = due;
+  told = λ t is. (t, is, λ sound. (sound, answers refusal (inl refl) t));
+  never_falls = omega arith;
+}
+declines book refusal came closes kept f c bytes answers (inr full) = record {
+  answer = no_memory;
+  bytes_are = full;
+  told = λ t is. (t, is, λ sound. (sound, answers no_memory (inr refl) t));
+  never_falls = omega arith;
+}
+
+pub misread : (book : Book) (fault : HeadFault) (closes : Bool) (kept : Option Tables) (f c : ℕ) (bytes : List ℕ) →
+    IsEither (answer_bytes book.infos (Misread fault) closes) (answer_bytes book.infos no_memory closes) bytes → Responds book (sent.Refused fault) closes kept kept f f c c bytes
+misread book fault closes kept f c bytes either =
+    declines book (Misread fault) (sent.Refused fault) closes kept f c bytes (λ (a : Answer) which (s : Tables). ((refl, which), omega arith)) either
+
+-- what is said of a message, by the request that it makes
+abbrev ByRequest : Book → Result Asked RequestFault → Answer → ℕ → ℕ → ℕ → ℕ → Tables → Tables → Type 0
+ByRequest book asked answer from to calls now_calls s t =
+    AnswersMessage book (state_of s) asked answer (state_of t) from to × (now_calls ≤ calls + message_judgings book (state_of s) asked)
+
+pub misasked : (book : Book) (m : Message) (fault : RequestFault) (closes : Bool) (kept : Option Tables) (f c : ℕ) (bytes : List ℕ) → Err fault ≡ request_of book.infos m.head m.body →
+    IsEither (answer_bytes book.infos (Misasked fault) closes) (answer_bytes book.infos no_memory closes) bytes → Responds book (sent.Asked m) closes kept kept f f c c bytes
+misasked book m fault closes kept f c bytes made either =
+    declines book (Misasked fault) (sent.Asked m) closes kept f c bytes
+    (λ (a : Answer) which (s : Tables).
+    let P : Result Asked RequestFault → Type 0 = λ r. ByRequest book r a f f c c s s in
+    subst P made ((refl, which), omega arith))
+    either
+
+-- there was no memory for reading a message
+pub unread : (book : Book) (m : Message) (closes : Bool) (kept : Option Tables) (f c : ℕ) (bytes : List ℕ) →
+    bytes ≡ answer_bytes book.infos no_memory closes → Responds book (sent.Asked m) closes kept kept f f c c bytes
+unread book m closes kept f c bytes full = record {
+  answer = no_memory;
+  bytes_are = full;
+  told = λ t is. (t, is, λ sound. (sound, of t (request_of book.infos m.head m.body)));
+  never_falls = omega arith;
+}
+  where
+    of : (t : Tables) (r : Result Asked RequestFault) → ByRequest book r no_memory f f c c t t
+    of t (Ok asked) = ((Refused OutOfMemory, refl, inr (refl, inr refl)), omega arith)
+    of t (Err fault) = ((refl, inr refl), omega arith)
+
+-- the message makes a request, which was answered
+pub asked_so : (book : Book) (m : Message) (asked : Asked) (closes : Bool) (old new : Option Tables) (from to calls now_calls : ℕ) (bytes : List ℕ) →
+    Ok asked ≡ request_of book.infos m.head m.body → RespondsTo book (as_request asked) closes old new from to calls now_calls bytes →
+    Responds book (sent.Asked m) closes old new from to calls now_calls bytes
+asked_so book m asked closes old new from to calls now_calls bytes made so = record {
+  answer = Replied so.reply;
+  bytes_are = so.bytes_are;
+  told = λ t is.
+      let s = so.told t is in
+      let P : Result Asked RequestFault → Type 0 = λ r. ByRequest book r (Replied so.reply) from to calls now_calls s.0 t in
+      (s.0, s.1, λ sound. let z = s.2 sound in (z.0, subst P made ((so.reply, refl, z.1.0), z.1.1)));
+  never_falls = so.never_falls;
+}
+
+-- ---- what is written
+
+wrote_all : {A : Type 0} (result : Result A Failed) (due bytes : List ℕ) (old new : Option Wire) → bytes ≡ due → OnOk result (Wrote bytes old new) → OnErr result (WroteFront bytes old new) →
+    WritesAll result due old new
+wrote_all (Ok u) due bytes old new same wrote broke w is =
+    let z = wrote w is in
+    (z.0, z.1, sym (ap (λ (x : Wire). x.brought) z.2), sym (ap (λ (x : Wire). x.left) z.2), ap (λ (x : Wire). x.written) z.2 ∙ ap (λ l. z.0.written ++ l) same)
+wrote_all (Err e) due bytes old new same wrote broke w is =
+    let z = broke w is in
+    (z.0, z.1, sym (ap (λ (x : Wire). x.brought) z.5), sym (ap (λ (x : Wire). x.left) z.5), (z.2, z.3, z.4 ∙ same, ap (λ (x : Wire). x.written) z.5))
+
+-- an item was answered, and the answer written, or a front of it
+pub item_served : {A : Type 0} (book : Book) (i : Item) (result : Result A Failed) (wire0 wire1 : Option Wire) (kept0 kept1 : Option Tables) (f0 f1 c0 c1 : ℕ) (bytes : List ℕ) →
+    Responds book i.sent i.closes kept0 kept1 f0 f1 c0 c1 bytes → OnOk result (Wrote bytes wire0 wire1) → OnErr result (WroteFront bytes wire0 wire1) →
+    ServesItem book i result wire0 kept0 wire1 kept1 f0 f1 c0 c1
+item_served book i result wire0 wire1 kept0 kept1 f0 f1 c0 c1 bytes so wrote broke = record {
+  answer = so.answer;
+  wrote = wrote_all result (answer_bytes book.infos so.answer i.closes) bytes wire0 wire1 so.bytes_are wrote broke;
+  told = so.told;
+  never_falls = so.never_falls;
+}

@@ -1,0 +1,59 @@
+-- What is told of tables, over one call after another.
+use Rattle.std.proofs.Common.{ℕ, ◌+◌, ◌≤◌, List, [], ◌∷◌, ◌++◌, Option, refl, arith}
+use Rattle.judge_core.specs.Books.{Book}
+use Rattle.keep_core.specs.Tables.{Tables}
+use Rattle.desk_core.specs.State.{state_of}
+use Rattle.http_messages.specs.declared.item.Item.{Item}
+use Rattle.http_replies.specs.declared.answer.Answer.{Answer}
+use Rattle.desk_http.specs.Answering.{sent_judgings}
+use Rattle.desk_http.specs.Serving.{KeepsSound, OfSound, AnsweredBy, Run}
+use Rattle.desk_http.proofs.Runs.{runs_join, runs_one}
+
+pub of_sound_join : (book : Book) (Q R S : Tables → Tables → Type 0) (k0 k1 k3 : Option Tables) → ((s m t : Tables) → Q s m → R m t → S s t) →
+    OfSound book Q k0 k1 → OfSound book R k1 k3 → OfSound book S k0 k3
+of_sound_join book Q R S k0 k1 k3 step first then t is =
+    let y = then t is in
+    let x = first y.0 y.1 in
+    (x.0, x.1, λ sound. let a = x.2 sound in let b = y.2 a.0 in (b.0, step x.0 y.0 t a.1 b.1))
+
+pub of_sound_weaken : (book : Book) (Q R : Tables → Tables → Type 0) (k0 k1 : Option Tables) → ((s t : Tables) → Q s t → R s t) → OfSound book Q k0 k1 → OfSound book R k0 k1
+of_sound_weaken book Q R k0 k1 step first t is = let x = first t is in (x.0, x.1, λ sound. let a = x.2 sound in (a.0, step x.0 t a.1))
+
+-- sound tables stay sound
+pub keeps_sound : (book : Book) (Q : Tables → Tables → Type 0) (k0 k1 : Option Tables) → OfSound book Q k0 k1 → KeepsSound book k0 k1
+keeps_sound book Q k0 k1 told t is = let x = told t is in (x.0, x.1, λ sound. (x.2 sound).0)
+
+pub keeps_join : (book : Book) (k0 k1 k3 : Option Tables) → KeepsSound book k0 k1 → KeepsSound book k1 k3 → KeepsSound book k0 k3
+keeps_join book k0 k1 k3 first then t is = let y = then t is in let x = first y.0 y.1 in (x.0, x.1, λ sound. y.2 (x.2 sound))
+
+-- ---- runs
+
+pub run_join : (book : Book) (is js : List Item) (said bs : List Answer) (f0 f1 f3 c0 c1 c3 : ℕ) (s m t : Tables) →
+    Run book is said f0 f1 c0 c1 s m → Run book js bs f1 f3 c1 c3 m t → Run book (is ++ js) (said ++ bs) f0 f3 c0 c3 s t
+run_join book is js said bs f0 f1 f3 c0 c1 c3 s m t one two =
+    let less = one.few in let more = two.few in
+    record {
+      most = one.most + two.most;
+      runs = runs_join book (state_of s) (state_of m) (state_of t) is js said bs f0 f1 f1 f3 one.most two.most one.runs (omega arith) two.runs;
+      few = omega (arith, less, more);
+    }
+
+pub run_one : (book : Book) (i : Item) (a : Answer) (from to calls now_calls : ℕ) (s t : Tables) → from ≤ to →
+    AnsweredBy book i.sent a from to calls now_calls s t → Run book (i ∷ []) (a ∷ []) from to calls now_calls s t
+run_one book i a from to calls now_calls s t order (answered, few) = record {
+  most = sent_judgings book (state_of s) i.sent;
+  runs = runs_one book (state_of s) (state_of t) i a from to order answered;
+  few = few;
+}
+
+-- one item more
+pub run_more : (book : Book) (is : List Item) (said : List Answer) (i : Item) (a : Answer) (f0 f1 f3 c0 c1 c3 : ℕ) (k0 k1 k3 : Option Tables) → f1 ≤ f3 →
+    OfSound book (Run book is said f0 f1 c0 c1) k0 k1 → OfSound book (AnsweredBy book i.sent a f1 f3 c1 c3) k1 k3 → OfSound book (Run book (is ++ i ∷ []) (said ++ a ∷ []) f0 f3 c0 c3) k0 k3
+run_more book is said i a f0 f1 f3 c0 c1 c3 k0 k1 k3 order first then =
+    of_sound_join book (Run book is said f0 f1 c0 c1) (AnsweredBy book i.sent a f1 f3 c1 c3) (Run book (is ++ i ∷ []) (said ++ a ∷ []) f0 f3 c0 c3) k0 k1 k3
+    (λ (s m t : Tables) one two. run_join book is (i ∷ []) said (a ∷ []) f0 f1 f3 c0 c1 c3 s m t one (run_one book i a f1 f3 c1 c3 m t order two))
+    first then
+
+-- nothing was answered
+pub run_none : (book : Book) (f c : ℕ) (kept : Option Tables) → OfSound book (Run book [] [] f f c c) kept kept
+run_none book f c kept t is = (t, is, λ sound. (sound, record { most = 0; runs = (refl, omega arith, refl); few = omega arith }))

@@ -1,0 +1,25 @@
+use Rattle.std.proofs.Common.{◌≡◌, ◌≤◌, sum_by}
+use Rattle.judge_core.specs.Books.{Book}
+use Rattle.desk_http.specs.Serving.{KeepsSound}
+use Rattle.desk_http.specs.Doors.{ServesDoor}
+use Rattle.desk_http.proofs.serving.serve.Given as goal
+
+abbrev pub invariant-loop-link : goal.invariant-loop-link
+invariant-loop-link g l =
+    let door = g.D.Door in
+    let link = g.D.Conn.Link in
+    let keeper = g.K.Keeper in
+    let calls = g.B.RuleBook.calls in
+    let book : Book = record { infos = g.B.RuleBook.infos; means = g.B.RuleBook.means } in
+    record {
+      served : ServesDoor book link.wire link.faults (door.log l.initial.door) (door.told l.initial.door) (keeper.tables l.initial.keeper)
+          (door.log l.door) (door.told l.door) (keeper.tables l.keeper) (keeper.faults l.initial.keeper) (keeper.faults l.keeper) (sum_by calls l.initial.books) (sum_by calls l.books);
+      sound : KeepsSound book (keeper.tables l.initial.keeper) (keeper.tables l.keeper);
+      heard : (door.told l.door).heard ≡ (door.told l.initial.door).heard;
+      given_back : (door.told l.door).out ≡ (door.told l.initial.door).out;
+      kept : keeper.faults l.initial.keeper ≤ keeper.faults l.keeper;
+      never_falls : (door.told l.initial.door).faults ≤ (door.told l.door).faults;
+    }
+
+abbrev pub decreases-loop-link : goal.decreases-loop-link
+decreases-loop-link g l = (g.D.Door.told l.door).allowed

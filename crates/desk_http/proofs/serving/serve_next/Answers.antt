@@ -1,0 +1,24 @@
+use Rattle.std.proofs.Common.{sum_by}
+use Rattle.judge_core.specs.Books.{Book}
+use Rattle.desk_http.proofs.DoorLaws.{one_served}
+use Rattle.desk_http.proofs.serving.serve_next.Goals as goal
+
+pub returns-clause-served : goal.returns-clause-served
+returns-clause-served g c =
+    let door = g.D.Door in
+    let link = g.D.Conn.Link in
+    let keeper = g.K.Keeper in
+    let calls = g.B.RuleBook.calls in
+    let book : Book = record { infos = g.B.RuleBook.infos; means = g.B.RuleBook.means } in
+    one_served book link.wire link.faults c.serve_link.new.link c.serve_link.result (link.wire c.args.link) (link.faults c.args.link) (door.log c.args.door.now) (door.log c.done.new.self)
+    (keeper.tables c.args.keeper.now) (keeper.tables c.serve_link.new.keeper) (keeper.faults c.args.keeper.now) (keeper.faults c.serve_link.new.keeper)
+    (sum_by calls c.args.books.now) (sum_by calls c.serve_link.new.books) c.requires.untouched c.serve_link.ensures.served c.serve_link.ensures.failed c.done.ensures.log
+
+pub returns-clause-sound : goal.returns-clause-sound
+returns-clause-sound g c = c.serve_link.ensures.sound
+
+pub returns-clause-took : goal.returns-clause-took
+returns-clause-took g c = c.done.ensures.took
+
+pub returns-clause-kept : goal.returns-clause-kept
+returns-clause-kept g c = c.serve_link.ensures.kept

@@ -1,0 +1,65 @@
+-- What is answered to what comes over a connection, one thing after another: to a head that is refused and to a message
+-- that makes no request their refusals, and to a request what the machine answers.
+use Rattle.std.specs.Prelude.{◌≡◌, ℕ, ◌+◌, ◌≤◌, ◌⊎◌, List, [], ◌∷◌, ◌++◌, Result, Ok, Err}
+use Rattle.rule_core.specs.declared.info.RuleInfo.{RuleInfo}
+use Rattle.judge_core.specs.Books.{Book}
+use Rattle.desk_core.specs.declared.reply.Reply.{Reply}
+use Rattle.desk_core.specs.State.{State, site_at}
+use Rattle.desk_core.specs.Steps.{Request, site_of}
+use Rattle.desk_core.specs.Costs.{command_judgings}
+use Rattle.desk_core.specs.Runs as machine
+use Rattle.http_messages.specs.declared.item.Sent.{Sent}
+use Rattle.http_messages.specs.declared.item.Sent.TheVariants.{Asked, Refused}
+use Rattle.http_messages.specs.declared.item.Item.{Item}
+use Rattle.request_faults.specs.declared.fault.RequestFault.{RequestFault}
+use Rattle.http_commands.specs.declared.request.Asked as command
+use Rattle.http_commands.specs.Requests.{request_of}
+use Rattle.http_replies.specs.declared.answer.Answer.{Answer}
+use Rattle.http_replies.specs.declared.answer.Answer.TheVariants.{Misread, Misasked, Replied}
+use Rattle.http_replies.specs.Answers.{answer_bytes, no_memory}
+
+-- ---- one thing
+
+-- the request that a caller makes
+abbrev pub as_request : command.Asked → Request
+as_request asked = record { caller = asked.caller; command = asked.command }
+
+-- nothing is done: the answer is this refusal, or there was no memory
+abbrev pub Declines : Answer → State → Answer → State → Type 0
+Declines refusal old answer new = (new ≡ old) × ((answer ≡ refusal) ⊎ (answer ≡ no_memory))
+
+abbrev pub AnswersMessage : Book → State → Result command.Asked RequestFault → Answer → State → ℕ → ℕ → Type 0
+AnswersMessage book old (Err fault) answer new before now = Declines (Misasked fault) old answer new
+AnswersMessage book old (Ok asked) answer new before now =
+    (reply : Reply) × (answer ≡ Replied reply) × machine.Answers book old (as_request asked) reply new before now
+
+abbrev pub AnswersSent : Book → State → Sent → Answer → State → ℕ → ℕ → Type 0
+AnswersSent book old (Refused fault) answer new before now = Declines (Misread fault) old answer new
+AnswersSent book old (Asked m) answer new before now = AnswersMessage book old (request_of book.infos m.head m.body) answer new before now
+
+-- how many judgings it may cost
+abbrev pub message_judgings : Book → State → Result command.Asked RequestFault → ℕ
+message_judgings book state (Err fault) = 0
+message_judgings book state (Ok asked) = command_judgings book asked.command (site_at (site_of asked.command) state)
+
+abbrev pub sent_judgings : Book → State → Sent → ℕ
+sent_judgings book state (Refused fault) = 0
+sent_judgings book state (Asked m) = message_judgings book state (request_of book.infos m.head m.body)
+
+-- ---- one after another
+
+-- Items are answered one after another, as the keeper's count of faults goes from one number to another. All of them may
+-- cost so many judgings.
+abbrev pub Runs : Book → State → List Item → List Answer → State → ℕ → ℕ → ℕ → Type 0
+Runs book old [] [] new from to most = (new ≡ old) × (from ≤ to) × (most ≡ 0)
+Runs book old (i ∷ is) (a ∷ said) new from to most =
+    (mid : State) × (before : ℕ) × (now : ℕ) × (rest : ℕ) × (from ≤ before) × (before ≤ now) × AnswersSent book old i.sent a mid before now
+    × Runs book mid is said new now to rest × (most ≡ sent_judgings book old i.sent + rest)
+Runs book old [] (a ∷ said) new from to most = ⊥
+Runs book old (i ∷ is) [] new from to most = ⊥
+
+-- the bytes of the answers
+abbrev pub answers : List RuleInfo → List Item → List Answer → List ℕ
+answers infos [] said = []
+answers infos (i ∷ is) [] = []
+answers infos (i ∷ is) (a ∷ said) = answer_bytes infos a i.closes ++ answers infos is said

@@ -1,0 +1,5 @@
+pub mod Printed
+pub mod Answering
+pub mod Linking
+pub mod Serving
+pub mod Doors

@@ -1,0 +1,122 @@
+-- What serving does to a link and to what is kept. A link tells its bytes or doesn't, and a keeper its tables: what is told
+-- afterwards was told before.
+use Rattle.std.specs.Prelude.{◌≡◌, ℕ, ◌+◌, ◌≤◌, ◌⊎◌, Bool, List, ◌++◌, length, Option, Some, Result, Ok, Err}
+use Rattle.links.specs.declared.failed.Failed.{Failed}
+use Rattle.links.specs.Wires.{Wire, Wrote, WroteFront}
+use Rattle.rule_core.specs.declared.info.RuleInfo.{RuleInfo}
+use Rattle.judge_core.specs.Books.{Book}
+use Rattle.keep_core.specs.Tables.{Tables}
+use Rattle.desk_core.specs.declared.reply.Reply.{Reply}
+use Rattle.desk_core.specs.State.{state_of, site_at}
+use Rattle.desk_core.specs.Steps.{Request, site_of}
+use Rattle.desk_core.specs.Costs.{command_judgings}
+use Rattle.desk_core.specs.Runs.{Answers}
+use Rattle.desk_core.specs.Soundness.{IsSound}
+use Rattle.http_messages.specs.Talk.{going, Talk}
+use Rattle.http_messages.specs.declared.item.Sent.{Sent}
+use Rattle.http_messages.specs.declared.item.Item.{Item}
+use Rattle.http_replies.specs.declared.answer.Answer.{Answer}
+use Rattle.http_replies.specs.declared.answer.Answer.TheVariants.{Replied}
+use Rattle.http_replies.specs.Answers.{answer_bytes}
+use Rattle.desk_http.specs.Answering.{AnswersSent, sent_judgings, Runs, answers}
+use Rattle.desk_http.specs.declared.link_end.LinkEnd.{LinkEnd}
+use Rattle.desk_http.specs.declared.link_end.LinkEnd.TheVariants as end
+
+-- ---- what is kept
+
+-- tables that were sound are sound
+abbrev pub KeepsSound : Book → Option Tables → Option Tables → Type 0
+KeepsSound book old new = (t : Tables) → new ≡ Some t → (s : Tables) × (old ≡ Some s) × (IsSound book s → IsSound book t)
+
+-- tables that were sound are sound, and this holds of those before and those after
+abbrev pub OfSound : Book → (Tables → Tables → Type 0) → Option Tables → Option Tables → Type 0
+OfSound book Q old new = (t : Tables) → new ≡ Some t → (s : Tables) × (old ≡ Some s) × (IsSound book s → IsSound book t × Q s t)
+
+-- ---- one thing that came
+
+-- It was answered so, from these tables to those. Both pairs of counts, the keeper's faults and the books' calls, go from one
+-- number to another.
+abbrev pub AnsweredBy : Book → Sent → Answer → ℕ → ℕ → ℕ → ℕ → Tables → Tables → Type 0
+AnsweredBy book sent answer from to calls now_calls s t =
+    AnswersSent book (state_of s) sent answer (state_of t) from to × (now_calls ≤ calls + sent_judgings book (state_of s) sent)
+
+-- it was answered by these bytes
+pub record Responds (book : Book) (sent : Sent) (closes : Bool) (old new : Option Tables) (from to calls now_calls : ℕ) (bytes : List ℕ) : Type 0 where
+  pub answer : Answer
+  pub bytes_are : bytes ≡ answer_bytes book.infos answer closes
+  pub told : OfSound book (AnsweredBy book sent answer from to calls now_calls) old new
+  pub never_falls : from ≤ to
+
+-- the machine replied so to a request
+abbrev pub RepliedBy : Book → Request → Reply → ℕ → ℕ → ℕ → ℕ → Tables → Tables → Type 0
+RepliedBy book request reply from to calls now_calls s t =
+    Answers book (state_of s) request reply (state_of t) from to
+    × (now_calls ≤ calls + command_judgings book request.command (site_at (site_of request.command) (state_of s)))
+
+-- the machine answered a request by these bytes
+pub record RespondsTo (book : Book) (request : Request) (closes : Bool) (old new : Option Tables) (from to calls now_calls : ℕ) (bytes : List ℕ) : Type 0 where
+  pub reply : Reply
+  pub bytes_are : bytes ≡ answer_bytes book.infos (Replied reply) closes
+  pub told : OfSound book (RepliedBy book request reply from to calls now_calls) old new
+  pub never_falls : from ≤ to
+
+-- these bytes, or those for want of memory
+abbrev pub IsEither : List ℕ → List ℕ → List ℕ → Type 0
+IsEither due full bytes = (bytes ≡ due) ⊎ (bytes ≡ full)
+
+-- bytes were written, or a front of them where the link failed
+abbrev pub Writes : {A : Type 0} → Result A Failed → Wire → Wire → List ℕ → Type 0
+Writes (Ok u) v w bytes = w.written ≡ v.written ++ bytes
+Writes (Err e) v w bytes = (part : List ℕ) × (rest : List ℕ) × (part ++ rest ≡ bytes) × (w.written ≡ v.written ++ part)
+
+-- they were written to a link, of which nothing was read meanwhile
+abbrev pub WritesAll : {A : Type 0} → Result A Failed → List ℕ → Option Wire → Option Wire → Type 0
+WritesAll result bytes old new =
+    (w : Wire) → new ≡ Some w → (v : Wire) × (old ≡ Some v) × (v.brought ≡ w.brought) × (v.left ≡ w.left) × Writes result v w bytes
+
+-- an item was answered over a link
+pub record ServesItem {A : Type 0} (book : Book) (i : Item) (result : Result A Failed) (old_wire : Option Wire) (old : Option Tables) (wire : Option Wire)
+    (new : Option Tables) (from to calls now_calls : ℕ) : Type 0 where
+  pub answer : Answer
+  pub wrote : WritesAll result (answer_bytes book.infos answer i.closes) old_wire wire
+  pub told : OfSound book (AnsweredBy book i.sent answer from to calls now_calls) old new
+  pub never_falls : from ≤ to
+
+-- ---- all that came
+
+-- these items were answered so, from these tables to those
+pub record Run (book : Book) (items : List Item) (said : List Answer) (from to calls now_calls : ℕ) (s t : Tables) : Type 0 where
+  pub most : ℕ
+  pub runs : Runs book (state_of s) items said (state_of t) from to most
+  pub few : now_calls ≤ calls + most
+
+-- Items were answered over a link, each once. Of the bytes that it had still to give, those that it has, the items, the answers
+-- and what was written, this holds.
+pub record Served (book : Book) (P : List ℕ → List ℕ → List Item → List Answer → List ℕ → Type 0) (v w : Wire) (old new : Option Tables)
+    (from to calls now_calls : ℕ) : Type 0 where
+  pub items : List Item
+  pub said : List Answer
+  pub out : List ℕ
+  pub brought : v.brought ≡ w.brought
+  pub each : length said ≡ length items
+  pub written : w.written ≡ v.written ++ out
+  pub holds : P v.left w.left items said out
+  pub told : OfSound book (Run book items said from to calls now_calls) old new
+
+abbrev pub Serves : Book → (List ℕ → List ℕ → List Item → List Answer → List ℕ → Type 0) → Option Wire → Option Tables → Option Wire → Option Tables → ℕ → ℕ → ℕ → ℕ → Type 0
+Serves book P old_wire old wire new from to calls now_calls =
+    (w : Wire) → wire ≡ Some w → (v : Wire) × (old_wire ≡ Some v) × Served book P v w old new from to calls now_calls
+
+-- the link had those bytes still to give, whatever is left of them
+abbrev pub Ends : (List ℕ → List Item → List Answer → List ℕ → Type 0) → List ℕ → List ℕ → List Item → List Answer → List ℕ → Type 0
+Ends Finished bytes left items said out = Finished bytes items said out
+
+-- served so far: the connection goes on with what is held and what is left
+abbrev pub SoFar : List RuleInfo → List ℕ → List ℕ → List ℕ → List Item → List Answer → List ℕ → Type 0
+SoFar infos held bytes left items said out = Talk bytes items (going (held ++ left)) × (out ≡ answers infos items said)
+
+-- the answer for want of memory was written, after which the link is closed; or a front of it, where the link failed
+abbrev pub IsFull : List ℕ → LinkEnd → Option Wire → Option Wire → Type 0
+IsFull full end.Closed old new = Wrote full old new
+IsFull full end.LinkFault old new = WroteFront full old new
+IsFull full other old new = ⊥
