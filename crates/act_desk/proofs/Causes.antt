@@ -12,10 +12,10 @@ use Rattle.act_desk.specs.declared.audit.TheConstants.{MOST_READ}
 use Rattle.act_desk.specs.declared.found.Found.{Found}
 use Rattle.act_desk.specs.declared.found.Found.TheVariants as found
 use Rattle.act_desk.specs.declared.status.Status.{Status}
-use Rattle.act_desk.specs.declared.status.Status.TheVariants.{Done, SomeFailed, UsageFault, ReadFault, WriteFault, SnapshotFault, StoreFault, NoMemory}
+use Rattle.act_desk.specs.declared.status.Status.TheVariants.{Done, SomeFailed, UsageFault, ReadFault, WriteFault, SnapshotFault, StoreFault, ListenFault, NoMemory}
 use Rattle.act_desk.specs.Status.{OneOf}
-use Rattle.act_desk.specs.Told.{Input}
-use Rattle.act_desk.specs.Streams.{IsReadTo}
+use Rattle.streams.specs.Told.{Input}
+use Rattle.streams.specs.Streams.{IsReadTo}
 use Rattle.act_desk.specs.Telling.{Writing, output_alone, line_alone, status_of, writing_of}
 use Rattle.act_desk.specs.Audit.{IsFoundIn, GaveAll, Reports, AuditCause, TellsPage, TellsFault}
 
@@ -57,6 +57,8 @@ audited book old new bytes found.NoMemory gave f = refl
 audited book old new bytes found.Usage gave f = absurd f
 audited book old new bytes found.ReadFault gave f = absurd f
 audited book old new bytes found.StoreFault gave f = absurd f
+audited book old new bytes found.ListenFault gave f = absurd f
+audited book old new bytes found.Served gave f = absurd f
 
 -- ---- which statuses can come of what a source tells
 
@@ -102,3 +104,4 @@ of_no_snapshot book old new NoMemory writing cause tells = inr (inr (inl refl))
 of_no_snapshot book old new UsageFault writing cause tells = absurd cause
 of_no_snapshot book old new WriteFault writing cause tells = absurd cause
 of_no_snapshot book old new StoreFault writing cause tells = absurd cause
+of_no_snapshot book old new ListenFault writing cause tells = absurd cause

@@ -1,21 +1,26 @@
 -- What a run does, from why it was to end and what it has written.
-use Rattle.std.proofs.Common.{◌≡◌, ℕ, ◌≤◌, ◌⊎◌, inl, inr, Bool, true, false, if◌then◌else◌, List, [], ◌∷◌, sym, ap, ◌∙◌, subst}
+use Rattle.std.proofs.Common.{◌≡◌, ℕ, ◌<◌, ◌≤◌, ◌⊎◌, inl, inr, Bool, true, false, if◌then◌else◌, List, [], ◌∷◌, length, Some, None, refl, sym, ap, ◌∙◌, subst, arith}
+use Rattle.std.proofs.lemmas.Option.{none-some, same_Some}
 use Rattle.counts.specs.Counts.{StoodStill, Rose}
 use Rattle.counts.proofs.CountLaws.{next_rose, still_not_risen}
 use Rattle.snap_tree.specs.Trees.{Document}
 use Rattle.judge_core.specs.Books.{Book}
 use Rattle.act_desk.specs.declared.audit.TheConstants.{MOST_READ}
-use Rattle.act_desk.specs.declared.command.Command.{Command}
-use Rattle.act_desk.specs.declared.command.Command.TheVariants.{Audit}
+use Rattle.desk_words.specs.Words.{command_in}
+use Rattle.desk_words.specs.declared.command.Command.{Command}
+use Rattle.desk_words.specs.declared.command.Command.TheVariants.{Audit, Serve}
+use Rattle.desk_words.specs.declared.command.Serving.{Serving}
 use Rattle.act_desk.specs.declared.status.Status.{Status}
-use Rattle.act_desk.specs.declared.status.Status.TheVariants.{Done, SomeFailed, UsageFault, ReadFault, WriteFault, SnapshotFault, StoreFault, NoMemory}
+use Rattle.act_desk.specs.declared.status.Status.TheVariants.{Done, SomeFailed, UsageFault, ReadFault, WriteFault, SnapshotFault, StoreFault, ListenFault, NoMemory}
 use Rattle.act_desk.specs.Status.{status_number, OneOf}
-use Rattle.act_desk.specs.Told.{Output, Outside}
-use Rattle.act_desk.specs.Streams.{ReadsAtMost, BrokeOff}
+use Rattle.streams.specs.Told.{Output, Outside}
+use Rattle.streams.specs.Streams.{ReadsAtMost, NoFaults, BrokeOff}
 use Rattle.act_desk.specs.Telling.{Writing, IsWritten, Tells}
-use Rattle.act_desk.specs.Audit.{Reports, AuditCause, TellsPage, IsReported}
-use Rattle.act_desk.specs.Commands.{CommandCause, IsCommand, IsNoCommand, CommandBound, CommandComplete}
-use Rattle.act_desk.specs.Run.{Cause, NoFaults, IsComplete, Runs}
+use Rattle.act_desk.specs.Audit.{Reports, AuditCause, AuditComplete, TellsPage, TellsFault, IsReported}
+use Rattle.act_desk.specs.Desk.{Desk}
+use Rattle.act_desk.specs.Serve.{IsDeaf, IsServed, ServeCause, ServeBound, ServeComplete}
+use Rattle.act_desk.specs.Commands.{CommandCause, CommandBound, CommandComplete}
+use Rattle.act_desk.specs.Run.{Cause, IsComplete, Runs}
 use Rattle.act_desk.proofs.Causes.{same_page, refused, of_no_snapshot}
 
 -- ---- without faults all is written
@@ -35,13 +40,28 @@ ends_in : (planned status : Status) (writing : Writing) (out out' err err' : Out
 ends_in planned status writing out out' err err' (inl whole) = inl whole.0
 ends_in planned status writing out out' err err' (inr cut) = inr cut.0
 
-usage : (book : Book) (words : List (List ℕ)) (old new : Outside) (planned : Status) (writing : Writing) → Cause book words old.input new.input planned writing → IsNoCommand words → planned ≡ UsageFault
-usage book words old new planned writing (inl other) none = other.status_is
-usage book words old new planned writing (inr has) none = absurd (none has.command has.words_are)
+-- why it ends for words that are no command, and for those of a command
+usage : {L : Type 0} (book : Book) (words : List (List ℕ)) (old new : Outside) (before now : Desk L) (planned : Status) (writing : Writing) → Cause book words old.input new.input before now planned writing → command_in words ≡ None →
+    OneOf (UsageFault ∷ NoMemory ∷ []) planned
+usage book words old new before now planned writing (inl other) none = inl other.status_is
+usage book words old new before now planned writing (inr (inl memory)) none = inr (inl memory.status_is)
+usage book words old new before now planned writing (inr (inr has)) none = absurd (none-some has.command (sym none ∙ has.words_are))
 
-bound_words : (planned status : Status) → planned ≡ UsageFault → (status ≡ planned) ⊎ (status ≡ WriteFault) → OneOf (UsageFault ∷ WriteFault ∷ NoMemory ∷ []) status
-bound_words planned status is (inl same) = inl (same ∙ is)
-bound_words planned status is (inr cut) = inr (inl cut)
+cause_of : {L : Type 0} (book : Book) (words : List (List ℕ)) (old new : Outside) (before now : Desk L) (planned : Status) (writing : Writing) → Cause book words old.input new.input before now planned writing →
+    (command : Command) → command_in words ≡ Some command → (planned ≡ NoMemory) ⊎ CommandCause command book old.input new.input before now planned writing
+cause_of book words old new before now planned writing (inl other) command is = absurd (none-some command (sym other.no_command ∙ is))
+cause_of book words old new before now planned writing (inr (inl memory)) command is = inl memory.status_is
+cause_of book words old new before now planned writing (inr (inr has)) command is =
+    inr (subst (λ (c : Command). CommandCause c book old.input new.input before now planned writing) (same_Some has.command command (sym has.words_are ∙ is)) has.cause)
+
+bound_words : (planned status : Status) → OneOf (UsageFault ∷ NoMemory ∷ []) planned → (status ≡ planned) ⊎ (status ≡ WriteFault) → OneOf (UsageFault ∷ WriteFault ∷ NoMemory ∷ []) status
+bound_words planned status one (inr cut) = inr (inl cut)
+bound_words planned status (inl is) (inl same) = inl (same ∙ is)
+bound_words planned status (inr (inl is)) (inl same) = inr (inr (inl (same ∙ is)))
+bound_words planned status (inr (inr none)) (inl same) = absurd none
+
+same_words : (planned status : Status) → OneOf (UsageFault ∷ NoMemory ∷ []) planned → status ≡ planned → OneOf (UsageFault ∷ NoMemory ∷ []) status
+same_words planned status one same = subst (OneOf (UsageFault ∷ NoMemory ∷ [])) (sym same) one
 
 bound_refusal : (planned status : Status) → OneOf (ReadFault ∷ SnapshotFault ∷ NoMemory ∷ []) planned → (status ≡ planned) ⊎ (status ≡ WriteFault) → OneOf (ReadFault ∷ WriteFault ∷ SnapshotFault ∷ NoMemory ∷ []) status
 bound_refusal planned status one (inr cut) = inr (inl cut)
@@ -51,13 +71,6 @@ bound_refusal planned status (inr (inr (inl is))) (inl same) = inr (inr (inr (in
 bound_refusal planned status (inr (inr (inr none))) (inl same) = absurd none
 
 -- ---- an audit
-
-audit_cause : (book : Book) (words : List (List ℕ)) (old new : Outside) (planned : Status) (writing : Writing) → Cause book words old.input new.input planned writing → IsCommand words Audit → AuditCause book old.input new.input planned writing
-audit_cause book words old new planned writing (inl other) is = absurd (other.no_command Audit is)
-audit_cause book words old new planned writing (inr has) is = audits has.command has.cause
-  where
-    audits : (command : Command) → CommandCause command book old.input new.input planned writing → AuditCause book old.input new.input planned writing
-    audits Audit cause = cause
 
 reported : (book : Book) (old new : Outside) (status : Status) (failed : Bool) (writing : Writing) (page : Document) → (r : Reports book old.input new.input failed writing) → TellsPage old.input page →
     status ≡ (if failed then SomeFailed else Done) → IsWritten writing old.out new.out old.err new.err → IsReported book old new page status
@@ -76,6 +89,7 @@ complete_page book old new NoMemory status writing page cause none tells is writ
 complete_page book old new UsageFault status writing page cause none tells is written = absurd cause
 complete_page book old new WriteFault status writing page cause none tells is written = absurd cause
 complete_page book old new StoreFault status writing page cause none tells is written = absurd cause
+complete_page book old new ListenFault status writing page cause none tells is written = absurd cause
 
 complete_refusal : (book : Book) (old new : Outside) (planned status : Status) (writing : Writing) → AuditCause book old.input new.input planned writing → NoFaults old new →
     OneOf (ReadFault ∷ SnapshotFault ∷ NoMemory ∷ []) planned → status ≡ planned → OneOf (SnapshotFault ∷ NoMemory ∷ []) status
@@ -85,33 +99,122 @@ complete_refusal book old new planned status writing cause none (inr (inl refusa
 complete_refusal book old new planned status writing cause none (inr (inr (inl memory))) is = inr (inl (is ∙ memory))
 complete_refusal book old new planned status writing cause none (inr (inr (inr nothing))) is = absurd nothing
 
+-- what of an audit's cause, or of want of memory, can come
+audit_bound : (book : Book) (old new : Outside) (planned : Status) (writing : Writing) → (planned ≡ NoMemory) ⊎ AuditCause book old.input new.input planned writing → TellsFault old.input → OneOf (ReadFault ∷ SnapshotFault ∷ NoMemory ∷ []) planned
+audit_bound book old new planned writing (inl memory) tells = inr (inr (inl memory))
+audit_bound book old new planned writing (inr cause) tells = of_no_snapshot book old.input new.input planned writing cause tells
+
+audit_complete : (book : Book) (old new : Outside) (planned status : Status) (writing : Writing) → (planned ≡ NoMemory) ⊎ AuditCause book old.input new.input planned writing → NoFaults old new →
+    status ≡ planned → IsWritten writing old.out new.out old.err new.err → AuditComplete book old new status
+audit_complete book old new planned status writing (inl memory) none is written = record { snapshot = λ page tells. inr (is ∙ memory); no_snapshot = λ tells. inr (inl (is ∙ memory)) }
+audit_complete book old new planned status writing (inr cause) none is written =
+    record {
+      snapshot = λ page tells. complete_page book old new planned status writing page cause none tells is written;
+      no_snapshot = λ tells. complete_refusal book old new planned status writing cause none (of_no_snapshot book old.input new.input planned writing cause tells) is;
+    }
+
+-- ---- a serve
+
+-- it writes nothing on standard output
+no_output : {L : Type 0} (book : Book) (serving : Serving) (before now : Desk L) (planned : Status) (writing : Writing) → ServeCause book serving before now planned writing → writing.output ≡ []
+no_output book serving before now Done writing cause = ap (λ (w : Writing). w.output) cause.2
+no_output book serving before now ListenFault writing cause = ap (λ (w : Writing). w.output) cause.2
+no_output book serving before now UsageFault writing cause = ap (λ (w : Writing). w.output) cause.2
+no_output book serving before now SomeFailed writing cause = absurd cause
+no_output book serving before now ReadFault writing cause = absurd cause
+no_output book serving before now WriteFault writing cause = absurd cause
+no_output book serving before now SnapshotFault writing cause = absurd cause
+no_output book serving before now StoreFault writing cause = absurd cause
+no_output book serving before now NoMemory writing cause = absurd cause
+
+-- so it ends as planned where standard error meets no fault
+as_planned : (old new : Outside) (planned status : Status) (writing : Writing) → writing.output ≡ [] → StoodStill old.err.faults new.err.faults → Tells planned writing old.out new.out old.err new.err status → status ≡ planned
+as_planned old new planned status writing none still (inl whole) = whole.0
+as_planned old new planned status writing none still (inr (is, inl cut)) =
+    absurd (cut_none cut.out_broke)
+  where
+    cut_none : BrokeOff old.out new.out writing.output → ⊥
+    cut_none broke = omega (arith, broke.cut, ap length none)
+as_planned old new planned status writing none still (inr (is, inr cut)) = absurd (no_break old.err new.err writing.line still cut.err_broke)
+
+too_many : {L : Type 0} (book : Book) (serving : Serving) (before now : Desk L) (planned : Status) (writing : Writing) → ServeCause book serving before now planned writing → length before.calls < serving.workers → planned ≡ UsageFault
+too_many book serving before now Done writing cause many = absurd (omega (arith, cause.0.enough))
+too_many book serving before now ListenFault writing cause many = either cause.1
+  where
+    either : IsDeaf serving before now ⊎ IsServed book serving before now → ListenFault ≡ UsageFault
+    either (inl deaf) = absurd (omega (arith, deaf.enough))
+    either (inr served) = absurd (omega (arith, served.enough))
+too_many book serving before now UsageFault writing cause many = refl
+too_many book serving before now SomeFailed writing cause many = absurd cause
+too_many book serving before now ReadFault writing cause many = absurd cause
+too_many book serving before now WriteFault writing cause many = absurd cause
+too_many book serving before now SnapshotFault writing cause many = absurd cause
+too_many book serving before now StoreFault writing cause many = absurd cause
+too_many book serving before now NoMemory writing cause many = absurd cause
+
+to_the_end : {L : Type 0} (book : Book) (serving : Serving) (before now : Desk L) (planned : Status) (writing : Writing) → ServeCause book serving before now planned writing → StoodStill before.door.faults now.door.faults → serving.workers ≤ length before.calls →
+    planned ≡ Done
+to_the_end book serving before now Done writing cause still few = refl
+to_the_end book serving before now ListenFault writing cause still few = absurd (still_not_risen before.door.faults now.door.faults still cause.0)
+to_the_end book serving before now UsageFault writing cause still few = absurd (omega (arith, cause.0))
+to_the_end book serving before now SomeFailed writing cause still few = absurd cause
+to_the_end book serving before now ReadFault writing cause still few = absurd cause
+to_the_end book serving before now WriteFault writing cause still few = absurd cause
+to_the_end book serving before now SnapshotFault writing cause still few = absurd cause
+to_the_end book serving before now StoreFault writing cause still few = absurd cause
+to_the_end book serving before now NoMemory writing cause still few = absurd cause
+
+serve_bound : {L : Type 0} (book : Book) (serving : Serving) (before now : Desk L) (planned : Status) (writing : Writing) → (planned ≡ NoMemory) ⊎ ServeCause book serving before now planned writing → length before.calls < serving.workers →
+    OneOf (UsageFault ∷ NoMemory ∷ []) planned
+serve_bound book serving before now planned writing (inl memory) many = inr (inl memory)
+serve_bound book serving before now planned writing (inr cause) many = inl (too_many book serving before now planned writing cause many)
+
+serve_complete : {L : Type 0} (book : Book) (serving : Serving) (old new : Outside) (before now : Desk L) (planned status : Status) (writing : Writing) → (planned ≡ NoMemory) ⊎ ServeCause book serving before now planned writing → writing.output ≡ [] →
+    StoodStill old.err.faults new.err.faults → Tells planned writing old.out new.out old.err new.err status → ServeComplete serving before now status
+serve_complete book serving old new before now planned status writing (inl memory) none err told still few = inr (inl (as_planned old new planned status writing none err told ∙ memory))
+serve_complete book serving old new before now planned status writing (inr cause) none err told still few =
+    inl (as_planned old new planned status writing none err told ∙ to_the_end book serving before now planned writing cause still few)
+
 -- ---- a run
 
-command_bound : (book : Book) (words : List (List ℕ)) (old new : Outside) (planned status : Status) (writing : Writing) → Cause book words old.input new.input planned writing → (status ≡ planned) ⊎ (status ≡ WriteFault) →
-    (command : Command) → IsCommand words command → CommandBound command old status
-command_bound book words old new planned status writing cause in_ Audit is =
-    λ tells. bound_refusal planned status (of_no_snapshot book old.input new.input planned writing (audit_cause book words old new planned writing cause is) tells) in_
+-- what is found before a command is known writes nothing on standard output
+outputs_none : {L : Type 0} (book : Book) (words : List (List ℕ)) (old new : Outside) (before now : Desk L) (planned : Status) (writing : Writing) → Cause book words old.input new.input before now planned writing →
+    (serving : Serving) → command_in words ≡ Some (Serve serving) → writing.output ≡ []
+outputs_none book words old new before now planned writing (inl other) serving is = ap (λ (w : Writing). w.output) other.writes
+outputs_none book words old new before now planned writing (inr (inl memory)) serving is = ap (λ (w : Writing). w.output) memory.writes
+outputs_none book words old new before now planned writing (inr (inr has)) serving is =
+    let cause = subst (λ (c : Command). CommandCause c book old.input new.input before now planned writing) (same_Some has.command (Serve serving) (sym has.words_are ∙ is)) has.cause in
+    no_output book serving before now planned writing cause.1
 
-command_complete : (book : Book) (words : List (List ℕ)) (old new : Outside) (planned status : Status) (writing : Writing) → Cause book words old.input new.input planned writing → NoFaults old new →
-    status ≡ planned → IsWritten writing old.out new.out old.err new.err → (command : Command) → IsCommand words command → CommandComplete command book old new status
-command_complete book words old new planned status writing cause none is written Audit words_are =
-    let audited = audit_cause book words old new planned writing cause words_are in
-    record {
-      snapshot = λ page tells. complete_page book old new planned status writing page audited none tells is written;
-      no_snapshot = λ tells. complete_refusal book old new planned status writing audited none (of_no_snapshot book old.input new.input planned writing audited tells) is;
-    }
+audits : {L : Type 0} (book : Book) (old new : Outside) (before now : Desk L) (planned : Status) (writing : Writing) → (planned ≡ NoMemory) ⊎ CommandCause Audit book old.input new.input before now planned writing →
+    (planned ≡ NoMemory) ⊎ AuditCause book old.input new.input planned writing
+audits book old new before now planned writing (inl memory) = inl memory
+audits book old new before now planned writing (inr cause) = inr cause.0
 
-complete : (book : Book) (words : List (List ℕ)) (old new : Outside) (planned status : Status) (writing : Writing) → Cause book words old.input new.input planned writing → Tells planned writing old.out new.out old.err new.err status → NoFaults old new → IsComplete book words old new status
-complete book words old new planned status writing cause told none =
-    let written = all_written old new planned status writing none told in
-    record {
-      other_words = λ other. inl (written.0 ∙ usage book words old new planned writing cause other);
-      command = command_complete book words old new planned status writing cause none written.0 written.1;
-    }
+serves : {L : Type 0} (book : Book) (serving : Serving) (old new : Outside) (before now : Desk L) (planned : Status) (writing : Writing) → (planned ≡ NoMemory) ⊎ CommandCause (Serve serving) book old.input new.input before now planned writing →
+    (planned ≡ NoMemory) ⊎ ServeCause book serving before now planned writing
+serves book serving old new before now planned writing (inl memory) = inl memory
+serves book serving old new before now planned writing (inr cause) = inr cause.1
 
-pub runs : (book : Book) (words : List (List ℕ)) (old new : Outside) (planned status : Status) (writing : Writing) (number : ℕ) → Cause book words old.input new.input planned writing → old.input.faults ≤ new.input.faults →
-    ReadsAtMost MOST_READ old.input new.input → Tells planned writing old.out new.out old.err new.err status → number ≡ status_number status → Runs book words old new number
-runs book words old new planned status writing number cause falls stops told is =
+command_bound : {L : Type 0} (book : Book) (words : List (List ℕ)) (old new : Outside) (before now : Desk L) (planned status : Status) (writing : Writing) → Cause book words old.input new.input before now planned writing →
+    (status ≡ planned) ⊎ (status ≡ WriteFault) → (command : Command) → command_in words ≡ Some command → CommandBound command old before status
+command_bound book words old new before now planned status writing cause in_ Audit is =
+    λ tells. bound_refusal planned status (audit_bound book old new planned writing (audits book old new before now planned writing (cause_of book words old new before now planned writing cause Audit is)) tells) in_
+command_bound book words old new before now planned status writing cause in_ (Serve serving) is =
+    λ many. bound_words planned status (serve_bound book serving before now planned writing (serves book serving old new before now planned writing (cause_of book words old new before now planned writing cause (Serve serving) is)) many) in_
+
+command_complete : {L : Type 0} (book : Book) (words : List (List ℕ)) (old new : Outside) (before now : Desk L) (planned status : Status) (writing : Writing) → Cause book words old.input new.input before now planned writing →
+    Tells planned writing old.out new.out old.err new.err status → (command : Command) → command_in words ≡ Some command → CommandComplete command book old new before now status
+command_complete book words old new before now planned status writing cause told Audit is =
+    λ none. let written = all_written old new planned status writing none told in
+    audit_complete book old new planned status writing (audits book old new before now planned writing (cause_of book words old new before now planned writing cause Audit is)) none written.0 written.1
+command_complete book words old new before now planned status writing cause told (Serve serving) is =
+    λ err. serve_complete book serving old new before now planned status writing (serves book serving old new before now planned writing (cause_of book words old new before now planned writing cause (Serve serving) is))
+    (outputs_none book words old new before now planned writing cause serving is) err told
+
+pub runs : {L : Type 0} (book : Book) (words : List (List ℕ)) (old new : Outside) (before now : Desk L) (planned status : Status) (writing : Writing) (number : ℕ) → Cause book words old.input new.input before now planned writing →
+    old.input.faults ≤ new.input.faults → ReadsAtMost MOST_READ old.input new.input → Tells planned writing old.out new.out old.err new.err status → number ≡ status_number status → Runs book words old new before now number
+runs book words old new before now planned status writing number cause falls stops told is =
     let in_ = ends_in planned status writing old.out new.out old.err new.err told in
     record {
       status = status;
@@ -123,8 +226,11 @@ runs book words old new planned status writing number cause falls stops told is 
       never_falls = falls;
       stops = stops;
       bounded = record {
-        other_words = λ other. bound_words planned status (usage book words old new planned writing cause other) in_;
-        command = command_bound book words old new planned status writing cause in_;
+        other_words = λ other. bound_words planned status (usage book words old new before now planned writing cause other) in_;
+        command = command_bound book words old new before now planned status writing cause in_;
       };
-      complete = complete book words old new planned status writing cause told;
+      complete = record {
+        other_words = λ other none. same_words planned status (usage book words old new before now planned writing cause other) (all_written old new planned status writing none told).0;
+        command = command_complete book words old new before now planned status writing cause told;
+      };
     }

@@ -1,5 +1,6 @@
-pub mod Fronts
-pub mod Known
-pub mod Chosen
 pub mod Causes
+pub mod Served
+pub mod Spared
+pub mod Judged
 pub mod Endings
+pub mod Lent

@@ -16,10 +16,10 @@ use Rattle.act_desk.specs.declared.found.Found.TheVariants as found
 use Rattle.act_desk.specs.declared.status.Status.{Status}
 use Rattle.act_desk.specs.declared.status.Status.TheVariants.{Done, SomeFailed, ReadFault, WriteFault, SnapshotFault, NoMemory}
 use Rattle.act_desk.specs.Status.{status_line, OneOf}
-use Rattle.act_desk.specs.Told.{Input, Outside}
-use Rattle.act_desk.specs.Streams.{IsReadTo, Took}
+use Rattle.streams.specs.Told.{Input, Outside}
+use Rattle.streams.specs.Streams.{IsReadTo, Took}
 use Rattle.act_desk.specs.Telling.{Writing, output_alone, line_alone}
-use Rattle.act_desk.specs.TextReport.{text_report, is_outcome}
+use Rattle.text_reports.specs.TextReport.{text_report, is_outcome}
 use Rattle.act_desk.specs.FaultLine.{fault_line}
 
 -- the text report of a page's outcomes by a book, of which nothing was judged

@@ -1,28 +1,28 @@
--- The commands: for each its words, why it ends, and which statuses can come of it.
-use Rattle.std.specs.Prelude.{◌≡◌, ℕ, List, [], ◌∷◌, codes}
+-- The commands: for each why it ends, and which statuses can come of it.
+use Rattle.std.specs.Prelude.{◌≡◌}
+use Rattle.counts.specs.Counts.{StoodStill}
 use Rattle.judge_core.specs.Books.{Book}
-use Rattle.act_desk.specs.declared.command.Command.{Command}
-use Rattle.act_desk.specs.declared.command.Command.TheVariants.{Audit}
+use Rattle.desk_words.specs.declared.command.Command.{Command}
+use Rattle.desk_words.specs.declared.command.Command.TheVariants.{Audit, Serve}
 use Rattle.act_desk.specs.declared.status.Status.{Status}
-use Rattle.act_desk.specs.Told.{Input, Outside}
+use Rattle.streams.specs.Told.{Input, Outside}
+use Rattle.streams.specs.Streams.{NoFaults}
+use Rattle.act_desk.specs.Desk.{Desk, OnlyJudged}
 use Rattle.act_desk.specs.Telling.{Writing}
 use Rattle.act_desk.specs.Audit.{AuditCause, AuditBound, AuditComplete}
+use Rattle.act_desk.specs.Serve.{ServeCause, ServeBound, ServeComplete}
 
--- the words of a command
-abbrev pub IsCommand : List (List ℕ) → Command → Type 0
-IsCommand words Audit = words ≡ codes "audit" ∷ []
-
--- the words are none of these
-abbrev pub IsNoCommand : List (List ℕ) → Type 0
-IsNoCommand words = (command : Command) → IsCommand words command → ⊥
-
--- why a command ends with a status, and what it writes then
-abbrev pub CommandCause : Command → Book → Input → Input → Status → Writing → Type 0
-CommandCause Audit book old new status writing = AuditCause book old new status writing
+-- Why a command ends with a status, and what it writes then. An audit uses the first book and nothing else of
+-- the desk, and a serve doesn't read the input.
+abbrev pub CommandCause : {L : Type 0} → Command → Book → Input → Input → Desk L → Desk L → Status → Writing → Type 0
+CommandCause Audit book old new before now status writing = AuditCause book old new status writing × OnlyJudged 1 before now
+CommandCause (Serve serving) book old new before now status writing = (new ≡ old) × ServeCause book serving before now status writing
 
 -- the statuses that can come of it whatever the objects outside do, and those that can come without faults
-abbrev pub CommandBound : Command → Outside → Status → Type 0
-CommandBound Audit old status = AuditBound old.input status
+abbrev pub CommandBound : {L : Type 0} → Command → Outside → Desk L → Status → Type 0
+CommandBound Audit old before status = AuditBound old.input status
+CommandBound (Serve serving) old before status = ServeBound serving before status
 
-abbrev pub CommandComplete : Command → Book → Outside → Outside → Status → Type 0
-CommandComplete Audit book old new status = AuditComplete book old new status
+abbrev pub CommandComplete : {L : Type 0} → Command → Book → Outside → Outside → Desk L → Desk L → Status → Type 0
+CommandComplete Audit book old new before now status = NoFaults old new → AuditComplete book old new status
+CommandComplete (Serve serving) book old new before now status = StoodStill old.err.faults new.err.faults → ServeComplete serving before now status

@@ -1,11 +1,9 @@
-pub mod Told
-pub mod Streams
-pub mod Memory
-pub mod TextReport
 pub mod FaultLine
 pub mod Status
 pub mod Telling
 pub mod Audit
+pub mod Desk
+pub mod Serve
 pub mod Commands
 pub mod Run
 pub mod Start

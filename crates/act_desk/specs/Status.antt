@@ -1,7 +1,7 @@
 -- How the program ends: the number of each status, and its line on standard error.
 use Rattle.std.specs.Prelude.{◌≡◌, ℕ, ◌⊎◌, List, [], ◌∷◌, codes}
 use Rattle.act_desk.specs.declared.status.Status.{Status}
-use Rattle.act_desk.specs.declared.status.Status.TheVariants.{Done, SomeFailed, UsageFault, ReadFault, WriteFault, SnapshotFault, StoreFault, NoMemory}
+use Rattle.act_desk.specs.declared.status.Status.TheVariants.{Done, SomeFailed, UsageFault, ReadFault, WriteFault, SnapshotFault, StoreFault, ListenFault, NoMemory}
 
 abbrev pub status_number : Status → ℕ
 status_number Done = 0
@@ -11,6 +11,7 @@ status_number ReadFault = 3
 status_number WriteFault = 4
 status_number SnapshotFault = 5
 status_number StoreFault = 6
+status_number ListenFault = 7
 status_number NoMemory = 8
 
 -- the line that is the same each time; a snapshot's fault has a line of its own
@@ -22,6 +23,7 @@ status_line ReadFault = codes "read fault\n"
 status_line WriteFault = codes "write fault\n"
 status_line SnapshotFault = []
 status_line StoreFault = codes "store fault\n"
+status_line ListenFault = codes "listen fault\n"
 status_line NoMemory = codes "no memory\n"
 
 abbrev pub OneOf : List Status → Status → Type 0

@@ -1,12 +1,12 @@
 -- What a run writes of what it has found, and what the sinks hold then.
 use Rattle.std.specs.Prelude.{◌≡◌, ℕ, List, [], ◌⊎◌, if◌then◌else◌}
 use Rattle.act_desk.specs.declared.found.Found.{Found}
-use Rattle.act_desk.specs.declared.found.Found.TheVariants.{Finished, Usage, ReadFault, NotSnapshot, StoreFault, NoMemory}
+use Rattle.act_desk.specs.declared.found.Found.TheVariants.{Finished, Served, Usage, ReadFault, NotSnapshot, StoreFault, ListenFault, NoMemory}
 use Rattle.act_desk.specs.declared.status.Status.{Status}
 use Rattle.act_desk.specs.declared.status.Status.TheVariants as status
 use Rattle.act_desk.specs.Status.{status_line}
-use Rattle.act_desk.specs.Told.{Output}
-use Rattle.act_desk.specs.Streams.{Took, BrokeOff, TookOrBroke}
+use Rattle.streams.specs.Told.{Output}
+use Rattle.streams.specs.Streams.{Took, BrokeOff, TookOrBroke}
 
 -- what a run is to write, on standard output and on standard error
 pub record Writing : Type 0 where
@@ -16,21 +16,27 @@ pub record Writing : Type 0 where
 abbrev pub output_alone : List ℕ → Writing
 output_alone output = record { output = output; line = [] }
 
+abbrev pub nothing : Writing
+nothing = record { output = []; line = [] }
+
 abbrev pub line_alone : List ℕ → Writing
 line_alone line = record { output = []; line = line }
 
 -- the status where all can be written
 abbrev pub status_of : Found → Status
 status_of (Finished output failed) = if failed then status.SomeFailed else status.Done
+status_of Served = status.Done
 status_of Usage = status.UsageFault
 status_of ReadFault = status.ReadFault
 status_of (NotSnapshot line) = status.SnapshotFault
 status_of StoreFault = status.StoreFault
+status_of ListenFault = status.ListenFault
 status_of NoMemory = status.NoMemory
 
 -- what is to be written of it
 abbrev pub writing_of : Found → Writing
 writing_of (Finished output failed) = output_alone output
+writing_of Served = nothing
 writing_of (NotSnapshot line) = line_alone line
 writing_of found = line_alone (status_line (status_of found))
 

@@ -1,19 +1,18 @@
 ghost use Rattle.std.specs.Prelude.{◌≡◌, ◌≤◌, IfOk};
-ghost use Rattle.act_desk.specs.Streams.{ReadsAtMost};
+ghost use Rattle.streams.specs.Streams.{ReadsAtMost};
 ghost use Rattle.act_desk.specs.Telling.{status_of, writing_of};
 ghost use Rattle.act_desk.specs.Audit.{report_of, has_failed, fails, IsFoundIn, AuditCause};
 
 use crate::fault_line::fault_line;
 use crate::found::Found;
-use crate::read_all::{ReadFault, read_all};
-use crate::source::Source;
-use crate::text_report::{is_outcome, text_report};
 use judge_core::{OutRow, infos_of};
 use reaudit::audit_page;
 use rule_core::{Auto, RuleBook};
 use snap_json::{MOST_SNAPSHOT_BYTES, SnapFault, read_snapshot};
 use snap_tree::{List, OutOfMemory, Tree};
 use std::alloc::Global;
+use streams::{ReadFault, Source, read_all};
+use text_reports::{is_outcome, text_report};
 
 /// How many bytes an audit reads at most: one more than a snapshot may have.
 pub const MOST_READ: usize = MOST_SNAPSHOT_BYTES + 1;

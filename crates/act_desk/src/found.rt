@@ -5,7 +5,9 @@ use snap_tree::{List, Text};
 pub enum Found {
     /// A command has done its work: what it writes, and whether some final outcome is failed.
     Finished { output: List<u8>, failed: bool },
-    /// The words are no command.
+    /// All connections are served.
+    Served,
+    /// The words are no command, or want more workers than there are.
     Usage,
     /// The source met a fault.
     ReadFault,
@@ -13,5 +15,7 @@ pub enum Found {
     NotSnapshot { line: Text },
     /// The store can't be opened.
     StoreFault,
+    /// The door met a fault.
+    ListenFault,
     NoMemory,
 }

@@ -1,34 +1,29 @@
 //! The accessibility audit desk, as a program: `act_desk STORE COMMAND ..`. The function `run` does what
-//! a command's words say, over any source, sinks and book of rules; its contract says what each status
-//! means. The adapters over standard input, output and error, and `main`, are the trusted edge.
+//! a command's words say, over any source, sinks, keeper, door and books of rules; its contract says what
+//! each status means. The adapters over standard input, output and error and over TCP, and `main`, are the
+//! trusted edge.
 #![tactic(auto)]
 
 mod audit;
-mod command;
-mod failed;
 mod fault_line;
 mod found;
-mod mem_sink;
-mod mem_source;
-mod read_all;
 mod run;
-mod sink;
-mod source;
+mod serve;
 mod start;
 mod status;
-mod stream;
 mod tell;
 #[cfg(test)]
 mod tests;
-mod text_report;
-mod write_all;
 
+use crate::found::Found;
 use crate::run::run;
-use crate::start::command_words;
-use crate::stream::{Reader, Writer};
+use crate::start::{command_words, made_books};
 use crate::tell::tell;
-use rule_book::Thirty;
+use keep_core::MemoryKeeper;
+use snap_tree::List;
 use std::process::ExitCode;
+use streams::{Reader, Writer};
+use tcp_door::{Patience, TcpDoor};
 
 fn main(rt: HostRuntime) -> ExitCode {
     let mut out = Writer::new(rt.stdout());
@@ -37,14 +32,22 @@ fn main(rt: HostRuntime) -> ExitCode {
         Ok(words) => words,
         Err(found) => return ExitCode::from(tell(&mut out, &mut err, &found).number()),
     };
+    let mut books = match made_books(rt.alloc()) {
+        Ok(books) => books,
+        Err(_) => return ExitCode::from(tell(&mut out, &mut err, &Found::NoMemory).number()),
+    };
     let mut input = Reader::new(rt.stdin());
-    let mut book = Thirty::new();
+    let mut keeper = MemoryKeeper::new(rt.alloc(), List::from_vec(Vec::new(rt.alloc())));
+    let mut door = TcpDoor::new(&rt, Patience::usual());
     ExitCode::from(run(
+        &rt,
         rt.alloc(),
         &words,
         &mut input,
         &mut out,
         &mut err,
-        &mut book,
+        &mut keeper,
+        &mut door,
+        &mut books,
     ))
 }

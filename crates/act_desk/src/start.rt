@@ -1,16 +1,20 @@
-ghost use Rattle.std.specs.Prelude.{◌≡◌, ◌<◌, ◌↔◌, length, map, codes, IfOk, IfErr, IsTrue};
+ghost use Rattle.std.specs.Prelude.{◌≡◌, ◌<◌, ◌↔◌, length, map, codes, vec_len, IfOk, IfErr, IsTrue};
 ghost use Rattle.std.specs.String.{string_bytes};
 ghost use Rattle.std.specs.IoError.{error_kind};
 ghost use Rattle.std.specs.Vec.Iter.{into_iter_items};
 ghost use Rattle.act_desk.specs.Start.{found_by, IsRefusal, Starts};
 
 use crate::found::Found;
+use rule_book::Thirty;
 use snap_tree::{List, OutOfMemory, Text};
-use std::alloc::Global;
+use std::alloc::{AllocError, Global};
 use std::env::{Args, FillError};
 use std::io::ErrorKind;
 use std::rt::Env;
 use std::{env, io};
+
+// How many books the program has, and so how many workers it may be told.
+const MOST_WORKERS: usize = 16;
 
 impl From<io::Error> for Found {
     ghost from_gives = { λ error found. found ≡ found_by (error_kind error) };
@@ -77,6 +81,17 @@ fn texts_of(alloc: Global, strings: Args) -> Result<Vec<Text>, OutOfMemory>
         texts.push(Text::from_string(string))?;
     }
     Ok(texts)
+}
+
+/// The books that judge, as many as an import may have at work.
+pub fn made_books(alloc: Global) -> Result<Vec<Thirty>, AllocError>
+    ensures { IfOk result (λ books. 0 < vec_len books) }
+{
+    let mut books = Vec::new(alloc);
+    for _ in 0..MOST_WORKERS {
+        books.push(Thirty::new())?;
+    }
+    Ok(books)
 }
 
 #[cfg(test)]

@@ -4,11 +4,11 @@ ghost use Rattle.act_desk.specs.Status.{status_number, status_line};
 /// How the program ends.
 #[derive(Clone, Copy, Debug, PartialEq, Eq)]
 pub enum Status {
-    /// The command is done, and no final outcome of an audit is failed.
+    /// The command is done: an audit in which no final outcome is failed, or all connections are served.
     Done,
     /// A page was audited, and some final outcome is failed.
     SomeFailed,
-    /// The words are no command.
+    /// The words are no command, or want more workers than there are.
     UsageFault,
     /// The source met a fault.
     ReadFault,
@@ -18,6 +18,8 @@ pub enum Status {
     SnapshotFault,
     /// The store can't be opened.
     StoreFault,
+    /// The door met a fault.
+    ListenFault,
     NoMemory,
 }
 
@@ -34,6 +36,7 @@ impl Status {
             Status::WriteFault => 4,
             Status::SnapshotFault => 5,
             Status::StoreFault => 6,
+            Status::ListenFault => 7,
             Status::NoMemory => 8,
         }
     }
@@ -49,6 +52,7 @@ impl Status {
             Status::ReadFault => "read fault\n",
             Status::WriteFault => "write fault\n",
             Status::StoreFault => "store fault\n",
+            Status::ListenFault => "listen fault\n",
             Status::NoMemory => "no memory\n",
         }
     }

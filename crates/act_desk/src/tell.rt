@@ -2,9 +2,8 @@ ghost use Rattle.std.specs.Prelude.{◌≡◌};
 ghost use Rattle.act_desk.specs.Telling.{status_of, writing_of, Tells};
 
 use crate::found::Found;
-use crate::sink::Sink;
 use crate::status::Status;
-use crate::write_all::write_all;
+use streams::{Sink, write_all};
 
 /// Writes what a run has found: its output on `out`, and its line on `err`. Gives the status, which is
 /// `WriteFault` where a sink failed; then a line says so on `err`, unless that is the sink that failed.
@@ -35,7 +34,7 @@ fn line_of(found: &Found) -> &[u8]
     ensures { result.now ≡ (writing_of found.now).line }
 {
     match found {
-        Found::Finished { .. } => &[],
+        Found::Finished { .. } | Found::Served => &[],
         Found::NotSnapshot { line } => line.as_str().as_bytes(),
         _ => status_of(found).line().as_bytes(),
     }
@@ -47,11 +46,12 @@ pub fn status_of(found: &Found) -> Status
 {
     match found {
         Found::Finished { failed: true, .. } => Status::SomeFailed,
-        Found::Finished { failed: false, .. } => Status::Done,
+        Found::Finished { failed: false, .. } | Found::Served => Status::Done,
         Found::Usage => Status::UsageFault,
         Found::ReadFault => Status::ReadFault,
         Found::NotSnapshot { .. } => Status::SnapshotFault,
         Found::StoreFault => Status::StoreFault,
+        Found::ListenFault => Status::ListenFault,
         Found::NoMemory => Status::NoMemory,
     }
 }

@@ -1,12 +1,20 @@
-//! `run` over a source and sinks in memory, with the book of the thirty rules.
-use crate::mem_sink::MemSink;
-use crate::mem_source::MemSource;
+//! `run` over a source, sinks, a keeper and a door in memory, with sixteen books of the thirty rules.
+ghost use Rattle.std.specs.Prelude.{◌≡◌, ◌<◌, None, IfOk, vec_len};
+ghost use Rattle.std.specs.List.{AllByRecursion};
+ghost use Rattle.links.specs.Memory.{IsUntouchedLink};
+
 use crate::run::run;
-use rule_book::Thirty;
+use crate::start::made_books;
+use keep_core::MemoryKeeper;
+use links::{MemDoor, MemLink};
+use meeting_books::{Meeting, meeting_books};
+use rule_core::RuleBook;
 use snap_tree::{List, OutOfMemory, Text};
 use std::alloc::{AllocError, Global};
 use std::process::Abort;
 use std::test::Fail;
+use std::thread::Threads;
+use streams::{MemSink, MemSource};
 
 mod pages;
 
@@ -41,10 +49,14 @@ struct Case {
     out_writes: &'static [u64],
     err_room: usize,
     err_writes: &'static [u64],
-    // the status, and what the sinks hold then
+    // what the one link of the door brings, none where it has none, and which calls of the door fail
+    brought: Option<&'static str>,
+    door_calls: &'static [u64],
+    // the status, what the sinks hold then, and what was written to the link
     status: u8,
     out: &'static str,
     err: &'static str,
+    written: &'static str,
 }
 
 const REPORTED: Case = Case {
@@ -57,17 +69,31 @@ const REPORTED: Case = Case {
     out_writes: &[],
     err_room: 1_000,
     err_writes: &[],
+    brought: None,
+    door_calls: &[],
     status: 0,
     out: HOME_REPORT,
     err: "",
+    written: "",
 };
 
-// What a run ended with, and what the sinks hold.
+// What a run ended with, what the sinks hold, and the door with its log.
 #[derive(Drop)]
 struct Ended {
     status: u8,
     out: MemSink,
     err: MemSink,
+    door: MemDoor,
+}
+
+impl Ended {
+    // What was written to the first link that was served.
+    fn written(&self) -> &[u8] {
+        match self.door.log().first() {
+            Some(link) => link.written(),
+            None => &[],
+        }
+    }
 }
 
 fn texts(alloc: Global, words: &[&str]) -> Result<List<Text>, AllocError> {
@@ -96,23 +122,81 @@ fn sinks(alloc: Global, case: &Case) -> Result<(MemSink, MemSink), OutOfMemory> 
     Ok((out, err))
 }
 
-fn run_to_end(
-    alloc: Global,
-    words: List<Text>,
-    mut input: MemSource,
-    mut out: MemSink,
-    mut err: MemSink,
-) -> Ended {
-    let mut book = Thirty::new();
-    let status = run(alloc, &words, &mut input, &mut out, &mut err, &mut book);
-    Ended { status, out, err }
+// Links of which one brings these bytes.
+fn links(alloc: Global, brought: Option<&str>) -> Result<List<MemLink>, OutOfMemory>
+    ensures { IfOk result (AllByRecursion IsUntouchedLink) }
+{
+    match brought {
+        Some(bytes) => one_link(alloc, bytes),
+        None => Ok(List::from_vec(Vec::new(alloc))),
+    }
 }
 
-fn run_over(alloc: Global, bytes: &[u8], case: &Case) -> Result<Ended, Fail> {
+fn one_link(alloc: Global, bytes: &str) -> Result<List<MemLink>, OutOfMemory>
+    ensures { IfOk result (AllByRecursion IsUntouchedLink) }
+{
+    let mut links = Vec::new(alloc);
+    links.push(link(alloc, bytes)?)?;
+    Ok(List::from_vec(links))
+}
+
+fn link(alloc: Global, bytes: &str) -> Result<MemLink, OutOfMemory>
+    ensures { IfOk result IsUntouchedLink }
+{
+    let bytes = List::from_vec(Vec::from_slice(alloc, bytes.as_bytes())?);
+    let none = List::from_vec(Vec::new(alloc));
+    MemLink::new(alloc, bytes, 16, 1_000, 1_000, none)
+}
+
+fn door(alloc: Global, case: &Case) -> Result<MemDoor, OutOfMemory>
+    ensures { IfOk result (λ door. door.heard ≡ None) }
+{
+    let links = links(alloc, case.brought)?;
+    let fails = Vec::from_slice(alloc, case.door_calls)?;
+    MemDoor::new(alloc, links, List::from_vec(fails))
+}
+
+fn run_by<R: Threads + Sync, B: RuleBook + Send>(
+    rt: &R,
+    alloc: Global,
+    bytes: &[u8],
+    case: &Case,
+    books: &mut Vec<B>,
+) -> Result<Ended, OutOfMemory>
+    requires { 0 < vec_len books.old }
+{
     let words = texts(alloc, case.words)?;
-    let input = source(alloc, bytes, case)?;
-    let (out, err) = sinks(alloc, case)?;
-    Ok(run_to_end(alloc, words, input, out, err))
+    let mut input = source(alloc, bytes, case)?;
+    let (mut out, mut err) = sinks(alloc, case)?;
+    let mut keeper = MemoryKeeper::new(alloc, List::from_vec(Vec::new(alloc)));
+    let mut door = door(alloc, case)?;
+    let status = run(
+        rt,
+        alloc,
+        &words,
+        &mut input,
+        &mut out,
+        &mut err,
+        &mut keeper,
+        &mut door,
+        books,
+    );
+    Ok(Ended {
+        status,
+        out,
+        err,
+        door,
+    })
+}
+
+fn run_over<R: Threads + Sync>(
+    rt: &R,
+    alloc: Global,
+    bytes: &[u8],
+    case: &Case,
+) -> Result<Ended, OutOfMemory> {
+    let mut books = made_books(alloc)?;
+    run_by(rt, alloc, bytes, case, &mut books)
 }
 
 // Whether a run wanted memory, and wrote nothing but the line that says so, as far as the sink took it.
@@ -133,10 +217,16 @@ fn ended_so(rt: &impl Abort, end: &Ended, case: &Case) {
     let ended = (end.status, end.out.bytes(), end.err.bytes());
     let wanted = (case.status, case.out.as_bytes(), case.err.as_bytes());
     assert_eq!(rt; ended, wanted, "{name}");
+    assert_eq!(rt; end.written(), case.written.as_bytes(), "{name}");
 }
 
-fn ends_so(rt: &impl Abort, alloc: Global, bytes: &[u8], case: &Case) -> Result<(), Fail> {
-    let end = run_over(alloc, bytes, case)?;
+fn ends_so<R: Abort + Threads + Sync>(
+    rt: &R,
+    alloc: Global,
+    bytes: &[u8],
+    case: &Case,
+) -> Result<(), Fail> {
+    let end = run_over(rt, alloc, bytes, case)?;
     if wants_memory(&end) {
         return Err(Fail::from(OutOfMemory));
     }
@@ -144,7 +234,11 @@ fn ends_so(rt: &impl Abort, alloc: Global, bytes: &[u8], case: &Case) -> Result<
     Ok(())
 }
 
-fn each_ends_so(rt: &impl Abort, alloc: Global, cases: &[Case]) -> Result<(), Fail> {
+fn each_ends_so<R: Abort + Threads + Sync>(
+    rt: &R,
+    alloc: Global,
+    cases: &[Case],
+) -> Result<(), Fail> {
     for case in cases {
         ends_so(rt, alloc, case.input.as_bytes(), case)?;
     }
@@ -259,6 +353,85 @@ static OTHER_WORDS: [Case; 5] = [
 #[test]
 fn other_words_are_no_command(rt: HostRuntime) -> Result<(), Fail> {
     each_ends_so(&rt, rt.alloc(), OTHER_WORDS.as_slice())
+}
+
+const PUT_SITE: &str = "PUT /sites/acme HTTP/1.1\r\nx-caller: ann\r\ncontent-length: 0\r\n\r\n";
+
+const SITE_IS_PUT: &str =
+    "HTTP/1.1 201 Created\r\ncontent-type: application/json\r\ncontent-length: 15\r\n\r\n{\"site\":\"acme\"}";
+
+const SERVED: Case = Case {
+    name: "a connection is served by as many workers as books",
+    words: &[
+        "serve",
+        "--port",
+        "0",
+        "--workers",
+        "16",
+        "--connections",
+        "1",
+    ],
+    brought: Some(PUT_SITE),
+    out: "",
+    written: SITE_IS_PUT,
+    ..REPORTED
+};
+
+static SERVES: [Case; 5] = [
+    SERVED,
+    Case {
+        name: "a second connection doesn't come",
+        words: &[
+            "serve",
+            "--port",
+            "0",
+            "--workers",
+            "1",
+            "--connections",
+            "2",
+        ],
+        status: 7,
+        err: "listen fault\n",
+        ..SERVED
+    },
+    Case {
+        name: "no connection is taken by more workers than books",
+        words: &[
+            "serve",
+            "--port",
+            "0",
+            "--workers",
+            "17",
+            "--connections",
+            "1",
+        ],
+        status: 2,
+        err: "usage fault\n",
+        written: "",
+        ..SERVED
+    },
+    Case {
+        name: "the door fails at listen",
+        door_calls: &[1],
+        status: 7,
+        err: "listen fault\n",
+        written: "",
+        ..SERVED
+    },
+    Case {
+        name: "the line on that can't be written",
+        door_calls: &[1],
+        err_room: 6,
+        status: 4,
+        err: "listen",
+        written: "",
+        ..SERVED
+    },
+];
+
+#[test]
+fn each_serve_has_its_status_and_replies(rt: HostRuntime) -> Result<(), Fail> {
+    each_ends_so(&rt, rt.alloc(), SERVES.as_slice())
 }
 
 const READ_FAULT: Case = Case {
@@ -379,7 +552,11 @@ static TOO_LONG: Case = Case {
     ..NO_SNAPSHOT
 };
 
-fn spaces_are_too_long(rt: &impl Abort, alloc: Global, count: usize) -> Result<(), Fail> {
+fn spaces_are_too_long<R: Abort + Threads + Sync>(
+    rt: &R,
+    alloc: Global,
+    count: usize,
+) -> Result<(), Fail> {
     let bytes = vec![in alloc; b' '; count]?;
     ends_so(rt, alloc, bytes.as_slice(), &TOO_LONG)
 }
@@ -388,6 +565,47 @@ fn spaces_are_too_long(rt: &impl Abort, alloc: Global, count: usize) -> Result<(
 fn an_audit_stops_reading_after_one_byte_too_many(rt: HostRuntime) -> Result<(), Fail> {
     spaces_are_too_long(&rt, rt.alloc(), 8_388_609)?;
     spaces_are_too_long(&rt, rt.alloc(), 8_388_700)
+}
+
+// A site, and two pages of one node for it.
+const IMPORT: &str =
+    "PUT /sites/acme HTTP/1.1\r\nx-caller: ann\r\ncontent-length: 0\r\n\r\nPOST /sites/acme/import HTTP/1.1\r\nx-caller: ann\r\ncontent-length: 215\r\n\r\n{\"pages\":[{\"page\":\"p01\",\"rev\":0,\"snapshot\":{\"url\":\"https://example.org/\",\"nodes\":[{\"n\":1,\"p\":null,\"tag\":\"p\"}]}},{\"page\":\"p02\",\"rev\":0,\"snapshot\":{\"url\":\"https://example.org/\",\"nodes\":[{\"n\":1,\"p\":null,\"tag\":\"p\"}]}}]}";
+
+const BY_TWO: Case = Case {
+    name: "an import of two pages by two workers",
+    words: &[
+        "serve",
+        "--port",
+        "0",
+        "--workers",
+        "2",
+        "--connections",
+        "1",
+    ],
+    brought: Some(IMPORT),
+    out: "",
+    ..REPORTED
+};
+
+fn two_books(alloc: Global) -> Result<Vec<Meeting>, OutOfMemory>
+    ensures { IfOk result (λ books. 0 < vec_len books) }
+{
+    let (one, other) = meeting_books(alloc)?;
+    let mut books = Vec::new(alloc);
+    books.push(one)?;
+    books.push(other)?;
+    Ok(books)
+}
+
+// Two books, each of which looks for a flag that the other raises when it judges: they find them where both
+// judge at once.
+#[test]
+fn an_import_is_audited_by_two_workers_at_once(rt: HostRuntime) -> Result<(), Fail> {
+    let mut books = two_books(rt.alloc())?;
+    let end = run_by(&rt, rt.alloc(), &[], &BY_TWO, &mut books)?;
+    assert_eq!(rt; end.status, 0);
+    assert!(rt; books.iter().all(|book| book.has_met()));
+    Ok(())
 }
 
 pub(crate) fn is_text(rt: &impl Abort, text: &str, wanted: &str) {

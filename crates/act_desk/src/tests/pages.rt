@@ -1,5 +1,4 @@
 //! Reports of pages by the book of the thirty rules, with what people judged.
-use crate::text_report::text_report;
 use judge_core::Judgement;
 use reaudit::audit_page;
 use rule_book::{Thirty, infos};
@@ -9,6 +8,7 @@ use snap_json::read_snapshot;
 use snap_tree::{NodeId, Text, Tree};
 use std::alloc::Global;
 use std::test::Fail;
+use text_reports::text_report;
 
 // A page with a button, and the same page hidden from assistive technology.
 const BUTTON: &str =

@@ -1,0 +1,19 @@
+-- A run lends its books as a slice, whose counts are those of the books.
+use Rattle.std.proofs.Common.{◌≡◌, ℕ, List, map, Option, sym, subst}
+use Rattle.links.specs.Wires.{Wire}
+use Rattle.links.specs.Doors.{Doorway}
+use Rattle.judge_core.specs.Books.{Book}
+use Rattle.keep_core.specs.Tables.{Tables}
+use Rattle.act_desk.specs.declared.status.Status.{Status}
+use Rattle.streams.specs.Told.{Input}
+use Rattle.act_desk.specs.Telling.{Writing}
+use Rattle.act_desk.specs.Desk.{Desk}
+use Rattle.act_desk.specs.Run.{Cause}
+
+pub lent : {L B : Type 0} (book : Book) (words : List (List ℕ)) (old new : Input) (wire : L → Option Wire) (broken : L → ℕ) (door door' : Doorway) (log log' : Option (List L)) (tables tables' : Option Tables) (faults faults' : ℕ) (calls : B → ℕ) (held borrowed given left : List B) (planned : Status) (writing : Writing) → borrowed ≡ held → left ≡ given →
+    Cause book words old new (record { wire = wire; broken = broken; door = door; log = log; tables = tables; faults = faults; calls = map calls borrowed }) (record { wire = wire; broken = broken; door = door'; log = log'; tables = tables'; faults = faults'; calls = map calls given }) planned writing →
+    Cause book words old new (record { wire = wire; broken = broken; door = door; log = log; tables = tables; faults = faults; calls = map calls held }) (record { wire = wire; broken = broken; door = door'; log = log'; tables = tables'; faults = faults'; calls = map calls left }) planned writing
+lent {L = L} book words old new wire broken door door' log log' tables tables' faults faults' calls held borrowed given left planned writing same back cause =
+    let before : List _ → Desk L = λ books. record { wire = wire; broken = broken; door = door; log = log; tables = tables; faults = faults; calls = map calls books } in
+    let after : List _ → Desk L = λ books. record { wire = wire; broken = broken; door = door'; log = log'; tables = tables'; faults = faults'; calls = map calls books } in
+    subst (λ books. Cause book words old new (before books) (after left) planned writing) same (subst (λ books. Cause book words old new (before borrowed) (after books) planned writing) (sym back) cause)
