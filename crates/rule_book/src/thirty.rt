@@ -28,6 +28,9 @@ use std::marker::Model;
 #[derive(Debug, Drop)]
 pub struct Thirty {
     calls: u64,
+    // Books that stand side by side are counted up by threads of their own, for each rule on each node: so
+    // that no two share a line of a processor's cache, which makes them wait for each other.
+    apart: [u64; 15],
 }
 
 impl Model for Thirty {
@@ -43,7 +46,10 @@ impl Thirty {
     pub fn new() -> Self
         ensures { result ≡ 0 }
     {
-        Thirty { calls: 0 }
+        Thirty {
+            calls: 0,
+            apart: [0; 15],
+        }
     }
 }
 

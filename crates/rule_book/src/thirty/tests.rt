@@ -129,7 +129,10 @@ fn nothing_said_is_counted_too(rt: HostRuntime) -> Result<(), Fail> {
         assert!(rt; verdict.is_none(), "rule {rule} node {n}");
         assert_eq!(rt; book.calls(), *calls);
     }
-    let mut full = Thirty { calls: u64::MAX };
+    let mut full = Thirty {
+        calls: u64::MAX,
+        apart: [0; 15],
+    };
     let verdict = full.judge(alloc, &tree, RuleNo(3), NodeId(1))?;
     assert!(rt; is_told(&verdict, said_of(3, 1)));
     assert_eq!(rt; full.calls(), u64::MAX);
