@@ -42,7 +42,7 @@ impl Duplicate for PageHead {
 impl Duplicate for Page {
     fn copy(&self, alloc: Global) -> Result<Self, OutOfMemory> {
         let head = self.head.copy(alloc)?;
-        let tree = self.tree.copy(alloc)?;
+        let tree = self.tree.copy()?;
         Ok(Page { head, tree })
     }
 }

@@ -143,6 +143,6 @@ pub fn apply(alloc: Global, tree: &Tree, edits: &[Edit]) -> Result<Tree, EditFau
     }
     match edits.split_last() {
         Some((last, earlier)) => apply_some(alloc, tree, earlier, last),
-        None => Ok(tree.copy(alloc)?),
+        None => Ok(tree.copy()?),
     }
 }

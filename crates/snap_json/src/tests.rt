@@ -217,7 +217,7 @@ static WRITTEN: [(&str, &str); 2] = [
 
 /// Whether a tree, and a copy of it, are written so.
 fn is_written(alloc: Global, tree: &Tree, wanted: &str) -> Result<bool, Fail> {
-    let copy = tree.copy(alloc)?;
+    let copy = tree.copy()?;
     Ok(
         write_snapshot(alloc, tree)?.as_slice() == wanted.as_bytes()
             && write_snapshot(alloc, &copy)?.as_slice() == wanted.as_bytes(),

@@ -1,14 +1,14 @@
 ghost use Rattle.std.specs.Prelude.{◌≡◌, [], None, IfSome, IfOk, IfErr, OnOk, option_and_then};
 ghost use Rattle.std.specs.Option.{option_copied, option_map};
 ghost use Rattle.std.specs.List.{find};
-ghost use Rattle.snap_tree.specs.Trees.{rows_of};
+ghost use Rattle.snap_tree.specs.Trees.{document, rows_of};
 ghost use Rattle.snap_tree.specs.Grown.{grown, page_of};
 ghost use Rattle.snap_tree.specs.Rows.{has_number};
 ghost use Rattle.snap_tree.specs.Faults.{shape_fault, tree_fault};
 ghost use Rattle.snap_tree.specs.Well.{IsWell};
 ghost use Rattle.snap_tree.specs.Places.{IsPlaces, HasRun, run_below};
 ghost use Rattle.snap_tree.specs.Opened.{Breaks};
-ghost use Rattle.snap_tree.specs.Indexed.{IsIndex};
+ghost use Rattle.snap_tree.specs.Indexed.{IsIndex, IsKept};
 ghost use Rattle.snap_tree.specs.Lookups.{node, tagged};
 ghost use Rattle.snap_tree.specs.Spots.{spot, parent, kids};
 ghost use Rattle.snap_tree.specs.SpotLaws.{IsAbsent, ClimbsAbove, WalksAbove};
@@ -16,7 +16,6 @@ ghost use Rattle.snap_tree.specs.Labels.{first_with_id, labels_for};
 
 use crate::branches::Branches;
 use crate::build::{MOST_NODES, places_of};
-use crate::copies::copies_of;
 use crate::fault::{BuildFault, TreeFault};
 use crate::groups::{Groups, Key, folded, group, groups_of};
 use crate::index::{Index, Places};
@@ -29,18 +28,17 @@ use crate::text::Text;
 use crate::weight::{MOST_WEIGHT, reference_weight};
 use std::alloc::Global;
 use std::marker::Model;
+use std::sync::Arc;
 
-/// A page: its address, and the tree of its nodes. Contracts see it as a `Document`.
+/// A page: its address, and the tree of its nodes. Contracts see it as a `Document`. Nothing changes a
+/// tree, so its copies share one page in memory, in any threads.
 #[derive(Drop)]
 pub struct Tree {
-    address: Text,
-    rows: Vec<Row>,
-    index: Index,
-    // The HTML elements of each folded tag.
-    tags: Groups,
+    shared: Arc<Page>,
 }
 
 impl Model for Tree {
+    ghost use Rattle.std.specs.Arc.{arc_value};
     ghost use Rattle.snap_tree.specs.Trees.{Document, document};
     ghost use Rattle.snap_tree.specs.Codes.{coded_document};
 
@@ -49,11 +47,19 @@ impl Model for Tree {
     ghost coded = { coded_document };
 
     ghost use Rattle.snap_tree.specs.Grown.{grown};
-    ghost use Rattle.snap_tree.specs.Indexed.{IsKept};
 
-    ghost view = { λ t. document t.address (grown t.rows.items) };
+    ghost view = { λ t. document (arc_value t.shared).address (grown (arc_value t.shared).rows.items) };
+}
 
-    ghost invariant = { λ t. IsKept t.rows.items t.index t.tags };
+// The rows of a page, and all by which they are looked up.
+#[derive(Drop)]
+struct Page {
+    address: Text,
+    rows: Vec<Row>,
+    index: Index,
+    // The HTML elements of each folded tag.
+    tags: Groups,
+    ghost kept: { IsKept rows.items index tags },
 }
 
 // The place of each number of rows whose shape is sound, or their first fault.
@@ -157,19 +163,28 @@ impl Tree {
         let Raw { address, rows } = raw;
         let rows = rows.into_vec();
         let tags = groups_of(alloc, Key::Tag, rows.as_slice())?;
-        Ok(Tree {
+        let page = Page {
             address,
             rows,
             index,
             tags,
-        })
+        };
+        let shared = Arc::new(alloc, page)?;
+        Ok(Tree { shared })
+    }
+
+    // The page that the tree shares with its copies.
+    fn page(&self) -> &Page
+        ensures { document result.now.address (grown result.now.rows.items) ≡ self.now }
+    {
+        &self.shared
     }
 
     /// The page's address.
     pub fn address(&self) -> &Text
         ensures { result.now ≡ self.now.address }
     {
-        &self.address
+        &self.page().address
     }
 
     /// The rows in document order.
@@ -180,14 +195,15 @@ impl Tree {
         ensures sound { tree_fault (rows_of self.now.trees) ≡ None }
         ensures well { IsWell self.now.trees }
     {
-        self.rows.as_slice()
+        self.page().rows.as_slice()
     }
 
     /// The trees of the page, to go over and down.
     pub fn branches(&self) -> Branches<'_>
         ensures { result ≡ self.now.trees }
     {
-        Branches::over(self.rows.as_slice(), self.index.sizes.as_slice())
+        let page = self.page();
+        Branches::over(page.rows.as_slice(), page.index.sizes.as_slice())
     }
 
     /// The row of a number, which is the row of its spot; None exactly where the tree doesn't hold the
@@ -197,7 +213,8 @@ impl Tree {
         ensures spot { option_copied result ≡ option_map (λ s. s.row) (spot self.now.trees n) }
         ensures absent { IsAbsent self.now.trees n → result ≡ None }
     {
-        row_of(self.rows.as_slice(), &self.index.places, n)
+        let page = self.page();
+        row_of(page.rows.as_slice(), &page.index.places, n)
     }
 
     /// The number of a node's parent; None for the root and for a number that the tree doesn't hold.
@@ -211,7 +228,8 @@ impl Tree {
         ensures walks { WalksAbove self.now.trees n }
         ensures absent { IsAbsent self.now.trees n → result ≡ None }
     {
-        named_by(row_of(self.rows.as_slice(), &self.index.places, n))
+        let page = self.page();
+        named_by(row_of(page.rows.as_slice(), &page.index.places, n))
     }
 
     /// The trees below a node; None exactly where the tree doesn't hold the number.
@@ -219,10 +237,11 @@ impl Tree {
         ensures below { result ≡ option_map (λ s. s.below) (spot self.now.trees n) }
         ensures absent { IsAbsent self.now.trees n → result ≡ None }
     {
-        match self.index.places.get(&n.0) {
+        let page = self.page();
+        match page.index.places.get(&n.0) {
             Some(place) => Some(run_below(
-                self.rows.as_slice(),
-                self.index.sizes.as_slice(),
+                page.rows.as_slice(),
+                page.index.sizes.as_slice(),
                 *place,
             )),
             None => None,
@@ -245,7 +264,7 @@ impl Tree {
         ensures { IfOk result (λ nodes. nodes ≡ tagged self.now.trees tag.now) }
     {
         let key = folded(alloc, tag.as_str())?;
-        let nodes = group(&self.tags, key.as_str());
+        let nodes = group(&self.page().tags, key.as_str());
         Ok(List::from_vec(Vec::from_slice(alloc, nodes)?))
     }
 
@@ -261,7 +280,7 @@ impl Tree {
     pub fn by_id(&self, id: &str) -> Option<NodeId>
         ensures { result ≡ first_with_id self.now.trees id.now }
     {
-        group(&self.index.ids, id).first().copied()
+        group(&self.page().index.ids, id).first().copied()
     }
 
     /// The labels of a node: first, where it is the first element with its id, the HTML labels whose
@@ -271,24 +290,22 @@ impl Tree {
     pub fn labels_for(&self, alloc: Global, n: NodeId) -> Result<List<NodeId>, OutOfMemory>
         ensures { IfOk result (λ labels. labels ≡ labels_for self.now.trees n) }
     {
-        let Some(place) = self.index.places.get(&n.0) else {
+        let page = self.page();
+        let Some(place) = page.index.places.get(&n.0) else {
             return Ok(List::from_vec(Vec::new(alloc)));
         };
-        let row = &self.rows[*place];
-        let outer = self.index.outer[*place];
-        let labels = all_labels(alloc, &self.index.ids, &self.index.fors, row, outer)?;
+        let row = &page.rows[*place];
+        let outer = page.index.outer[*place];
+        let labels = all_labels(alloc, &page.index.ids, &page.index.fors, row, outer)?;
         Ok(List::from_vec(labels))
     }
 
-    /// An equal tree.
-    #[tactic(auto, using(crate::proofs::Wellness::shape_of_sound))]
-    pub fn copy(&self, alloc: Global) -> Result<Self, OutOfMemory>
+    /// An equal tree, which shares the page in memory: it takes no memory of its own, and the same short time
+    /// for any page. `OutOfMemory` says that there can be no more copies.
+    pub fn copy(&self) -> Result<Self, OutOfMemory>
         ensures { IfOk result (λ copy. copy ≡ self.now) }
     {
-        let address = self.address.copy(alloc)?;
-        let rows = copies_of(alloc, self.rows.as_slice())?;
-        let index = Index::of(alloc, rows.as_slice(), self.index.places.clone()?)?;
-        let rows = List::from_vec(rows);
-        Tree::over(alloc, Raw { address, rows }, index)
+        let shared = Arc::try_clone(&self.shared)?;
+        Ok(Tree { shared })
     }
 }

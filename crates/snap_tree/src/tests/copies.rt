@@ -19,7 +19,7 @@ fn has_value(tree: &Tree, number: u32, name: &str, value: &str) -> bool {
 fn copies_are_equal(rt: HostRuntime) -> Result<(), Fail> {
     let alloc = rt.alloc();
     let tree = built(alloc, "1 0 form;2 1 label for=q class=c;3 1 input id=q")?;
-    let copy = tree.copy(alloc)?;
+    let copy = tree.copy()?;
     assert_eq!(rt; copy.address().as_str(), "https://example.org/");
     assert_eq!(rt; copy.rows().len(), 3);
     assert!(rt; has_kids(&copy, 1, [2, 3].as_slice()));

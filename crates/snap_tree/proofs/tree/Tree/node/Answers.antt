@@ -10,8 +10,8 @@ use Rattle.snap_tree.proofs.tree.Tree.node.Goals as goal
 pub returns : goal.returns
 returns c =
     let t = c.args.self.now.trees in
-    let found = c.row_of.ensures ∙ ap (find (has_number c.args.n)) (c.as_slice.ensures.value ∙ sym (rows_of_grown c.self.inside.rows.items)) in
-    let is = found ∙ ap (λ d. find (has_number c.args.n) (rows_of d.trees)) c.self.view_is in
+    let found = c.row_of.ensures ∙ ap (find (has_number c.args.n)) (c.as_slice.ensures.value ∙ sym (rows_of_grown c.page-page.result.now.rows.items)) in
+    let is = found ∙ ap (λ d. find (has_number c.args.n) (rows_of d.trees)) c.page-page.ensures in
     record {
       row = is;
       spot = is ∙ sym (spot_row c.args.n [] t);

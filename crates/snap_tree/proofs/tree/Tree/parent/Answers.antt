@@ -14,9 +14,9 @@ use Rattle.snap_tree.proofs.tree.Tree.parent.Goals as goal
 pub returns : goal.returns
 returns c =
     let t = c.args.self.now.trees in
-    let well = subst (λ d. IsWell d.trees) c.self.view_is (well_from_sound c.self.inside.rows.items c.self.invariant.sound) in
-    let found = c.row_of.ensures ∙ ap (find (has_number c.args.n)) (c.as_slice.ensures.value ∙ sym (rows_of_grown c.self.inside.rows.items)) in
-    let row = found ∙ ap (λ d. find (has_number c.args.n) (rows_of d.trees)) c.self.view_is in
+    let well = subst (λ d. IsWell d.trees) c.page-page.ensures (well_from_sound c.page-page.result.now.rows.items c.page-page.result.now.kept.sound) in
+    let found = c.row_of.ensures ∙ ap (find (has_number c.args.n)) (c.as_slice.ensures.value ∙ sym (rows_of_grown c.page-page.result.now.rows.items)) in
+    let row = found ∙ ap (λ d. find (has_number c.args.n) (rows_of d.trees)) c.page-page.ensures in
     let named = c.named_by.ensures ∙ ap (option_and_then (λ (r : Row). r.parent)) row in
     let is = named ∙ parent_is t c.args.n well.placed in
     record {

@@ -11,5 +11,5 @@ use Rattle.snap_tree.proofs.tree.Tree.tagged.Goals as goal
 pub returns : goal.returns
 returns c =
     let text = c.as_str-2.ensures.value ∙ c.in_ok-key.ensures ∙ ap folded c.as_str.ensures in
-    c.from_vec.ensures ∙ c.in_ok-from_slice.ensures.items ∙ c.group-nodes.ensures ∙ c.self.invariant.tagged _ ∙ ap (λ key. keyed Tag key c.self.inside.rows.items) text
-    ∙ tagged_is c.args.tag.now c.self.inside.rows.items ∙ sym (ap (λ d. map (λ r. r.id) (filter (is_html c.args.tag.now) (rows_of d.trees))) (sym c.self.view_is) ∙ ap (λ rs. map (λ r. r.id) (filter (is_html c.args.tag.now) rs)) (rows_of_grown c.self.inside.rows.items))
+    c.from_vec.ensures ∙ c.in_ok-from_slice.ensures.items ∙ c.group-nodes.ensures ∙ c.page.result.now.kept.tagged _ ∙ ap (λ key. keyed Tag key c.page.result.now.rows.items) text
+    ∙ tagged_is c.args.tag.now c.page.result.now.rows.items ∙ sym (ap (λ d. map (λ r. r.id) (filter (is_html c.args.tag.now) (rows_of d.trees))) (sym c.page.ensures) ∙ ap (λ rs. map (λ r. r.id) (filter (is_html c.args.tag.now) rs)) (rows_of_grown c.page.result.now.rows.items))
