@@ -21,7 +21,7 @@ use Rattle.desk_core.specs.declared.refusal.Needed.TheVariants as needed
 use Rattle.desk_core.specs.declared.refusal.Limit.TheVariants as limit
 use Rattle.desk_core.specs.declared.refusal.Refusal.{Refusal}
 use Rattle.desk_core.specs.declared.refusal.Refusal.TheVariants as refusal
-use Rattle.desk_core.specs.Refusals.{Decision, unless, on, unless_refused}
+use Rattle.desk_core.specs.Refusals.{Decision, unless, unless_refused}
 use Rattle.desk_core.specs.State.{PageState, SiteState}
 use Rattle.desk_core.specs.Members.{put_site, put_member}
 use Rattle.desk_core.specs.Pages.{rev_of, judged, has_room, has_revisions, renewed, built, put_page, edited, edit_page, drop_page}

@@ -1,6 +1,6 @@
 -- An import as it is carried out is the one that is decided.
 use Rattle.std.proofs.Common.{◌≡◌, ℕ, ◌+◌, ◌==◌, List, [], ◌∷◌, ◌++◌, length, map, Bool, true, false, not, if◌then◌else◌, nat_le, Option, Some, None, is_none, cond, option_map, Result, Ok, Err, sum_by, refl, sym, ap, ◌∙◌, subst, ◌≤◌, arith}
-use Rattle.std.proofs.lemmas.List.{length-map, map-append, append_assoc}
+use Rattle.std.proofs.lemmas.List.{length-map, map-append}
 use Rattle.std.proofs.lemmas.List.Sums.{sum_by-cons}
 use Rattle.std.specs.Option.{option_map_or, option_or}
 use Rattle.std.specs.List.{find, zip}
@@ -251,20 +251,6 @@ arrived book caller site entries t s counter pages all is count many there =
     ∙ ap (λ (ws : List Placed). import_placed book site caller counter pages ws)
     (ap (λ (ps : List KeptPage). map (placed (map page_state ps)) entries) (sym (pages_are site t k kept)) ∙ sym there)))))
 
--- ---- pages that are built one after another
-
--- one head more
-pub heads_more : (hand : List ℕ) (rev : ℕ) (w : Placed) (rest : List Placed) (heads more all : List PageHead)
-    → more ≡ heads ++ record { page = w.entry.page; rev = rev + 1; hand = hand } ∷ [] → heads ++ heads_from hand rev (w ∷ rest) ≡ all
-    → more ++ heads_from hand (rev + 1) rest ≡ all
-heads_more hand rev w rest heads more all is so_far =
-    ap (λ hs. hs ++ heads_from hand (rev + 1) rest) is
-    ∙ (append_assoc heads (record { page = w.entry.page; rev = rev + 1; hand = hand } ∷ []) (heads_from hand (rev + 1) rest) ∙ so_far)
-
-pub works_more : (w : Placed) (rest : List Placed) (works more all : List PageWork)
-    → more ≡ works ++ work_of w ∷ [] → works ++ map work_of (w ∷ rest) ≡ all → more ++ map work_of rest ≡ all
-works_more w rest works more all is so_far = ap (λ ws. ws ++ map work_of rest) is ∙ (append_assoc works (work_of w ∷ []) (map work_of rest) ∙ so_far)
-
 -- ---- faults, and costs
 
 -- the first fault is that of the first entry, where it has one
@@ -279,14 +265,10 @@ pub fault_first : (e : Entry) (others : List Entry) (next : Decision)
 fault_first e others next = fault_by e others next (tree_fault e.raw.rows)
 
 -- a refusal of an entry's rows is that of the entries from it on
-pub fault_here : (e : Entry) (name : List ℕ) (r : Refusal) → name ≡ e.page → ((next : Document → Decision) → Stands ⊥ r (built (Some name) e.raw next))
+pub fault_here : (e : Entry) (r : Refusal) → ((next : Document → Decision) → Stands ⊥ r (built (Some e.page) e.raw next))
     → (others : List Entry) (next : Decision) → Stands ⊥ r (unless_refused (first_fault (e ∷ others)) next)
-fault_here e name r is refused others next =
-    let later : Document → Decision = λ _. unless_refused (first_fault others) next in
-    subst (Stands ⊥ r) (sym (fault_first e others next)) (subst (λ n. Stands ⊥ r (built (Some n) e.raw later)) is (refused later))
-
-pub fault_later : (e : Entry) (others : List Entry) → tree_fault e.raw.rows ≡ None → first_fault (e ∷ others) ≡ first_fault others
-fault_later e others none = ap (λ (o : Option TreeFault). option_or (option_map (λ fault. refusal.TreeFault fault (Some e.page)) o) (first_fault others)) none
+fault_here e r refused others next =
+    subst (Stands ⊥ r) (sym (fault_first e others next)) (refused (λ _. unless_refused (first_fault others) next))
 
 sum_placed : (book : Book) (all : List Placed) → pages_judgings book (map work_of all) ≡ sum_by (λ (e : Entry). judgings book (page_of e.raw)) (entries_of all)
 sum_placed book [] = refl

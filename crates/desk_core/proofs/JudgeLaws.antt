@@ -20,7 +20,6 @@ use Rattle.desk_core.specs.declared.refusal.Refusal.TheVariants as refusal
 use Rattle.desk_core.specs.State.{PageState, page_state}
 use Rattle.desk_core.specs.Refusals.{Decision}
 use Rattle.desk_core.specs.Judging.{judged_row, judge, added, AddsTo}
-use Rattle.desk_core.specs.Steps.{decided}
 use Rattle.desk_core.specs.Serving.{Stands, Agrees, Accepts, Decides, FindsKept, IsTrueTo}
 use Rattle.desk_core.proofs.Ways.{followed}
 use Rattle.desk_core.proofs.Onward.{not_fault, agrees_with, only_read, read_as}

@@ -5,6 +5,7 @@ pub mod Ways
 pub mod Kept
 pub mod Onward
 pub mod ImportLaws
+pub mod BuiltParts
 pub mod ImportFits
 pub mod PutLaws
 pub mod EditLaws

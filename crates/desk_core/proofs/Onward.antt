@@ -12,7 +12,7 @@ use Rattle.desk_core.specs.declared.refusal.Needed.{Needed}
 use Rattle.desk_core.specs.declared.refusal.Needed.TheVariants.{Editor}
 use Rattle.desk_core.specs.declared.refusal.Refusal.{Refusal}
 use Rattle.desk_core.specs.declared.refusal.Refusal.TheVariants as refusal
-use Rattle.desk_core.specs.Refusals.{Decision, on}
+use Rattle.desk_core.specs.Refusals.{Decision}
 use Rattle.desk_core.specs.State.{PageState, page_state, site_state, state_of, site_at, page_at}
 use Rattle.desk_core.specs.Rights.{entering, on_page}
 use Rattle.desk_core.specs.Steps.{Request, decided}

@@ -16,5 +16,6 @@ pub mod Runs
 pub mod Serving
 pub mod Sheets
 pub mod Placing
+pub mod Building
 pub mod Once
 pub mod Revisions

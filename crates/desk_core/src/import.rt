@@ -13,7 +13,8 @@ ghost use Rattle.desk_core.specs.Placing.{entries_of, new_among, current_of, is_
 ghost use Rattle.desk_core.specs.Serving.{Agrees, Decides, Stands};
 
 use crate::arrival::{Arrival, arrive};
-use crate::built::{Built, build_all, put_all};
+use crate::building::build_all;
+use crate::built::{Built, heads_from, put_all};
 use crate::command::Entry;
 use crate::decided::Decided;
 use crate::limits::{MOST_PAGES, MOST_REVISION};
@@ -26,10 +27,11 @@ use reaudit::audit_pages;
 use rule_core::RuleBook;
 use snap_tree::{List, OutOfMemory, Text};
 use std::alloc::Global;
+use std::collections::VecDeque;
 use std::thread::Threads;
 
-/// Puts pages, all or none, each in the place of the one that the sender saw. They are audited by all the
-/// books, each in a thread of its own.
+/// Puts pages, all or none, each in the place of the one that the sender saw. They are built and audited by as
+/// many threads as there are books, each of which audits with a book of its own.
 pub fn import<R: Threads + Sync, K: Keeper, B: RuleBook + Send>(
     rt: &R,
     alloc: Global,
@@ -165,8 +167,13 @@ fn import_there<R: Threads + Sync, B: RuleBook + Send>(
         + import_judgings (record { infos = B.infos; means = B.means }) (entries_of arrival.placed) }
 {
     let counter = arrival.counter + arrival.placed.len() as u64;
-    match build_all(alloc, caller, arrival.counter, arrival.placed) {
-        Ok(built) => store_all(rt, alloc, books, site, counter, built),
+    let heads = heads_from(alloc, caller, arrival.counter, arrival.placed.as_slice())?;
+    let placed = VecDeque::from_vec(arrival.placed.into_vec());
+    match build_all(rt, &alloc, books.len(), placed) {
+        Ok(works) => {
+            let works = List::from_vec(works);
+            store_all(rt, alloc, books, site, counter, Built { heads, works })
+        }
         Err(refusal) => Err(refusal),
     }
 }

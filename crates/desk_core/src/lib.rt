@@ -3,6 +3,7 @@
 #![tactic(auto)]
 
 mod arrival;
+mod building;
 mod built;
 mod command;
 mod commit;

@@ -3,3 +3,4 @@ pub mod Latest
 pub mod PartLaws
 pub mod Judgings
 pub mod AgainLaws
+pub mod Shares

@@ -14,7 +14,7 @@ mod rows;
 
 pub use judged::after_judgement;
 pub use page::audit_page;
-pub use pages::{PageWork, audit_pages};
+pub use pages::{PageWork, audit_pages, share};
 
 #[cfg(test)]
 mod gate;

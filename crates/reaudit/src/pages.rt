@@ -1,4 +1,4 @@
-ghost use Rattle.std.specs.Prelude.{◌≡◌, ◌+◌, ◌<◌, ◌≤◌, ◌++◌, length, sum_by, IfOk, IsOkAnd};
+ghost use Rattle.std.specs.Prelude.{◌≡◌, ◌+◌, ◌*◌, ◌/◌, ◌<◌, ◌≤◌, ◌++◌, length, sum_by, IfOk, IsOkAnd};
 ghost use Rattle.std.specs.Thread.{IsSend, IsSync};
 ghost use Rattle.reaudit.specs.Pages.{pages_outcomes, pages_judgings};
 
@@ -108,15 +108,15 @@ fn audit_both<R: Threads + Sync, B: RuleBook + Send>(
     join_mut(rt, &mut first, &mut later)
 }
 
-// How many pages some of the books take: in proportion to their number.
-fn share(pages: usize, some: usize, books: usize) -> usize
-    requires { 0 < books }
-    ensures { result ≤ pages }
+/// How many pages some of the workers take: in proportion to their number, rounded down.
+#[tactic(auto, using(crate::proofs::Shares::share_within))]
+pub fn share(pages: usize, some: usize, workers: usize) -> usize
+    requires some { some ≤ workers }
+    requires workers { 0 < workers }
+    ensures share { result ≡ pages * some / workers }
+    ensures within { result ≤ pages }
 {
-    match pages.checked_mul(some) {
-        Some(product) => (product / books).min(pages),
-        None => pages / 2,
-    }
+    (pages as u128 * some as u128 / workers as u128) as usize
 }
 
 // Some pages, one after another, by one book.

@@ -1,5 +1,7 @@
-use Rattle.std.proofs.Common.{ap, ◌+◌}
+use Rattle.std.proofs.Common.{Ok, Err, ap, ◌+◌, ◌∙◌, subst}
 use Rattle.judge_core.specs.Books.{Book}
+use Rattle.desk_core.specs.Placing.{heads_from}
+use Rattle.desk_core.specs.Building.{Builds}
 use Rattle.desk_core.proofs.ImportLaws.{agrees_there, refused_fault, counted_there}
 use Rattle.desk_core.proofs.import.import_there.Goals as goal
 
@@ -7,17 +9,21 @@ pub returns-in-Ok-clause-decided : goal.returns-in-Ok-clause-decided
 returns-in-Ok-clause-decided g c =
     let book : Book = record { infos = g.B.RuleBook.infos; means = g.B.RuleBook.means } in
     let at = c.args.arrival in
-    agrees_there book c.args.site c.args.caller.now at.counter at.pages at.placed c.store_all.result _ c.in-Ok.built.heads c.in-Ok.built.works
-    c.requires.room c.requires.revisions c.requires.fresh c.in-Ok.ensures.whole (ap (λ n. at.counter + n) c.len.ensures) c.in-Ok.ensures.heads c.in-Ok.ensures.works
+    let built = subst (λ ws. Builds ws (Ok c.in-Ok.works)) (c.from_vec-placed.ensures.items ∙ c.into_vec.ensures) c.in-Ok.ensures in
+    let heads = c.in_ok-heads.ensures ∙ ap (heads_from c.args.caller.now at.counter) c.as_slice.ensures in
+    agrees_there book c.args.site c.args.caller.now at.counter at.pages at.placed c.store_all.result _ c.in_ok-heads.heads c.from_vec-works.result
+    c.requires.room c.requires.revisions c.requires.fresh built.whole (ap (λ n. at.counter + n) c.len.ensures) heads (c.from_vec-works.ensures ∙ built.works)
     c.store_all.ensures.decided
 
 pub returns-in-Ok-clause-counted : goal.returns-in-Ok-clause-counted
 returns-in-Ok-clause-counted g c =
     let book : Book = record { infos = g.B.RuleBook.infos; means = g.B.RuleBook.means } in
-    counted_there book c.args.arrival.placed c.in-Ok.built.works _ _ c.in-Ok.ensures.whole c.in-Ok.ensures.works c.store_all.ensures.counted
+    let built = subst (λ ws. Builds ws (Ok c.in-Ok.works)) (c.from_vec-placed.ensures.items ∙ c.into_vec.ensures) c.in-Ok.ensures in
+    counted_there book c.args.arrival.placed c.from_vec-works.result _ _ built.whole (c.from_vec-works.ensures ∙ built.works) c.store_all.ensures.counted
 
 pub returns-in-Err-clause-decided : goal.returns-in-Err-clause-decided
 returns-in-Err-clause-decided g c =
     let book : Book = record { infos = g.B.RuleBook.infos; means = g.B.RuleBook.means } in
     let at = c.args.arrival in
-    refused_fault book c.args.site c.args.caller.now at.counter at.pages at.placed c.in-Err.refusal c.requires.room c.requires.revisions c.requires.fresh c.in-Err.ensures.refused
+    let built = subst (λ ws. Builds ws (Err c.in-Err.refusal)) (c.from_vec-placed.ensures.items ∙ c.into_vec.ensures) c.in-Err.ensures in
+    refused_fault book c.args.site c.args.caller.now at.counter at.pages at.placed c.in-Err.refusal c.requires.room c.requires.revisions c.requires.fresh built.refused
