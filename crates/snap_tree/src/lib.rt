@@ -41,6 +41,3 @@ pub use text::Text;
 pub use tree::{Tree, run_below, tree_fault};
 pub use weight::MOST_WEIGHT;
 pub use words::{blank, next_word, tidy};
-
-#[cfg(test)]
-mod tests;

@@ -1,16 +1,80 @@
-use super::{attr, element, raw, words};
-use crate::fault::BuildFault;
-use crate::memory::OutOfMemory;
-use crate::row::{Attr, Raw, Row, Space};
-use crate::tree::Tree;
+use snap_tree::{
+    Attr, Body, BuildFault, Facts, List, NodeId, OutOfMemory, Raw, Row, Space, Text, Tree,
+};
 use std::alloc::Global;
 use std::process::Abort;
 use std::test::Fail;
 
+const SHOWN: Facts = Facts {
+    rendered: true,
+    visible: true,
+    focusable: false,
+    tabbable: false,
+};
+
+pub(super) fn parent_of(number: u32) -> Option<NodeId> {
+    if number == 0 {
+        None
+    } else {
+        Some(NodeId(number))
+    }
+}
+
+fn attr(alloc: Global, name: &str, value: &str) -> Result<Attr, OutOfMemory> {
+    Ok(Attr {
+        name: Text::from_str(alloc, name)?,
+        value: Text::from_str(alloc, value)?,
+    })
+}
+
+// An element; a parent of 0 is none.
+fn element(
+    alloc: Global,
+    number: u32,
+    parent: u32,
+    space: Space,
+    tag: &str,
+    attrs: Vec<Attr>,
+) -> Result<Row, OutOfMemory> {
+    Ok(Row {
+        id: NodeId(number),
+        parent: parent_of(parent),
+        body: Body::Element {
+            space,
+            tag: Text::from_str(alloc, tag)?,
+            attrs: List::from_vec(attrs),
+        },
+        facts: SHOWN,
+    })
+}
+
+pub(super) fn words(
+    alloc: Global,
+    number: u32,
+    parent: u32,
+    text: &str,
+) -> Result<Row, OutOfMemory> {
+    Ok(Row {
+        id: NodeId(number),
+        parent: parent_of(parent),
+        body: Body::Words {
+            text: Text::from_str(alloc, text)?,
+        },
+        facts: SHOWN,
+    })
+}
+
+fn raw(alloc: Global, rows: Vec<Row>) -> Result<Raw, OutOfMemory> {
+    Ok(Raw {
+        address: Text::from_str(alloc, "https://example.org/")?,
+        rows: List::from_vec(rows),
+    })
+}
+
 // A page in a table of tests is rows with `;` between. A row has a number, its parent's (0 for none), a
 // tag and attributes, or `#` with a text, as in `3 1 input id=q type=~hidden`. A tag after `svg:` is one
 // of that space, and a `~` in a value is a space.
-pub(super) fn sketched(alloc: Global, page: &str) -> Result<Raw, Fail> {
+fn sketched(alloc: Global, page: &str) -> Result<Raw, Fail> {
     let mut rows = Vec::new(alloc);
     for row in page.split(';') {
         rows.push(row_of(alloc, row)?)?;

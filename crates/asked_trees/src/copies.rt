@@ -1,8 +1,7 @@
-use super::labels::{has_labels, is_first};
-use super::sketch::built;
-use super::{has_kids, has_tagged, words};
-use crate::row::{Facts, NodeId};
-use crate::tree::Tree;
+use crate::labels::{has_labels, is_first};
+use crate::look_ups::{has_kids, has_tagged};
+use crate::sketch::{built, words};
+use snap_tree::{Facts, NodeId, Tree};
 use std::alloc::Global;
 use std::test::Fail;
 

@@ -1,7 +1,5 @@
-use super::sketch::{built, number_of};
-use crate::row::NodeId;
-use crate::text::Text;
-use crate::tree::Tree;
+use crate::sketch::{built, number_of};
+use snap_tree::{NodeId, Text, Tree};
 use std::alloc::Global;
 use std::process::Abort;
 use std::test::Fail;

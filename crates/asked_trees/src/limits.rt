@@ -1,5 +1,5 @@
-use super::sketch::{fault_is, repeated};
-use crate::memory::OutOfMemory;
+use crate::sketch::{fault_is, repeated};
+use snap_tree::OutOfMemory;
 use std::alloc::Global;
 use std::test::Fail;
 

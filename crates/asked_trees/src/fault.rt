@@ -1,6 +1,5 @@
-use super::sketch::fault_is;
-use crate::fault::TreeFault;
-use crate::row::NodeId;
+use crate::sketch::fault_is;
+use snap_tree::{NodeId, TreeFault};
 use std::alloc::Global;
 use std::process::Abort;
 use std::test::Fail;
