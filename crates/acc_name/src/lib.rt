@@ -24,6 +24,3 @@ pub use laws::laws_of_names;
 pub use named::{Name, NameSource};
 pub use naming::name;
 pub use room::MOST_NAME_BYTES;
-
-#[cfg(test)]
-mod tests;

@@ -42,6 +42,3 @@ pub use references::{element_of, first_found};
 pub use roles::{decorative_at, explicit_at, implicit_at, role_at};
 pub use sights::{Sight, above_children, aboves, row_of, sight_of};
 pub use tags::{Tag, any_tag, html_tag, known_tag};
-
-#[cfg(test)]
-mod tests;

@@ -1,5 +1,5 @@
-use super::{add_number, page_with};
-use crate::{owned, owned_by, sight_of};
+use crate::pages::{add_number, page_with};
+use acc_tree::{owned, owned_by, sight_of};
 use aria_tables::Role;
 use snap_tree::{NodeId, Tree};
 use std::alloc::Global;

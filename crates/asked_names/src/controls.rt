@@ -1,5 +1,5 @@
-use super::{Case, each_is_named};
-use crate::named::NameSource::{Content, HostLabel, HostText, Nothing};
+use crate::naming::{Case, each_is_named};
+use acc_name::NameSource::{Content, HostLabel, HostText, Nothing, Title};
 use std::test::Fail;
 
 // Controls within a label say their values.
@@ -79,12 +79,7 @@ static BUTTONS: [Case; 7] = [
     ("1 0 input type=reset", 1, "Reset", HostText),
     ("1 0 input type=button", 1, "", Nothing),
     ("1 0 input type=button value=Save", 1, "Save", HostText),
-    (
-        "1 0 input type=submit value=~ title=Go",
-        1,
-        "Go",
-        crate::named::NameSource::Title,
-    ),
+    ("1 0 input type=submit value=~ title=Go", 1, "Go", Title),
     ("1 0 input type=image alt=Go", 1, "Go", HostText),
     ("1 0 h1;2 1 input type=submit", 1, "Submit", Content),
 ];

@@ -1,5 +1,5 @@
-use super::{Case, each_is_named};
-use crate::named::NameSource::{Content, HostText, Nothing, Title};
+use crate::naming::{Case, each_is_named};
+use acc_name::NameSource::{Content, HostText, Nothing, Title};
 use std::test::Fail;
 
 static NATIVES: [Case; 13] = [
@@ -33,15 +33,15 @@ static NATIVES: [Case; 13] = [
         HostText,
     ),
     (
-        "1 0 figure title=Door;2 1 !figcaption;3 2 #no",
+        "1 0 figure title=Door;2 1 figcaption !;3 2 #no",
         1,
         "Door",
         Title,
     ),
-    ("1 0 *svg;2 1 *title;3 2 #Door", 1, "Door", HostText),
-    ("1 0 *svg;2 1 title;3 2 #no", 1, "", Nothing),
+    ("1 0 svg:svg;2 1 svg:title;3 2 #Door", 1, "Door", HostText),
+    ("1 0 svg:svg;2 1 title;3 2 #no", 1, "", Nothing),
     (
-        "1 0 a href=/;2 1 *svg;3 2 *title;4 3 #Home;5 2 *text;6 5 #no",
+        "1 0 a href=/;2 1 svg:svg;3 2 svg:title;4 3 #Home;5 2 svg:text;6 5 #no",
         1,
         "Home",
         Content,

@@ -1,5 +1,7 @@
-use super::{last_of, page_with};
-use crate::{decorative, explicit_role, exposed, implicit_role, included, owned, role, sight_of};
+use crate::pages::{last_of, page_with};
+use acc_tree::{
+    decorative, explicit_role, exposed, implicit_role, included, owned, role, sight_of,
+};
 use snap_tree::NodeId;
 use std::alloc::Global;
 use std::test::Fail;

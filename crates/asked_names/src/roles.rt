@@ -1,5 +1,5 @@
-use super::{last_of, page_with};
-use crate::{explicit_role, implicit_role, role};
+use crate::pages::{last_of, page_with};
+use acc_tree::{explicit_role, implicit_role, role};
 use std::alloc::Global;
 use std::process::Abort;
 use std::test::Fail;

@@ -1,11 +1,11 @@
-use super::{Case, each_is_named};
-use crate::named::NameSource::{AriaLabel, Content, HostLabel, LabelledBy, Nothing, Title};
+use crate::naming::{Case, each_is_named};
+use acc_name::NameSource::{AriaLabel, Content, HostLabel, LabelledBy, Nothing, Title};
 use std::test::Fail;
 
 static LABELLED_BY: [Case; 12] = [
     // A button refers to itself, to a hidden node and to nothing.
     (
-        "1 0 div;20 1 button id=b1 aria-label=Save aria-labelledby=b1~h1~zz;21 1 !span id=h1;22 21 !#file",
+        "1 0 div;20 1 button id=b1 aria-label=Save aria-labelledby=b1~h1~zz;21 1 span id=h1 !;22 21 #file !",
         20,
         "Save file",
         LabelledBy,
@@ -70,13 +70,13 @@ static LABELLED_BY: [Case; 12] = [
     ),
     // Below a hidden node that is referred to hidden nodes count, below one that is shown they don't.
     (
-        "1 0 div aria-hidden=true;2 1 p id=a;3 2 #One;4 2 !span;5 4 #~two;6 1 input aria-labelledby=a",
+        "1 0 div aria-hidden=true;2 1 p id=a;3 2 #One;4 2 span !;5 4 #~two;6 1 input aria-labelledby=a",
         6,
         "One two",
         LabelledBy,
     ),
     (
-        "1 0 div;2 1 p id=a;3 2 #One;4 2 !span;5 4 #~two;6 1 input aria-labelledby=a",
+        "1 0 div;2 1 p id=a;3 2 #One;4 2 span !;5 4 #~two;6 1 input aria-labelledby=a",
         6,
         "One",
         LabelledBy,
@@ -182,7 +182,7 @@ static LABELS: [Case; 12] = [
         HostLabel,
     ),
     (
-        "1 0 div;2 1 !label for=q;3 2 !#One;4 1 input id=q",
+        "1 0 div;2 1 label for=q !;3 2 #One !;4 1 input id=q",
         4,
         "One",
         HostLabel,

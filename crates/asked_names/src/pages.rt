@@ -1,29 +1,23 @@
-mod inclusion;
-mod owning;
-mod roles;
-mod sketch;
-mod values;
-
-use self::sketch::built;
+use crate::sketch::built;
 use snap_tree::{NodeId, OutOfMemory, Tree};
 use std::alloc::Global;
 use std::test::Fail;
 
 // A page that ends with the node in question.
-fn page_with(alloc: Global, rows: &str) -> Result<Tree, Fail> {
+pub fn page_with(alloc: Global, rows: &str) -> Result<Tree, Fail> {
     let mut page = String::from_str(alloc, "1 0 html;2 1 body;")?;
     page.push_str(rows)?;
     built(alloc, page.as_str())
 }
 
-fn last_of(tree: &Tree) -> NodeId {
+pub fn last_of(tree: &Tree) -> NodeId {
     match tree.rows().last() {
         Some(row) => row.id,
         None => NodeId(0),
     }
 }
 
-fn add_number(text: &mut String, n: NodeId) -> Result<(), OutOfMemory> {
+pub fn add_number(text: &mut String, n: NodeId) -> Result<(), OutOfMemory> {
     if !text.is_empty() {
         text.push(' ')?;
     }

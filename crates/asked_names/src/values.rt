@@ -1,5 +1,5 @@
-use super::{add_number, last_of, page_with};
-use crate::{
+use crate::pages::{add_number, last_of, page_with};
+use acc_tree::{
     Attribute, aboves, aria_attrs, attr, first_found, has, is_blank_at, labels_of, sight_of,
     text_at, whole_number,
 };

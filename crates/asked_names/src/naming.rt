@@ -1,22 +1,14 @@
-mod bounds;
-mod clauses;
-mod contents;
-mod controls;
-mod natives;
-mod references;
-mod sketch;
-
-use self::sketch::built;
-use crate::named::NameSource;
-use crate::naming::name;
+use crate::sketch::built;
+use acc_name::{NameSource, name};
 use snap_tree::NodeId;
+use std::alloc::Global;
 use std::process::Abort;
 use std::test::Fail;
 
 // A page, the node whose name is asked, its name, and the clause that gives it.
-type Case = (&'static str, u32, &'static str, NameSource);
+pub type Case = (&'static str, u32, &'static str, NameSource);
 
-fn each_is_named(rt: &impl Abort, alloc: std::alloc::Global, cases: &[Case]) -> Result<(), Fail> {
+pub fn each_is_named(rt: &impl Abort, alloc: Global, cases: &[Case]) -> Result<(), Fail> {
     for (page, node, text, source) in cases {
         let tree = built(alloc, page)?;
         let name = name(alloc, &tree, NodeId(*node))?;

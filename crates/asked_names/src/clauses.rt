@@ -1,5 +1,5 @@
-use super::{Case, each_is_named};
-use crate::named::NameSource::{
+use crate::naming::{Case, each_is_named};
+use acc_name::NameSource::{
     AriaLabel, Content, HostLabel, HostText, LabelledBy, Nothing, Placeholder, Title,
 };
 use std::test::Fail;

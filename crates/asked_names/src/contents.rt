@@ -1,5 +1,5 @@
-use super::{Case, each_is_named};
-use crate::named::NameSource::{Content, HostLabel, Nothing};
+use crate::naming::{Case, each_is_named};
+use acc_name::NameSource::{Content, HostLabel, Nothing};
 use std::test::Fail;
 
 static CONTENTS: [Case; 12] = [
@@ -11,7 +11,7 @@ static CONTENTS: [Case; 12] = [
         Content,
     ),
     ("1 0 h1;2 1 b;3 2 #to;4 1 #day", 1, "today", Content),
-    ("1 0 h1;2 1 #Up;3 1 *a;4 3 #load", 1, "Upload", Content),
+    ("1 0 h1;2 1 #Up;3 1 svg:a;4 3 #load", 1, "Upload", Content),
     // Blocks and unknown tags stand apart, also those without a text.
     (
         "1 0 h1;2 1 div;3 2 #One;4 1 div;5 4 #two",
@@ -27,13 +27,13 @@ static CONTENTS: [Case; 12] = [
         Content,
     ),
     (
-        "1 0 h1;2 1 #One;3 1 !div;4 3 #no;5 1 #two",
+        "1 0 h1;2 1 #One;3 1 div !;4 3 #no;5 1 #two",
         1,
         "One two",
         Content,
     ),
     (
-        "1 0 h1;2 1 #One;3 1 !span;4 3 #no;5 1 #two",
+        "1 0 h1;2 1 #One;3 1 span !;4 3 #no;5 1 #two",
         1,
         "Onetwo",
         Content,
@@ -74,11 +74,16 @@ static HIDDEN: [Case; 8] = [
         "Open daily",
         Content,
     ),
-    ("1 0 h1;2 1 #Open;3 1 ?span;4 3 #~daily", 1, "Open", Content),
-    ("1 0 h1;2 1 #Open;3 1 !#~daily", 1, "Open", Content),
-    ("1 0 button;2 1 !span;3 2 #Save", 1, "", Nothing),
+    (
+        "1 0 h1;2 1 #Open;3 1 span !r;4 3 #~daily",
+        1,
+        "Open",
+        Content,
+    ),
+    ("1 0 h1;2 1 #Open;3 1 #~daily !", 1, "Open", Content),
+    ("1 0 button;2 1 span !;3 2 #Save", 1, "", Nothing),
     // Nobody asks for it, so it has no name.
-    ("1 0 div;2 1 !button;3 2 #Save", 2, "", Nothing),
+    ("1 0 div;2 1 button !;3 2 #Save", 2, "", Nothing),
     (
         "1 0 div;2 1 label for=q;3 2 #Find~;4 2 span aria-hidden=true;5 4 #no;6 1 input id=q",
         6,

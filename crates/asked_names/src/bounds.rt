@@ -1,5 +1,5 @@
-use crate::naming::name;
-use crate::tests::sketch::built;
+use crate::sketch::built;
+use acc_name::name;
 use snap_tree::{NodeId, OutOfMemory};
 use std::alloc::Global;
 use std::fmt::Write;

@@ -6,7 +6,7 @@ use std::test::Fail;
 // tag and attributes, or `#` with a text, as in `3 1 input id=q type=~hidden`. A tag after `svg:` or
 // `other:` is one of that space. A `~` in a value or a text is a space. A row has the facts rendered and
 // visible; `!rf` among its attributes gives those of these letters in their place.
-pub(super) fn built(alloc: Global, page: &str) -> Result<Tree, Fail> {
+pub fn built(alloc: Global, page: &str) -> Result<Tree, Fail> {
     let mut rows = Vec::new(alloc);
     for row in page.split(';') {
         rows.push(row_of(alloc, row)?)?;
@@ -89,21 +89,21 @@ fn facts_of(letters: &str) -> Facts {
 }
 
 // A text before its first space, and what follows it.
-pub(super) fn cut(text: &str) -> (&str, &str) {
+fn cut(text: &str) -> (&str, &str) {
     match text.split_once(' ') {
         Some(parts) => parts,
         None => (text, ""),
     }
 }
 
-pub(super) fn number_of(text: &str) -> Result<u32, Fail> {
+fn number_of(text: &str) -> Result<u32, Fail> {
     match text.parse::<u32>() {
         Ok(number) => Ok(number),
         Err(_) => Err(Fail::from("a number")),
     }
 }
 
-pub(super) fn spaced(alloc: Global, value: &str) -> Result<Text, OutOfMemory> {
+fn spaced(alloc: Global, value: &str) -> Result<Text, OutOfMemory> {
     let mut text = String::new(alloc);
     for c in value.chars() {
         text.push(if c == '~' { ' ' } else { c })?;

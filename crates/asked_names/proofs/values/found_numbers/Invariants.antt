@@ -1,7 +1,7 @@
 use Rattle.std.proofs.Common.{length}
 use denote.Text.{Utf8}
 use denote.Shadow.{shadow}
-use Rattle.acc_tree.proofs.tests.values.found_numbers.Given as goal
+use Rattle.asked_names.proofs.values.found_numbers.Given as goal
 
 abbrev pub invariant-loop-node : goal.invariant-loop-node
 invariant-loop-node l = shadow (Utf8 l.rest)
