@@ -15,10 +15,3 @@ mod rows;
 pub use judged::after_judgement;
 pub use page::audit_page;
 pub use pages::{PageWork, audit_pages, share};
-
-#[cfg(test)]
-mod gate;
-#[cfg(test)]
-mod samples;
-#[cfg(test)]
-mod tests;

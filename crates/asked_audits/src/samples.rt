@@ -1,9 +1,7 @@
-//! Small pages for the tests.
-
-use crate::PageWork;
 use judge_core::Outcomes;
 use page_sketches::Node::Html;
 use page_sketches::{Attrs, built, row};
+use reaudit::PageWork;
 use rule_sketches::{Judged, judgements};
 use snap_tree::Tree;
 use std::alloc::Global;

@@ -1,6 +1,6 @@
 use crate::samples::{Node, lines, page, work};
-use crate::{after_judgement, audit_page, audit_pages};
 use judge_core::infos_of;
+use reaudit::{after_judgement, audit_page, audit_pages};
 use rule_core::Auto::{CantTell, Failed, Passed};
 use rule_core::RuleBook;
 use rule_sketches::{Judged, Marks, judgements};
