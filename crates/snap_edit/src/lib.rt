@@ -20,6 +20,3 @@ pub use edit::{Edit, MOST_EDITS};
 pub use edits::apply;
 pub use fault::{EditFault, EditKind};
 pub use laws::laws_of_edits;
-
-#[cfg(test)]
-mod tests;

@@ -1,4 +1,4 @@
-use super::{Case, each_answers};
+use crate::answers::{Case, each_answers};
 use std::test::Fail;
 
 const FORM: &str = "1 0 form;2 1 input CLASS=a id=b;3 1 #Go~on";

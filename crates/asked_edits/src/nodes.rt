@@ -1,8 +1,7 @@
-use super::listed::edits_of;
-use super::sketch::built;
-use super::{Case, HEADINGS, each_answers};
-use crate::edit::Edit;
-use crate::edits::apply;
+use crate::answers::{Case, HEADINGS, each_answers};
+use crate::listed::edits_of;
+use crate::sketch::built;
+use snap_edit::{Edit, apply};
 use snap_tree::{NodeId, Text, Tree};
 use std::alloc::Global;
 use std::test::Fail;

@@ -1,4 +1,4 @@
-use super::{Case, HEADINGS, each_answers};
+use crate::answers::{Case, HEADINGS, each_answers};
 use std::test::Fail;
 
 // A fault of each kind but the page's, for each edit that has it.

@@ -1,31 +1,17 @@
-mod alone;
-mod attributes;
-mod faults;
-mod limits;
-mod listed;
-mod lists;
-mod nodes;
-mod orders;
-mod references;
-mod shown;
-mod sketch;
-
-use self::listed::edits_of;
-use self::shown::{refused, shown};
-use self::sketch::built;
-use crate::edit::Edit;
-use crate::edits::apply;
-use crate::fault::EditKind;
-use snap_tree::{Tree, TreeFault};
+use crate::listed::edits_of;
+use crate::shown::{refused, shown};
+use crate::sketch::built;
+use snap_edit::{Edit, apply};
+use snap_tree::Tree;
 use std::alloc::Global;
 use std::process::Abort;
 use std::test::Fail;
 
 // Body 2 holds heading 5 and div 7, which holds heading 8.
-const HEADINGS: &str = "1 0 html;2 1 body;5 2 h2;6 5 #A;7 2 div;8 7 h2;9 8 #B";
+pub const HEADINGS: &str = "1 0 html;2 1 body;5 2 h2;6 5 #A;7 2 div;8 7 h2;9 8 #B";
 
 // Edits, and the sketch of the page after them or what is refused.
-type Case = (&'static str, &'static str);
+pub type Case = (&'static str, &'static str);
 
 fn answer(alloc: Global, tree: &Tree, edits: &[Edit]) -> Result<String, Fail> {
     match apply(alloc, tree, edits) {
@@ -42,19 +28,24 @@ fn verdict(alloc: Global, tree: &Tree, edits: &[Edit]) -> Result<String, Fail> {
     }
 }
 
-fn answer_to(alloc: Global, page: &str, edits: &str) -> Result<String, Fail> {
+pub fn answer_to(alloc: Global, page: &str, edits: &str) -> Result<String, Fail> {
     let tree = built(alloc, page)?;
     let edits = edits_of(alloc, edits)?;
     answer(alloc, &tree, edits.as_slice())
 }
 
-fn verdict_on(alloc: Global, page: &str, edits: &str) -> Result<String, Fail> {
+pub fn verdict_on(alloc: Global, page: &str, edits: &str) -> Result<String, Fail> {
     let tree = built(alloc, page)?;
     let edits = edits_of(alloc, edits)?;
     verdict(alloc, &tree, edits.as_slice())
 }
 
-fn each_answers(rt: &impl Abort, alloc: Global, page: &str, cases: &[Case]) -> Result<(), Fail> {
+pub fn each_answers(
+    rt: &impl Abort,
+    alloc: Global,
+    page: &str,
+    cases: &[Case],
+) -> Result<(), Fail> {
     for (edits, wanted) in cases {
         let answer = answer_to(alloc, page, edits)?;
         assert_eq!(rt; answer.as_str(), *wanted, "{edits}");
@@ -62,7 +53,12 @@ fn each_answers(rt: &impl Abort, alloc: Global, page: &str, cases: &[Case]) -> R
     Ok(())
 }
 
-fn each_verdict_is(rt: &impl Abort, alloc: Global, page: &str, cases: &[Case]) -> Result<(), Fail> {
+pub fn each_verdict_is(
+    rt: &impl Abort,
+    alloc: Global,
+    page: &str,
+    cases: &[Case],
+) -> Result<(), Fail> {
     for (edits, wanted) in cases {
         let verdict = verdict_on(alloc, page, edits)?;
         assert_eq!(rt; verdict.as_str(), *wanted, "{edits}");
@@ -71,28 +67,10 @@ fn each_verdict_is(rt: &impl Abort, alloc: Global, page: &str, cases: &[Case]) -
 }
 
 // A text so many times.
-fn times(alloc: Global, text: &str, count: u32) -> Result<String, Fail> {
+pub fn times(alloc: Global, text: &str, count: u32) -> Result<String, Fail> {
     let mut all = String::new(alloc);
     for _ in 0..count {
         all.push_str(text)?;
     }
     Ok(all)
-}
-
-#[test]
-fn each_kind_has_its_number(rt: HostRuntime) {
-    let kinds = [
-        (EditKind::NoNode, 1),
-        (EditKind::NotElement, 2),
-        (EditKind::NotText, 3),
-        (EditKind::NumberTaken, 4),
-        (EditKind::IntoItself, 5),
-        (EditKind::RootMoved, 6),
-        (EditKind::PlaceOut, 7),
-        (EditKind::Tree(TreeFault::Empty), 8),
-        (EditKind::TooManyEdits, 9),
-    ];
-    for (kind, number) in kinds {
-        assert_eq!(rt; kind.number(), number, "{kind:?}");
-    }
 }

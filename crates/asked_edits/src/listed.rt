@@ -1,5 +1,5 @@
-use super::sketch::{cut, facts_of, number_of, rows_of, spaced};
-use crate::edit::Edit;
+use crate::sketch::{cut, facts_of, number_of, rows_of, spaced};
+use snap_edit::Edit;
 use snap_tree::{NodeId, Text};
 use std::alloc::Global;
 use std::test::Fail;
@@ -7,7 +7,7 @@ use std::test::Fail;
 // Edits in a table of tests are words with `;` between: `set 2 class x`, `drop 2 class`, `text 6 Go`,
 // `facts 5 0`, `remove 7`, `move 5 7 1` with the parent and the place, and `insert 2 0 60 0 p+61 60 #x`
 // with the parent, the place, and rows with `+` between.
-pub(super) fn edits_of(alloc: Global, text: &str) -> Result<Vec<Edit>, Fail> {
+pub fn edits_of(alloc: Global, text: &str) -> Result<Vec<Edit>, Fail> {
     let mut edits = Vec::new(alloc);
     for edit in text.split(';') {
         if !edit.is_empty() {

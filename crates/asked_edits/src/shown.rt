@@ -1,11 +1,11 @@
-use super::sketch::SHOWN;
-use crate::fault::{EditFault, EditKind};
+use crate::sketch::SHOWN;
+use snap_edit::{EditFault, EditKind};
 use snap_tree::{Attr, Body, Facts, NodeId, OutOfMemory, Row, Tree};
 use std::alloc::{AllocError, Global};
 use std::test::Fail;
 
 // A page as its sketch. Facts other than a sketched row's stand last, as in `5 2 h2 ^0`.
-pub(super) fn shown(alloc: Global, tree: &Tree) -> Result<String, Fail> {
+pub fn shown(alloc: Global, tree: &Tree) -> Result<String, Fail> {
     let mut text = String::new(alloc);
     for row in rows(tree) {
         if !text.is_empty() {
@@ -64,7 +64,7 @@ fn show_spaced(text: &mut String, value: &str) -> Result<(), AllocError> {
     Ok(())
 }
 
-pub(super) fn show_number(alloc: Global, text: &mut String, number: u32) -> Result<(), AllocError> {
+pub fn show_number(alloc: Global, text: &mut String, number: u32) -> Result<(), AllocError> {
     let digits = format!(in alloc; "{number}")?;
     text.push_str(digits.as_str())
 }
@@ -85,7 +85,7 @@ fn number_of_facts(facts: Facts) -> u32 {
 
 // The index of the refused edit and its kind's number, and behind `8` the page's fault and its node: as
 // `0: 8 12 5`.
-pub(super) fn refused(alloc: Global, fault: EditFault) -> Result<String, Fail> {
+pub fn refused(alloc: Global, fault: EditFault) -> Result<String, Fail> {
     let EditFault::At { index, kind } = fault else {
         return Err(Fail::from(OutOfMemory));
     };

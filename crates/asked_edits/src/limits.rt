@@ -1,5 +1,5 @@
-use super::shown::show_number;
-use super::{Case, each_verdict_is, times, verdict_on};
+use crate::answers::{Case, each_verdict_is, times, verdict_on};
+use crate::shown::show_number;
 use std::alloc::Global;
 use std::process::Abort;
 use std::test::Fail;

@@ -1,4 +1,4 @@
-use super::{Case, each_verdict_is, times};
+use crate::answers::{Case, each_verdict_is, times};
 use std::alloc::Global;
 use std::test::Fail;
 

@@ -1,4 +1,4 @@
-use super::{Case, HEADINGS, each_answers};
+use crate::answers::{Case, HEADINGS, each_answers};
 use std::test::Fail;
 
 // Edits with two faults: the one that comes first in the table of its kind is named.

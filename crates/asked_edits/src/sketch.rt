@@ -5,19 +5,19 @@ use std::test::Fail;
 const ADDRESS: &str = "https://example.org/";
 
 // What a sketched row has of the browser: 1 for rendered and 2 for visible.
-pub(super) const SHOWN: u32 = 3;
+pub const SHOWN: u32 = 3;
 
 // A page in a table of tests is rows with `;` between. A row has a number, its parent's (0 for none), a
 // tag and attributes, or `#` with a text, as in `3 1 input id=q type=~hidden`. A `~` in a value or a text
 // is a space.
-pub(super) fn built(alloc: Global, page: &str) -> Result<Tree, Fail> {
+pub fn built(alloc: Global, page: &str) -> Result<Tree, Fail> {
     let address = Text::from_str(alloc, ADDRESS)?;
     let rows = rows_of(alloc, page, ';')?;
     Ok(Tree::build(alloc, Raw { address, rows })?)
 }
 
 // The rows of a text in which this character stands between two.
-pub(super) fn rows_of(alloc: Global, text: &str, between: char) -> Result<List<Row>, Fail> {
+pub fn rows_of(alloc: Global, text: &str, between: char) -> Result<List<Row>, Fail> {
     let mut rows = Vec::new(alloc);
     for row in text.split(between) {
         if !row.is_empty() {
@@ -74,21 +74,21 @@ fn attrs_of(alloc: Global, text: &str) -> Result<List<Attr>, OutOfMemory> {
 }
 
 // A text before its first space, and what follows it.
-pub(super) fn cut(text: &str) -> (&str, &str) {
+pub fn cut(text: &str) -> (&str, &str) {
     match text.split_once(' ') {
         Some(parts) => parts,
         None => (text, ""),
     }
 }
 
-pub(super) fn number_of(text: &str) -> Result<u32, Fail> {
+pub fn number_of(text: &str) -> Result<u32, Fail> {
     match text.parse::<u32>() {
         Ok(number) => Ok(number),
         Err(_) => Err(Fail::from("a number")),
     }
 }
 
-pub(super) fn facts_of(number: u32) -> Facts {
+pub fn facts_of(number: u32) -> Facts {
     Facts {
         rendered: number & 1 != 0,
         visible: number & 2 != 0,
@@ -97,7 +97,7 @@ pub(super) fn facts_of(number: u32) -> Facts {
     }
 }
 
-pub(super) fn spaced(alloc: Global, value: &str) -> Result<Text, OutOfMemory> {
+pub fn spaced(alloc: Global, value: &str) -> Result<Text, OutOfMemory> {
     let mut text = String::new(alloc);
     for c in value.chars() {
         text.push(if c == '~' { ' ' } else { c })?;

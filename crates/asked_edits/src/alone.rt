@@ -1,4 +1,4 @@
-use super::{Case, each_answers};
+use crate::answers::{Case, each_answers};
 use std::test::Fail;
 
 const PAGE: &str = "1 0 html;2 1 body";

@@ -1,4 +1,4 @@
-use super::{Case, HEADINGS, answer_to, each_answers, times};
+use crate::answers::{Case, HEADINGS, answer_to, each_answers, times};
 use std::alloc::Global;
 use std::test::Fail;
 
