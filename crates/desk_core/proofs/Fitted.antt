@@ -23,7 +23,8 @@ use Rattle.keep_core.specs.declared.site.Site.{Site}
 use Rattle.keep_core.specs.declared.page.PagePut.{PagePut}
 use Rattle.keep_core.specs.declared.change.Change.{Change}
 use Rattle.keep_core.specs.Names.{is_name}
-use Rattle.keep_core.specs.Fits.{most_revisions, FitsSite, FitsPage, FitsPages, Fits}
+use Rattle.keep_core.specs.declared.limits.TheConstants.{MOST_REVISION}
+use Rattle.keep_core.specs.Fits.{FitsSite, FitsPage, FitsPages, Fits}
 use Rattle.desk_core.specs.declared.command.Entry.{Entry}
 use Rattle.desk_core.specs.State.{PageState, SiteState, page_at}
 use Rattle.desk_core.specs.Members.{user_of, new_site, site_with, members_with, put_site, put_member}
@@ -77,10 +78,10 @@ put_member_fits name caller user held site named user_named fits =
 
 -- ---- pages
 
-pub has_revisions_le : (counter more : ℕ) → has_revisions counter more ≡ true → counter + more ≤ most_revisions
+pub has_revisions_le : (counter more : ℕ) → has_revisions counter more ≡ true → counter + more ≤ MOST_REVISION
 has_revisions_le counter more has = grind (arith, nat_tests)
 
-page_fits : (book : Book) (page : List ℕ) (rev : ℕ) (hand : List ℕ) (tree : Document) (js : List Judgement) → IsTrue (is_name page) → rev ≤ most_revisions
+page_fits : (book : Book) (page : List ℕ) (rev : ℕ) (hand : List ℕ) (tree : Document) (js : List Judgement) → IsTrue (is_name page) → rev ≤ MOST_REVISION
     → IsWebAddress tree.address → FitsPage (page_put book page rev hand tree js).page
 page_fits book page rev hand tree js named within address = record { head = record { page = named; rev = within }; address = address }
 
@@ -90,7 +91,7 @@ PutFits p = FitsPage p.page
 abbrev Apart : PagePut → PagePut → Type 0
 Apart p q = p.page.head.page ≡ q.page.head.page → ⊥
 
-one_fits : (site : List ℕ) (counter : ℕ) (put : PagePut) → IsTrue (is_name site) → counter ≤ most_revisions → PutFits put → FitsPages site counter (put ∷ [])
+one_fits : (site : List ℕ) (counter : ℕ) (put : PagePut) → IsTrue (is_name site) → counter ≤ MOST_REVISION → PutFits put → FitsPages site counter (put ∷ [])
 one_fits site counter put named within fits = record {
   name = named;
   within = within;
@@ -122,7 +123,7 @@ judge_fits book site caller page rule node verdict seen note kept named page_nam
 
 -- ---- imports
 
-puts_fit : (book : Book) (caller : List ℕ) (pages : List PageState) (counter : ℕ) (entries : List Entry) → All FitsEntry entries → counter + length entries ≤ most_revisions
+puts_fit : (book : Book) (caller : List ℕ) (pages : List PageState) (counter : ℕ) (entries : List Entry) → All FitsEntry entries → counter + length entries ≤ MOST_REVISION
     → All PutFits (puts book caller pages counter entries)
 puts_fit book caller pages counter [] each within = All-nil PutFits
 puts_fit book caller pages counter (e ∷ entries) each within =

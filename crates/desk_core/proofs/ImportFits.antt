@@ -6,7 +6,8 @@ use Rattle.std.proofs.lemmas.List.Kept.{AllPairs-cons}
 use Rattle.judge_core.specs.Books.{Book}
 use Rattle.keep_core.specs.declared.page.PagePut.{PagePut}
 use Rattle.keep_core.specs.Names.{is_name}
-use Rattle.keep_core.specs.Fits.{most_revisions, FitsPage}
+use Rattle.keep_core.specs.declared.limits.TheConstants.{MOST_REVISION}
+use Rattle.keep_core.specs.Fits.{FitsPage}
 use Rattle.desk_core.specs.declared.limits.TheConstants.{MOST_PAGES}
 use Rattle.desk_core.specs.declared.command.Entry.{Entry}
 use Rattle.desk_core.specs.declared.placed.Placed.{Placed}
@@ -33,7 +34,7 @@ module _ (book : Book) (caller : List ℕ) where
   made : ℕ → List Placed → List PagePut
   made counter all = puts_by book (heads_from caller counter all) (map work_of all)
 
-  made_fit : (counter : ℕ) (all : List Placed) → All FitsEntry (entries_of all) → counter + length all ≤ most_revisions → All PutFits (made counter all)
+  made_fit : (counter : ℕ) (all : List Placed) → All FitsEntry (entries_of all) → counter + length all ≤ MOST_REVISION → All PutFits (made counter all)
   unfolding made
   made_fit counter [] each within = All-nil PutFits
   made_fit counter (w ∷ all) each within =

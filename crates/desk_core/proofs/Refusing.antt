@@ -1,5 +1,8 @@
 -- What a request is refused with that is sent again.
-use Rattle.std.proofs.Common.{◌≡◌, ℕ, ◌+◌, ◌==◌, List, [], ◌∷◌, length, map, nat_le, Bool, true, false, Option, Some, None, option_map, Ok, refl, sym, ap, ◌∙◌, subst, arith}
+use Rattle.std.proofs.Common.{◌≡◌, ℕ, ◌+◌, ◌<◌, ◌≤◌, ◌==◌, List, [], ◌∷◌, length, map, nat_le, Bool, true, false, cond, Option, Some, None, is_none, option_map, Ok, refl, sym, ap, ◌∙◌, subst, arith, inl, inr}
+use Rattle.std.proofs.lemmas.Bool.Decides.{nat_tests}
+use Rattle.std.proofs.lemmas.List.{length-map}
+use Rattle.std.proofs.lemmas.List.Sums.{sum_by-cons}
 use Rattle.snap_tree.specs.declared.row.Raw.{Raw}
 use Rattle.snap_tree.specs.Trees.{with_trees}
 use Rattle.snap_tree.specs.Grown.{page_of}
@@ -35,11 +38,14 @@ use Rattle.desk_core.specs.Steps.{Request, site_of, decision, decided}
 use Rattle.desk_core.specs.Fitting.{FitsParts, FitsRequest, FitsEntries}
 use Rattle.desk_core.specs.Soundness.{IsSound, made}
 use Rattle.desk_core.specs.Once.{IsOnce, Refuses, IsBehind, IsFor}
+use Rattle.desk_core.specs.Revisions.{HasEntry}
 use Rattle.desk_core.proofs.Views.{page_seen, site_seen}
 use Rattle.desk_core.proofs.Deciding.{Brings, brought, put_page_brings, edit_page_brings, drop_page_brings, import_brings}
 use Rattle.desk_core.proofs.Kept.{entering_kept, on_page_kept, new_site_kept}
-use Rattle.desk_core.proofs.Sound.{kept_fits}
+use Rattle.desk_core.proofs.Sound.{kept_fits, kept_sound}
+use Rattle.desk_core.proofs.Keeping.{keeps_sound}
 use Rattle.desk_core.proofs.Again.{rev_at, rev_found, stale_then, import_stale, after_made}
+use Rattle.desk_core.proofs.Revisions.{puts_newer_at}
 
 module _ (With : Refusal → Type 0) where
   unless_refuses : (holds : Bool) (r : Refusal) (next : Decision) → (holds ≡ false → With r) → (holds ≡ true → Refuses With next) → Refuses With (unless holds r next)
@@ -74,10 +80,27 @@ stale_by : (pages : List PageState) (entries : List Entry) (r : Refusal) → fir
 stale_by pages [] r is = let none : None ≡ Some r = is in cc
 stale_by pages (e ∷ entries) r is = stale_first pages e entries r (e.rev == rev_of (page_at e.page pages)) refl is (stale_by pages entries r)
 
+-- ---- a page that is there takes no room
+
+is_there : (o : Option PageState) → 0 < rev_of o → is_none o ≡ false
+is_there None some = absurd (omega (arith, some))
+is_there (Some p) some = refl
+
+none_new : (pages : List PageState) (entries : List Entry) → ((page : List ℕ) (rev : ℕ) → HasEntry page rev entries → 0 < rev_of (page_at page pages)) → new_pages pages entries ≡ 0
+none_new pages [] there = refl
+none_new pages (e ∷ entries) there =
+    let rest : new_pages pages entries ≡ 0 = none_new pages entries (λ page rev has. there page rev (inr has)) in
+    sum_by-cons (λ (d : Entry). cond (is_none (page_at d.page pages)) 1 0) e entries
+    ∙ ap (λ b. cond b 1 0 + new_pages pages entries) (is_there (page_at e.page pages) (there e.page e.rev (inl (refl, refl))))
+    ∙ omega (arith, rest)
+
+has_room_for : (pages new most : ℕ) → pages ≤ most → new ≡ 0 → nat_le (pages + new) most ≡ false → ⊥
+has_room_for pages new most few none full = grind (arith, nat_tests)
+
 module _ (book : Book) (t : Tables) (sound : IsSound book t) (caller : List ℕ) where
-  -- what a command is refused with after a change
+  -- what a command is refused with after a change that keeps the tables sound
   abbrev After : Command → Option Change → Type 0
-  After c change = Refuses (IsFor c) (decision book caller c (site_at (site_of c) (state_of (made change t))))
+  After c change = IsSound book (made change t) → Refuses (IsFor c) (decision book caller c (site_at (site_of c) (state_of (made change t))))
 
   kept_then : (site : List ℕ) (k : KeptSite) (f : KeptSite → KeptSite) → ((s : KeptSite) → (f s).site.name ≡ s.site.name) → kept_site site t ≡ Some k
       → kept_site site (with_row site_name site f t) ≡ Some (f k)
@@ -88,7 +111,7 @@ module _ (book : Book) (t : Tables) (sound : IsSound book t) (caller : List ℕ)
   there_then site k f keeps is = site_seen site (with_row site_name site f t) ∙ ap (option_map site_state) (kept_then site k f keeps is)
 
   site_refused : (site : List ℕ) → After (command.PutSite site) (Some (PutSite (new_site site caller)))
-  site_refused site =
+  site_refused site _ =
       let t' = changed (PutSite (new_site site caller)) t in
       let there : site_at site (state_of t') ≡ Some _ = site_seen site t' ∙ ap (option_map site_state) (at_put site_name _ t) in
       subst (λ o. Refuses (IsFor (command.PutSite site)) (put_site site caller o)) (sym there) refl
@@ -97,16 +120,20 @@ module _ (book : Book) (t : Tables) (sound : IsSound book t) (caller : List ℕ)
     module _ (put : PagePut) (named : put.page.head.page ≡ page) (rev : put.page.head.rev ≡ k.site.counter + 1) (sent : ℕ) (was : (sent == rev_at page k.pages) ≡ true)
         (allows : may needed.Editor (role_of caller k.site.members) ≡ true) where
       put_refused : (raw : Raw) → After (command.PutPage site page sent raw) (Some (PutPages site (k.site.counter + 1) (put ∷ [])))
-      put_refused raw =
+      put_refused raw _ =
           let f = with_pages (k.site.counter + 1) (put ∷ []) in
+          let row = put_over k.pages put in
+          let found : at page_name page (f k).pages ≡ Some row = subst (λ n. at page_name n (put_row page_name row k.pages) ≡ Some row) named (at_put page_name row k.pages) in
+          let there : page_at page (map page_state (f k).pages) ≡ Some (page_state row) = page_seen page (f k).pages ∙ ap (option_map page_state) found in
+          let room : has_room (page_at page (map page_state (f k).pages)) (length (map page_state (f k).pages)) ≡ true = ap (λ o. has_room o (length (map page_state (f k).pages))) there in
           enters IsBehind needed.Editor caller _ _ (site_state (f k)) (there_then site k f (λ _. refl) is) allows
-          (unless_refuses IsBehind (has_room (page_at page (map page_state (f k).pages)) (length (map page_state (f k).pages))) (refusal.PageLimit limit.Pages) _ (λ _. tt) (λ _.
+          (unless_refuses IsBehind (has_room (page_at page (map page_state (f k).pages)) (length (map page_state (f k).pages))) (refusal.PageLimit limit.Pages) _ (λ full. let no : true ≡ false = sym room ∙ full in cc) (λ _.
           unless_refuses IsBehind (has_revisions (f k).site.counter 1) (refusal.PageLimit limit.Revisions) _ (λ _. tt) (λ _.
           unless_refuses IsBehind (sent == rev_at page (f k).pages) (refusal.StaleRevision (rev_at page (f k).pages) None) _ (λ _. tt) (λ now.
           absurd (stale_then book t sound caller site page k is put named rev sent was (f k) (kept_then site k f (λ _. refl) is) now)))))
 
       edit_refused : (edits : List Edit) → After (command.EditPage site page sent edits) (Some (PutPages site (k.site.counter + 1) (put ∷ [])))
-      edit_refused edits =
+      edit_refused edits _ =
           let f = with_pages (k.site.counter + 1) (put ∷ []) in
           let row = put_over k.pages put in
           let found : at page_name page (f k).pages ≡ Some row = subst (λ n. at page_name n (put_row page_name row k.pages) ≡ Some row) named (at_put page_name row k.pages) in
@@ -118,7 +145,7 @@ module _ (book : Book) (t : Tables) (sound : IsSound book t) (caller : List ℕ)
           (ap (λ r. sent == r) (rev_found page (f k).pages row found) ∙ now))))))
 
     drop_refused : (sent : ℕ) → may needed.Editor (role_of caller k.site.members) ≡ true → After (command.DropPage site page sent) (Some (DropPage site page))
-    drop_refused sent allows =
+    drop_refused sent allows _ =
         let f = without_page page in
         let gone : at page_name page (take_row page_name page k.pages) ≡ None = at_take page_name page k.pages (kept_fits book t sound site k is).in_order in
         enters (λ r. r ≡ refusal.NoPage) needed.Editor caller _ _ (site_state (f k)) (there_then site k f (λ _. refl) is) allows
@@ -128,15 +155,23 @@ module _ (book : Book) (t : Tables) (sound : IsSound book t) (caller : List ℕ)
 
     import_refused : (entries : List Entry) → FitsEntries entries → first_stale (map page_state k.pages) entries ≡ None → may needed.Editor (role_of caller k.site.members) ≡ true
         → After (command.Import site entries) (Some (PutPages site (k.site.counter + length entries) (puts book caller (map page_state k.pages) k.site.counter entries)))
-    import_refused [] fits fresh allows = absurd (omega (arith, fits.some))
-    import_refused (e ∷ entries) fits fresh allows =
-        let f = with_pages (k.site.counter + length (e ∷ entries)) (puts book caller (map page_state k.pages) k.site.counter (e ∷ entries)) in
+    import_refused [] fits fresh allows sound' = absurd (omega (arith, fits.some))
+    import_refused (e ∷ entries) fits fresh allows sound' =
+        let given = puts book caller (map page_state k.pages) k.site.counter (e ∷ entries) in
+        let f = with_pages (k.site.counter + length (e ∷ entries)) given in
         let pages = map page_state (f k).pages in
+        let kept : kept_site site (changed (PutPages site (k.site.counter + length (e ∷ entries)) given) t) ≡ Some (f k) = kept_then site k f (λ _. refl) is in
+        let few : length (f k).pages ≤ MOST_PAGES = (kept_sound book (changed (PutPages site (k.site.counter + length (e ∷ entries)) given) t) sound' site (f k) kept).few in
+        let same : length pages ≡ length (f k).pages = length-map (f k).pages page_state in
+        let newer : (p : List ℕ) (rev : ℕ) → HasEntry p rev (e ∷ entries) → 0 < rev_of (page_at p pages) =
+            λ p rev has. puts_newer_at book caller p rev k.pages k.pages 0 k.site.counter (e ∷ entries) (omega arith) has in
+        let none : new_pages pages (e ∷ entries) ≡ 0 = none_new pages (e ∷ entries) newer in
         enters IsBehind needed.Editor caller _ _ (site_state (f k)) (there_then site k f (λ _. refl) is) allows
-        (unless_refuses IsBehind (nat_le (length pages + new_pages pages (e ∷ entries)) MOST_PAGES) (refusal.PageLimit limit.Pages) _ (λ _. tt) (λ _.
+        (unless_refuses IsBehind (nat_le (length pages + new_pages pages (e ∷ entries)) MOST_PAGES) (refusal.PageLimit limit.Pages) _
+        (has_room_for (length pages) (new_pages pages (e ∷ entries)) MOST_PAGES (omega (arith, few, same)) none) (λ _.
         unless_refuses IsBehind (has_revisions (f k).site.counter (length (e ∷ entries))) (refusal.PageLimit limit.Revisions) _ (λ _. tt) (λ _.
         unless_refused_refuses IsBehind (first_stale pages (e ∷ entries)) _ (stale_by pages (e ∷ entries))
-        (import_stale book t sound caller site [] k is e entries fresh (f k) (kept_then site k f (λ _. refl) is)))))
+        (import_stale book t sound caller site [] k is e entries fresh (f k) kept))))
 
   -- ---- commands
 
@@ -178,4 +213,5 @@ pub refused_then : (book : Book) (q : Request) (t : Tables) (d : Decided) → Fi
     → Refuses (IsFor q.command) (decided book q (after d.change (state_of t)))
 refused_then book q t d fits sound once is =
     subst (λ state. Refuses (IsFor q.command) (decided book q state)) (sym (after_made d.change t))
-    (brought (λ change. Refuses (IsFor q.command) (decided book q (state_of (made change t)))) (decided book q (state_of t)) d is (refused_by book t sound q.caller q.command once fits.parts))
+    (brought (λ change. IsSound book (made change t) → Refuses (IsFor q.command) (decided book q (state_of (made change t)))) (decided book q (state_of t)) d is
+    (refused_by book t sound q.caller q.command once fits.parts) (keeps_sound book q t d fits sound is))

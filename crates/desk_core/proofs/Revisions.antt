@@ -275,7 +275,7 @@ module _ (book : Book) (caller page : List ℕ) (rev : ℕ) where
 
 -- ---- what is put has a newer revision
 
-puts_newer_at : (book : Book) (caller page : List ℕ) (rev : ℕ) (orig cur : List KeptPage) (least counter : ℕ) (entries : List Entry) → least ≤ counter → HasEntry page rev entries
+pub puts_newer_at : (book : Book) (caller page : List ℕ) (rev : ℕ) (orig cur : List KeptPage) (least counter : ℕ) (entries : List Entry) → least ≤ counter → HasEntry page rev entries
     → least < rev_at page (put_rows page_name (map (put_over orig) (puts book caller (map page_state orig) counter entries)) cur)
 puts_newer_at book caller page rev orig cur least counter [] within has = absurd has
 puts_newer_at book caller page rev orig cur least counter (e ∷ entries) within (inl is) =
@@ -383,38 +383,39 @@ renewed_past : (page : List ℕ) (rev : ℕ) (old new : Option SiteState) → 1 
 renewed_past page rev old new some is within later (inl none) = record { given = omega arith; gone = λ same. omega arith }
 renewed_past page rev old new some is within later (inr newer) = record { given = omega arith; gone = λ same. omega arith }
 
--- tables are sound, and a revision of a page is past
-record Reached (book : Book) (site page : List ℕ) (rev : ℕ) (state : State) : Type 0 where
+-- a site of sound tables, of which this holds
+record Reached (book : Book) (site : List ℕ) (P : Option SiteState → Type 0) (state : State) : Type 0 where
   pub tables : Tables
   pub is : state ≡ state_of tables
   pub sound : IsSound book tables
-  pub past : Past page rev (site_at site (state_of tables))
+  pub holds : P (site_at site (state_of tables))
 
-module _ (book : Book) (site page : List ℕ) (rev : ℕ) (some : 1 ≤ rev) where
+-- what holds of a site, and stays however its counter and the revision of a page rise, holds after a run
+module _ (book : Book) (site page : List ℕ) (P : Option SiteState → Type 0) (stays : (old new : Option SiteState) → P old → Rises page old new → P new) where
   reached_by : (t : Tables) (q : Request) (decision : Decision) → decided book q (state_of t) ≡ decision → IsSound book t → FitsRequest book q
-      → Past page rev (site_at site (stepped (state_of t) decision).0) → Reached book site page rev (stepped (state_of t) decision).0
-  reached_by t q (Ok d) is sound fits past = record {
+      → P (site_at site (stepped (state_of t) decision).0) → Reached book site P (stepped (state_of t) decision).0
+  reached_by t q (Ok d) is sound fits holds = record {
     tables = made d.change t;
     is = after_made d.change t;
     sound = keeps_sound book q t d fits sound is;
-    past = subst (λ state. Past page rev (site_at site state)) (after_made d.change t) past;
+    holds = subst (λ state. P (site_at site state)) (after_made d.change t) holds;
   }
-  reached_by t q (Err r) is sound fits past = record { tables = t; is = refl; sound = sound; past = past }
+  reached_by t q (Err r) is sound fits holds = record { tables = t; is = refl; sound = sound; holds = holds }
 
-  reached_step : (q : Request) (state : State) → FitsRequest book q → Reached book site page rev state → Reached book site page rev (step book state q).0
+  reached_step : (q : Request) (state : State) → FitsRequest book q → Reached book site P state → Reached book site P (step book state q).0
   reached_step q state fits r =
       let t = r.tables in
-      subst (λ state. Reached book site page rev (step book state q).0) (sym r.is)
+      subst (λ state. Reached book site P (step book state q).0) (sym r.is)
       (reached_by t q (decided book q (state_of t)) refl r.sound fits
-      (past_stays page rev (site_at site (state_of t)) (site_at site (step book (state_of t) q).0) some r.past (revisions_rise book q t site page r.sound)))
+      (stays (site_at site (state_of t)) (site_at site (step book (state_of t) q).0) r.holds (revisions_rise book q t site page r.sound)))
 
-  reached_answer : (q : Request) (old new : State) (reply : Reply) (before now : ℕ) → FitsRequest book q → Answers book old q reply new before now → Reached book site page rev old → Reached book site page rev new
-  reached_answer q old new reply before now fits (inl is) r = subst (Reached book site page rev) (ap (λ (p : State × Reply). p.0) is) (reached_step q old fits r)
-  reached_answer q old new reply before now fits (inr failed) r = subst (Reached book site page rev) (sym failed.0) r
+  reached_answer : (q : Request) (old new : State) (reply : Reply) (before now : ℕ) → FitsRequest book q → Answers book old q reply new before now → Reached book site P old → Reached book site P new
+  reached_answer q old new reply before now fits (inl is) r = subst (Reached book site P) (ap (λ (p : State × Reply). p.0) is) (reached_step q old fits r)
+  reached_answer q old new reply before now fits (inr failed) r = subst (Reached book site P) (sym failed.0) r
 
-  reached_run : (qs : List Request) (replies : List Reply) (old new : State) (from to : ℕ) → All (FitsRequest book) qs → Runs book old qs replies new from to → Reached book site page rev old
-      → Reached book site page rev new
-  reached_run [] [] old new from to fits run r = subst (Reached book site page rev) (sym run.0) r
+  reached_run : (qs : List Request) (replies : List Reply) (old new : State) (from to : ℕ) → All (FitsRequest book) qs → Runs book old qs replies new from to → Reached book site P old
+      → Reached book site P new
+  reached_run [] [] old new from to fits run r = subst (Reached book site P) (sym run.0) r
   reached_run [] (reply ∷ replies) old new from to fits run r = absurd run
   reached_run (q ∷ qs) [] old new from to fits run r = absurd run
   reached_run (q ∷ qs) (reply ∷ replies) old new from to fits run r =
@@ -427,20 +428,34 @@ past_refused book caller page rev c kept carries past =
     refused_by (decision book caller c kept)
     (weakened (Current book caller page rev kept) Nothing (λ _ is. past.gone is) (decision book caller c kept) (current_by book caller page rev c kept carries))
 
--- of all requests in a run that carry one revision of a page, one is accepted
+-- of all requests in a run that carry one revision of a page, at most one is accepted
 pub accepted_once : (book : Book) (t : Tables) (q later : Request) (d : Decided) (qs : List Request) (replies : List Reply) (new : State) (from to : ℕ) (page : List ℕ) (rev : ℕ) → 1 ≤ rev
     → IsSound book t → FitsRequest book q → decided book q (state_of t) ≡ Ok d → All (FitsRequest book) qs → Runs book (after d.change (state_of t)) qs replies new from to
     → site_of later.command ≡ site_of q.command → Carries page rev q.command → Carries page rev later.command → IsRefused (decided book later new)
 accepted_once book t q later d qs replies new from to page rev some sound fits is all run same carries later_carries =
     let site = site_of q.command in
     let old = site_at site (state_of t) in
+    let stays : (old new : Option SiteState) → Past page rev old → Rises page old new → Past page rev new = λ old new past rises. past_stays page rev old new some past rises in
     let current : rev ≡ revision_of page old = brought (Current book q.caller page rev old) (decided book q (state_of t)) d is (current_by book q.caller page rev q.command old carries) in
     let rises = subst (λ decision. Rises page old (site_at site (stepped (state_of t) decision).0)) is (revisions_rise book q t site page sound) in
     let renewed = brought (λ change. (revision_of page (site_at site (state_of (made change t))) ≡ 0) ⊎ (counter_of old < revision_of page (site_at site (state_of (made change t)))))
     (decided book q (state_of t)) d is (renewed_by book t sound q.caller page rev q.command carries) in
     let here = subst (λ state. (revision_of page (site_at site state) ≡ 0) ⊎ (counter_of old < revision_of page (site_at site state))) (sym (after_made d.change t)) renewed in
     let past = renewed_past page rev old (site_at site (after d.change (state_of t))) some current (revisions_within book t site page sound) rises.counter here in
-    let first = reached_by book site page rev some t q (Ok d) is sound fits past in
-    let last = reached_run book site page rev some qs replies (after d.change (state_of t)) new from to all run first in
+    let first = reached_by book site page (Past page rev) stays t q (Ok d) is sound fits past in
+    let last = reached_run book site page (Past page rev) stays qs replies (after d.change (state_of t)) new from to all run first in
     past_refused book later.caller page rev later.command (site_at (site_of later.command) new) later_carries
-    (subst (λ n. Past page rev (site_at n new)) (sym same) (subst (λ state. Past page rev (site_at site state)) (sym last.is) last.past))
+    (subst (λ n. Past page rev (site_at n new)) (sym same) (subst (λ state. Past page rev (site_at site state)) (sym last.is) last.holds))
+
+-- what an accepted put, edit or import puts has a revision above every one that the site had before a run
+pub put_is_newest : (book : Book) (t : Tables) (qs : List Request) (replies : List Reply) (new : State) (from to : ℕ) (q : Request) (d : Decided) (page other : List ℕ) (rev : ℕ) → IsSound book t
+    → All (FitsRequest book) qs → Runs book (state_of t) qs replies new from to → Puts page rev q.command → decided book q new ≡ Ok d
+    → revision_of other (site_at (site_of q.command) (state_of t)) < revision_of page (site_at (site_of q.command) (after d.change new))
+put_is_newest book t qs replies new from to q d page other rev sound all run puts is =
+    let site = site_of q.command in
+    let most = revision_of other (site_at site (state_of t)) in
+    let stays : (old new : Option SiteState) → most ≤ counter_of old → Rises page old new → most ≤ counter_of new = λ old new within rises. omega (arith, within, rises.counter) in
+    let first : Reached book site (λ o. most ≤ counter_of o) (state_of t) = record { tables = t; is = refl; sound = sound; holds = revisions_within book t site other sound } in
+    let last = reached_run book site page (λ o. most ≤ counter_of o) stays qs replies (state_of t) new from to all run first in
+    let newer = put_is_newer book q last.tables d page rev last.sound puts (subst (λ state. decided book q state ≡ Ok d) last.is is) in
+    subst (λ state. most < revision_of page (site_at site (after d.change state))) (sym last.is) (omega (arith, newer, last.holds))

@@ -55,6 +55,11 @@ failed_by : (before at now : ℕ) (d : Decided) (mid new : Option Tables) (reply
 failed_by before at now d mid new reply le accepted (inl is) fault = absurd (not_accepted refusal.KeeperFault d.reply accepted (sym is.0 ∙ fault))
 failed_by before at now d mid new reply le accepted (inr is) fault = rose_later before at now le (fault_rose at now reply is.0 fault)
 
+-- a reply that refuses is none that was made with a change, so the tables are as they were
+stays_by : (old mid new : Option Tables) (at now : ℕ) (d : Decided) (reply : Reply) (r : Refusal) → reply ≡ Refused r → IsAccepted d.reply → Stays old mid → Ends d mid new at now reply → Stays old new
+stays_by old mid new at now d reply r refused accepted stays (inl is) = absurd (not_accepted r d.reply accepted (sym is.0 ∙ refused))
+stays_by old mid new at now d reply r refused accepted stays (inr is) = λ t told. stays t (is.1 t told)
+
 same_tables : (s t : Tables) (old : Option Tables) → old ≡ Some s → old ≡ Some t → s ≡ t
 same_tables s t old was is = let both : Some s ≡ Some t = sym was ∙ is in cc
 
@@ -89,6 +94,7 @@ module _ (book : Book) (request : Request) where
           λ sound. (sound, refused_by (state_of t) r before now (λ e. decides.reads.failed (ap Err e)) (decides.agrees t is sound)),
         );
     others = λ s t was is sound n other. ap (kept_site n) (sym (same_tables s t old was (decides.reads.stays t is)));
+    refused = λ _ _. decides.reads.stays;
     never_falls = decides.reads.never_falls;
     failed = λ fault. let same : r ≡ refusal.KeeperFault = cc in decides.reads.failed (ap Err same);
   }
@@ -144,6 +150,7 @@ module _ (book : Book) (request : Request) where
   serves_decided old mid new before at now d reply fits decides commits = record {
     told = served_by old mid new before at now d reply fits decides decides.reads.never_falls commits.made;
     others = others_by old mid new before at now d reply decides commits.made;
+    refused = λ r is. stays_by old mid new at now d reply r is decides.accepted decides.reads.stays commits.made;
     never_falls = omega (arith, decides.reads.never_falls, commits.never_falls);
     failed = failed_by before at now d mid new reply decides.reads.never_falls decides.accepted commits.made;
   }

@@ -5,11 +5,12 @@ use Rattle.rule_core.specs.declared.info.RuleNo.{RuleNo}
 use Rattle.rule_core.specs.Infos.{has_atomic}
 use Rattle.judge_core.specs.Books.{Book}
 use Rattle.web_address.specs.Address.{IsWebAddress}
+use Rattle.keep_core.specs.declared.limits.TheConstants.{MOST_REVISION}
 use Rattle.keep_core.specs.Names.{is_name}
 use Rattle.desk_core.specs.declared.command.Command.{Command}
 use Rattle.desk_core.specs.declared.command.Command.TheVariants as command
 use Rattle.desk_core.specs.declared.command.Entry.{Entry}
-use Rattle.desk_core.specs.declared.limits.TheConstants.{MOST_REVISION, MOST_NOTE, MOST_ENTRIES}
+use Rattle.desk_core.specs.declared.limits.TheConstants.{MOST_NOTE, MOST_ENTRIES}
 use Rattle.desk_core.specs.Steps.{Request, site_of}
 
 -- a page and the revision that the sender saw of it

@@ -2,6 +2,7 @@
 use Rattle.std.specs.Prelude.{◌≡◌, Ok, Err}
 use Rattle.desk_core.specs.declared.command.Command.{Command}
 use Rattle.desk_core.specs.declared.command.Command.TheVariants as command
+use Rattle.desk_core.specs.declared.refusal.Limit.TheVariants as limit
 use Rattle.desk_core.specs.declared.refusal.Refusal.{Refusal}
 use Rattle.desk_core.specs.declared.refusal.Refusal.TheVariants as refusal
 use Rattle.desk_core.specs.Refusals.{Decision}
@@ -34,10 +35,10 @@ abbrev pub Refuses : (Refusal → Type 0) → Decision → Type 0
 Refuses With (Ok d) = ⊥
 Refuses With (Err refusal) = With refusal
 
--- the revision isn't the page's any more, or the site is full
+-- the revision isn't the page's any more, or the site can give no revision more
 abbrev pub IsBehind : Refusal → Type 0
 IsBehind (refusal.StaleRevision current page) = Unit {0}
-IsBehind (refusal.PageLimit limit) = Unit {0}
+IsBehind (refusal.PageLimit limit.Revisions) = Unit {0}
 IsBehind other = ⊥
 
 -- what a request is refused with that was accepted before

@@ -12,10 +12,11 @@ use Rattle.snap_edit.specs.Edits.{edited_all}
 use Rattle.judge_core.specs.declared.judgement.Judgement.{Judgement}
 use Rattle.judge_core.specs.Books.{Book}
 use Rattle.judge_core.specs.Outcomes.{outcomes}
+use Rattle.keep_core.specs.declared.limits.TheConstants.{MOST_REVISION}
 use Rattle.keep_core.specs.declared.site.Site.{Site}
 use Rattle.keep_core.specs.declared.page.PagePut.{PagePut}
 use Rattle.keep_core.specs.declared.change.Change.TheVariants.{PutPages, DropPage}
-use Rattle.desk_core.specs.declared.limits.TheConstants.{MOST_PAGES, MOST_REVISION}
+use Rattle.desk_core.specs.declared.limits.TheConstants.{MOST_PAGES}
 use Rattle.desk_core.specs.declared.refusal.Limit.TheVariants as limit
 use Rattle.desk_core.specs.declared.refusal.Refusal.TheVariants as refusal
 use Rattle.desk_core.specs.declared.reply.Stored.{Stored}

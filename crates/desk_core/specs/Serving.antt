@@ -144,11 +144,13 @@ abbrev pub OthersStay : List ℕ → Tables → Tables → Type 0
 OthersStay site old new = (n : List ℕ) → (n ≡ site → ⊥) → kept_site n new ≡ kept_site n old
 
 -- a request is served: where the tables that are told were sound, they are sound, the reply is the machine's, and the rows of all
--- other sites stay. The keeper's fault is answered only where it was counted, whether the tables are told or not
+-- other sites stay. Sound or not, a request that is refused leaves the tables; and whether they are told or not, the keeper's fault
+-- is answered only where it was counted
 pub record Serves (book : Book) (request : Request) (old new : Option Tables) (before now : ℕ) (reply : Reply) : Type 0 where
   pub told :
       (t : Tables) → new ≡ Some t → (s : Tables) × (old ≡ Some s) × (IsSound book s → IsSound book t × Answers book (state_of s) request reply (state_of t) before now)
   pub others : (s t : Tables) → old ≡ Some s → new ≡ Some t → IsSound book s → OthersStay (steps.site_of request.command) s t
+  pub refused : (refusal : Refusal) → reply ≡ Refused refusal → Stays old new
   pub never_falls : before ≤ now
   pub failed : reply ≡ Refused KeeperFault → Rose before now
 

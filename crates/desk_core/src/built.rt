@@ -3,10 +3,9 @@ ghost use Rattle.std.specs.List.{zip};
 ghost use Rattle.judge_core.specs.declared.outcomes.Outcomes.{Outcomes};
 ghost use Rattle.desk_core.specs.Placing.{heads_from, put_of};
 
-use crate::limits::MOST_REVISION;
 use crate::placed::Placed;
 use judge_core::Outcomes;
-use keep_core::{Page, PageHead, PagePut};
+use keep_core::{MOST_REVISION, Page, PageHead, PagePut};
 use reaudit::PageWork;
 use snap_tree::{List, OutOfMemory, Text};
 use std::alloc::Global;

@@ -24,14 +24,14 @@ use std::alloc::Global;
 use std::thread::Threads;
 
 /// Handles one request of a caller and gives the reply. The request fits: its names are names, its addresses
-/// web addresses, its revisions and its note within their limits, and the rule that it judges is an atomic
-/// one of the book. There is at least one book: an import is audited by all of them, each in a thread of its
-/// own, and everything else is by the first.
+/// web addresses, its revisions and its note within their limits, the rule that it judges is an atomic one of
+/// the book, and an import has 1 to 64 pages with distinct names. There is at least one book: an import is
+/// audited by all of them, and everything else by the first.
 ///
 /// Where the keeper tells its tables and they were sound, they are sound afterwards, the reply and the
-/// change are the machine's, and the rows of all other sites stay. Or the request fails and changes nothing:
-/// with `KeeperFault`, where the keeper's count of faults rose in this request, which holds of tables that
-/// aren't told too, or with `OutOfMemory`.
+/// change are the machine's, and the rows of all other sites stay. Or the request fails: with `KeeperFault`,
+/// where the keeper's count of faults rose in this request, which holds of tables that aren't told too, or
+/// with `OutOfMemory`. Whatever it is refused with, the tables stay, sound or not.
 ///
 /// The books judge at most: where rows make trees, each atomic rule on each node of a page that is put or
 /// imported, accepted or not; of an edited page the same, where the edits can be carried out; and for every

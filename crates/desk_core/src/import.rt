@@ -17,12 +17,12 @@ use crate::building::build_all;
 use crate::built::{Built, heads_from, put_all};
 use crate::command::Entry;
 use crate::decided::Decided;
-use crate::limits::{MOST_PAGES, MOST_REVISION};
+use crate::limits::MOST_PAGES;
 use crate::placed::Placed;
 use crate::refusal::{Limit, Refusal};
 use crate::reply::{Reply, Stored};
 use crate::store::stored;
-use keep_core::{Change, Keeper, PagePut};
+use keep_core::{Change, Keeper, MOST_REVISION, PagePut};
 use reaudit::audit_pages;
 use rule_core::RuleBook;
 use snap_tree::{List, OutOfMemory, Text};
@@ -30,8 +30,8 @@ use std::alloc::Global;
 use std::collections::VecDeque;
 use std::thread::Threads;
 
-/// Puts pages, all or none, each in the place of the one that the sender saw. They are built and audited by as
-/// many threads as there are books, each of which audits with a book of its own.
+/// Puts pages, all or none, each in the place of the one that the sender saw. Parts of them are built and
+/// audited side by side, as many as there are books, where threads can be made.
 pub fn import<R: Threads + Sync, K: Keeper, B: RuleBook + Send>(
     rt: &R,
     alloc: Global,

@@ -43,7 +43,7 @@ pub fn laws_of_soundness()
 ///
 /// A request that is sent again at once changes nothing. One that was accepted and made a site, or put,
 /// edited or dropped pages, is refused then: the site exists, the page isn't there, or the revision isn't
-/// the page's any more, unless the site is full.
+/// the page's any more, unless the site can give no revision more.
 #[tactic(auto, using(crate::proofs::Again::again_changes_nothing, crate::proofs::Refusing::refused_then))]
 pub fn laws_of_requests()
     ensures again { (book : Book) (q : Request) (t : Tables) → FitsRequest book q → IsSound book t
@@ -69,9 +69,9 @@ pub fn laws_of_sites()
 /// Laws of revisions. It does nothing: the clauses are what it is for.
 ///
 /// No page has a revision above its site's counter. The counter never falls, and a page keeps its revision,
-/// goes, or gets one above the counter; each page that an accepted request puts or edits gets such a one.
-/// So a revision never comes twice in a site: of all requests in a run that carry one revision of a page,
-/// one is accepted.
+/// goes, or gets one above the counter; each page that an accepted request puts or edits gets such a one. So
+/// it is greater than every revision that a page of the site had before, however many requests ago, and of all
+/// requests in a run that carry one revision of a page, other than 0, at most one is accepted.
 pub fn laws_of_revisions()
     ensures within { (book : Book) (t : Tables) (site page : List ℕ) → IsSound book t
         → revision_of page (site_at site (state_of t)) ≤ counter_of (site_at site (state_of t)) }
@@ -81,6 +81,12 @@ pub fn laws_of_revisions()
         → Puts page rev q.command → decided book q (state_of t) ≡ Ok d
         → counter_of (site_at (site_of q.command) (state_of t))
         < revision_of page (site_at (site_of q.command) (after d.change (state_of t))) }
+    ensures newest { (book : Book) (t : Tables) (requests : List Request) (replies : List Reply) (new : State)
+        (from to : ℕ) (q : Request) (d : Decided) (page other : List ℕ) (rev : ℕ) → IsSound book t
+        → All (FitsRequest book) requests → Runs book (state_of t) requests replies new from to
+        → Puts page rev q.command → decided book q new ≡ Ok d
+        → revision_of other (site_at (site_of q.command) (state_of t))
+        < revision_of page (site_at (site_of q.command) (after d.change new)) }
     ensures once { (book : Book) (t : Tables) (q later : Request) (d : Decided) (requests : List Request)
         (replies : List Reply) (new : State) (from to : ℕ) (page : List ℕ) (rev : ℕ) → 1 ≤ rev
         → IsSound book t → FitsRequest book q → decided book q (state_of t) ≡ Ok d

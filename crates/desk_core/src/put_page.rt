@@ -12,7 +12,7 @@ ghost use Rattle.keep_core.specs.Names.{is_name};
 ghost use Rattle.web_address.specs.Address.{IsWebAddress};
 
 use crate::decided::Decided;
-use crate::limits::{MOST_PAGES, MOST_REVISION};
+use crate::limits::MOST_PAGES;
 use crate::look::{Survey, survey_site};
 use crate::page_state::PageState;
 use crate::refusal::{Limit, Refusal};
@@ -20,7 +20,7 @@ use crate::reply::Reply;
 use crate::sent::Sent;
 use crate::store::{page_put, stored};
 use judge_core::Judgement;
-use keep_core::{Change, Keeper, PagePut};
+use keep_core::{Change, Keeper, MOST_REVISION, PagePut};
 use rule_core::RuleBook;
 use snap_tree::{BuildFault, List, Raw, Text, Tree};
 use std::alloc::Global;

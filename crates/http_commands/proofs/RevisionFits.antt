@@ -6,7 +6,7 @@ use Rattle.serde_json.specs.Data.{Data}
 use Rattle.http_messages.specs.declared.head.Head.{Head}
 use Rattle.http_messages.specs.Framing.{only_named, number_of}
 use Rattle.request_faults.specs.declared.part.Part.TheVariants.{Rev}
-use Rattle.desk_core.specs.declared.limits.TheConstants.{MOST_REVISION}
+use Rattle.keep_core.specs.declared.limits.TheConstants.{MOST_REVISION}
 use Rattle.http_routes.proofs.Chosen.{when}
 use Rattle.http_commands.specs.Revisions.{at_most_greatest, stated, revision_in, whole, rev_of}
 use Rattle.http_commands.proofs.Steps.{shaped, past_some}

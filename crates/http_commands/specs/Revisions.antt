@@ -6,7 +6,7 @@ use Rattle.http_messages.specs.declared.head.Head.{Head}
 use Rattle.http_messages.specs.Framing.{only_named, number_of}
 use Rattle.request_faults.specs.declared.part.Part.TheVariants.{Rev}
 use Rattle.request_faults.specs.declared.fault.RequestFault.{RequestFault}
-use Rattle.desk_core.specs.declared.limits.TheConstants.{MOST_REVISION}
+use Rattle.keep_core.specs.declared.limits.TheConstants.{MOST_REVISION}
 use Rattle.http_commands.specs.Shapes.{in_shape}
 
 -- at most the greatest revision

@@ -5,7 +5,7 @@ ghost use Rattle.http_commands.specs.Revisions.{at_most_greatest, stated, revisi
 
 use crate::shape::in_shape;
 use crate::unasked::Unasked;
-use desk_core::MOST_REVISION;
+use keep_core::MOST_REVISION;
 use http_messages::{Head, number_of};
 use request_faults::Part;
 use serde_json::Value;

@@ -10,7 +10,7 @@ use Rattle.desk_core.specs.declared.limits.TheConstants.{MOST_ENTRIES}
 use Rattle.desk_core.specs.declared.reply.Stored.{Stored}
 use Rattle.desk_core.specs.declared.reply.Reply.{Reply}
 use Rattle.desk_core.specs.declared.reply.Reply.TheVariants as reply
-use Rattle.http_replies.specs.declared.made.TheConstants.{MOST_NAME}
+use Rattle.keep_core.specs.declared.limits.TheConstants.{MOST_NAME}
 use Rattle.http_replies.specs.Made.{after_comma, made_text, is_short, are_few, is_made}
 use Rattle.http_replies.specs.Answers.{reply_body}
 

@@ -13,7 +13,7 @@ use Rattle.desk_core.specs.declared.reply.Summary.{Summary}
 use Rattle.desk_core.specs.declared.reply.Stored.{Stored}
 use Rattle.desk_core.specs.declared.reply.Reply.{Reply}
 use Rattle.desk_core.specs.declared.reply.Reply.TheVariants as reply
-use Rattle.http_replies.specs.declared.made.TheConstants.{MOST_NAME}
+use Rattle.keep_core.specs.declared.limits.TheConstants.{MOST_NAME}
 use Rattle.http_replies.specs.Words.{role_word, id_of}
 
 abbrev pub site_text : List ℕ → List ℕ

@@ -15,5 +15,5 @@ mod words;
 
 pub use answer::Answer;
 pub use constant::no_memory;
-pub use made::{MOST_NAME, is_made};
+pub use made::is_made;
 pub use printing::{MOST_REPLY, print};

@@ -7,14 +7,11 @@ ghost use Rattle.http_replies.specs.Made.{count_text, member_text, summary_text,
 
 use crate::words::{role_word, rule_of};
 use desk_core::{MOST_ENTRIES, Reply, Stored, Summary};
-use keep_core::MemberRole;
+use keep_core::{MOST_NAME, MemberRole};
 use reply_frames::{push, push_number};
 use rule_core::{Auto, RuleInfo, RuleNo};
 use snap_tree::{NodeId, OutOfMemory, Text};
 use text_reports::outcome_word;
-
-/// The most bytes of a name.
-pub const MOST_NAME: usize = 64;
 
 // The most bytes of what is said of a page that is put.
 const MOST_STORED: usize = 256;

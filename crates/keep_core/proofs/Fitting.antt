@@ -1,10 +1,10 @@
 -- Tables that fit stay so by a change that fits, and what is read of them fits.
-use Rattle.std.proofs.Common.{◌≡◌, ℕ, ◌≤◌, List, [], ◌∷◌, length, map, Option, Some, None, option_map, IsTrue, IfSome, OnOk, OnErr, Result, Ok, Err, refl, sym, subst, arith}
+use Rattle.std.proofs.Common.{◌≡◌, ℕ, List, [], ◌∷◌, map, Option, Some, None, option_map, IfSome, OnOk, OnErr, Result, Ok, Err, refl, sym, subst}
 use Rattle.std.specs.List.{All}
 use Rattle.std.proofs.lemmas.List.Elements.{All-nil, All-cons, All-head, All-tail}
 use Rattle.judge_core.specs.declared.judgement.Judgement.{Judgement}
 use Rattle.judge_core.specs.declared.outcomes.Outcomes.{Outcomes}
-use Rattle.named_rows.specs.ByName.{at, put_row, with_row, IsInOrder}
+use Rattle.named_rows.specs.ByName.{with_row, IsInOrder}
 use Rattle.named_rows.proofs.Lookups.{all_at, all_put, all_put_rows, all_take, all_with_row}
 use Rattle.named_rows.proofs.Order.{IsBelow, in_order_cons, in_order_first, in_order_rest, in_order_none, in_order_put, in_order_put_rows, in_order_take, in_order_with_row}
 use Rattle.keep_core.specs.declared.site.Site.{Site}

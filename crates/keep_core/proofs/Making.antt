@@ -1,10 +1,10 @@
 -- What is read of tables after a change.
-use Rattle.std.proofs.Common.{◌≡◌, ℕ, List, [], ◌∷◌, ◌++◌, map, Option, Some, None, option_map, IfSome, refl, sym, ap, ◌∙◌}
+use Rattle.std.proofs.Common.{◌≡◌, ℕ, List, [], ◌∷◌, map, Option, Some, None, option_map, IfSome, refl, sym, ap, ◌∙◌}
 use Rattle.std.specs.declared.cmp.Ordering.{Ordering}
 use Rattle.std.specs.declared.cmp.Ordering.TheVariants.{Less, Equal, Greater}
 use Rattle.judge_core.specs.declared.judgement.Judgement.{Judgement}
 use Rattle.judge_core.specs.declared.outcomes.Outcomes.{Outcomes}
-use Rattle.named_rows.specs.ByName.{names_cmp, at, put_row, put_rows, with_row}
+use Rattle.named_rows.specs.ByName.{names_cmp, at, put_row, put_rows}
 use Rattle.named_rows.proofs.Names.{same_itself, same_name}
 use Rattle.named_rows.proofs.Lookups.{at_put, at_put_other, at_with_row, at_with_row_other}
 use Rattle.named_rows.proofs.Order.{at_take}

@@ -1,9 +1,8 @@
 -- What a keeper owes that tells its tables until its first fault, over one that always tells them.
-use Rattle.std.proofs.Common.{◌≡◌, ℕ, zero, suc, ◌≤◌, Option, Some, None, Result, Ok, Err, OnOk, OnErr, IfOk, refl, arith}
+use Rattle.std.proofs.Common.{◌≡◌, ℕ, zero, suc, ◌≤◌, Some, Result, Ok, Err, OnOk, OnErr, IfOk, arith}
 use Rattle.keep_core.specs.declared.change.Change.{Change}
 use Rattle.keep_core.specs.declared.fault.KeepFault.{KeepFault}
 use Rattle.keep_core.specs.Tables.{Tables}
-use Rattle.keep_core.specs.Changes.{changed}
 use Rattle.keep_core.specs.Keeping.{Stays, Turns, Reads, Makes}
 use Rattle.keep_core.specs.Telling.{told_until_fault}
 

@@ -1,5 +1,5 @@
 -- What fits: rows that may be put, and rows that are answered.
-use Rattle.std.specs.Prelude.{◌≡◌, ℕ, ◌-◌, ◌^◌, ◌≤◌, List, IsTrue, IsSome}
+use Rattle.std.specs.Prelude.{◌≡◌, ℕ, ◌≤◌, List, IsTrue, IsSome}
 use Rattle.std.specs.List.{All, AllPairs}
 use Rattle.web_address.specs.Address.{IsWebAddress}
 use Rattle.named_rows.specs.ByName.{IsInOrder}
@@ -12,25 +12,22 @@ use Rattle.keep_core.specs.declared.change.Change.{Change}
 use Rattle.keep_core.specs.declared.change.Change.TheVariants.{PutSite, PutPages, DropPage, AddJudgement}
 use Rattle.keep_core.specs.declared.tables.KeptPage.{KeptPage}
 use Rattle.keep_core.specs.declared.tables.KeptSite.{KeptSite}
+use Rattle.keep_core.specs.declared.limits.TheConstants.{MOST_REVISION}
 use Rattle.keep_core.specs.Names.{is_name}
 use Rattle.keep_core.specs.Tables.{Tables, site_name, page_name, kept_site, kept_page}
-
--- the greatest counter and revision
-abbrev pub most_revisions : ℕ
-most_revisions = 2 ^ 63 - 1
 
 -- ---- rows
 
 -- the users are distinct and stand in byte order
 pub record FitsSite (site : Site) : Type 0 where
   pub name : IsTrue (is_name site.name)
-  pub counter : site.counter ≤ most_revisions
+  pub counter : site.counter ≤ MOST_REVISION
   pub users : All (λ (m : Member). IsTrue (is_name m.user)) site.members
   pub in_order : IsInOrder (λ (m : Member). m.user) site.members
 
 pub record FitsHead (head : PageHead) : Type 0 where
   pub page : IsTrue (is_name head.page)
-  pub rev : head.rev ≤ most_revisions
+  pub rev : head.rev ≤ MOST_REVISION
 
 pub record FitsPage (page : Page) : Type 0 where
   pub head : FitsHead page.head
@@ -45,7 +42,7 @@ pub record FitsHeads (heads : List PageHead) : Type 0 where
 
 pub record FitsPages (site : List ℕ) (counter : ℕ) (pages : List PagePut) : Type 0 where
   pub name : IsTrue (is_name site)
-  pub within : counter ≤ most_revisions
+  pub within : counter ≤ MOST_REVISION
   pub each : All (λ (p : PagePut). FitsPage p.page) pages
   pub distinct : AllPairs (λ (p q : PagePut). p.page.head.page ≡ q.page.head.page → ⊥) pages
 

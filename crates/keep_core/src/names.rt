@@ -2,9 +2,8 @@ ghost use Rattle.std.specs.Prelude.{◌≡◌};
 ghost use Rattle.std.specs.List.{list_all};
 ghost use Rattle.keep_core.specs.Names.{is_from, is_name, is_name_byte};
 
+use crate::limits::MOST_NAME;
 use snap_tree::Text;
-
-const MOST_CHARACTERS: usize = 64;
 
 /// Whether a text may name a site, a page or a user: 1 to 64 characters out of `a` to `z`, `0` to `9`, `.`,
 /// `_` and `-`.
@@ -16,9 +15,9 @@ pub fn is_name(text: &Text) -> bool
 }
 
 fn is_name_length(length: usize) -> bool
-    ensures { result ≡ is_from 1 64 length }
+    ensures { result ≡ is_from 1 MOST_NAME length }
 {
-    1 <= length && length <= MOST_CHARACTERS
+    1 <= length && length <= MOST_NAME
 }
 
 fn are_name_bytes(bytes: &[u8]) -> bool

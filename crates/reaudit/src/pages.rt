@@ -17,8 +17,9 @@ pub struct PageWork {
 }
 
 /// The outcomes of each page, in the order of the pages, whatever the number of books: there is at least
-/// one, and each audits a part of the pages in a thread of its own. The sum of their counts of judgings
-/// rises by at most the atomic rules times the nodes of all pages. Fails only for want of memory.
+/// one. Where threads can be made, the books audit parts of the pages side by side; where there are fewer
+/// pages than books, some books audit none. The sum of their counts of judgings rises by at most the atomic
+/// rules times the nodes of all pages. Fails only for want of memory.
 pub fn audit_pages<R: Threads + Sync, B: RuleBook + Send>(
     rt: &R,
     alloc: Global,

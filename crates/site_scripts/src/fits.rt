@@ -8,9 +8,9 @@ ghost use Rattle.desk_core.specs.Steps.{site_of};
 ghost use Rattle.desk_core.specs.declared.command.Entry.{Entry};
 ghost use Rattle.site_scripts.specs.Following.{Follows};
 
-use desk_core::{Command, Entry, MOST_ENTRIES, MOST_NOTE, MOST_REVISION};
+use desk_core::{Command, Entry, MOST_ENTRIES, MOST_NOTE};
 use judge_core::infos_of;
-use keep_core::is_name;
+use keep_core::{MOST_REVISION, is_name};
 use rule_core::{RuleBook, RuleInfo, RuleNo};
 use snap_tree::{List, OutOfMemory, Text};
 use std::alloc::Global;

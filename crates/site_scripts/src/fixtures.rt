@@ -5,8 +5,7 @@ ghost use Rattle.keep_core.specs.declared.member.MemberRole.TheVariants.{Owner};
 
 use crate::asks::Nodes;
 use crate::unasked::Unasked;
-use desk_core::MOST_REVISION;
-use keep_core::{Member, MemberRole, MemoryKeeper, Site, is_name};
+use keep_core::{MOST_REVISION, Member, MemberRole, MemoryKeeper, Site, is_name};
 use page_sketches::Node::Html;
 use snap_tree::{List, OutOfMemory, Text};
 use std::alloc::Global;

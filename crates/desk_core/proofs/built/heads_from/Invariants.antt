@@ -1,5 +1,5 @@
 use Rattle.std.proofs.Common.{◌≡◌, ◌+◌, ◌≤◌, ◌++◌, length}
-use Rattle.desk_core.specs.declared.limits.TheConstants.{MOST_REVISION}
+use Rattle.keep_core.specs.declared.limits.TheConstants.{MOST_REVISION}
 use Rattle.desk_core.specs.Placing.{heads_from}
 use Rattle.desk_core.proofs.built.heads_from.Given as goal
 
