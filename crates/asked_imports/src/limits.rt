@@ -1,8 +1,8 @@
 //! A site that is full, and whose revisions end.
 
 use crate::sending::series;
-use desk_core::{Command, MOST_REVISION};
-use keep_core::{Batch, Change, Keeper, MemberRole, MemoryKeeper};
+use desk_core::Command;
+use keep_core::{Batch, Change, Keeper, MOST_REVISION, MemberRole, MemoryKeeper};
 use rule_sketches::Marks;
 use site_scripts::Alter::Mark;
 use site_scripts::Ask::{Alter, Gone, Put, Role};
