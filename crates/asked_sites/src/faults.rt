@@ -1,6 +1,7 @@
 //! Keepers that fail, and one that ceases to tell what it keeps.
 
-use crate::doubtful::Doubtful;
+use crate::doubtful::{Call, Doubtful};
+use crate::keeping::look;
 use keep_core::MemberRole;
 use rule_sketches::Marks;
 use site_scripts::Alter::Mark;
@@ -67,6 +68,39 @@ fn a_fault_of_the_keeper_is_of_one_request(rt: HostRuntime) -> Result<(), Fail> 
         let mut keeper = keeper_failing(alloc, &[place as u64 + 1])?;
         let found = first_otherwise(&rt, alloc, &mut [Marks::new()], &mut keeper, cases)?;
         assert_eq!(rt; found, None, "call {place}");
+    }
+    Ok(())
+}
+
+// A page is put into a new site, and the keeper meets a fault.
+static FAULTY_PUT: [Case; 2] = [
+    ("ann", "acme", NewSite, MADE),
+    ("ann", "acme", Put("home", 0, PAGE), KEEPER_FAULT),
+];
+
+// The same again.
+static SAME_PUT: [Case; 1] = [("ann", "acme", Put("home", 0, PAGE), STORED)];
+
+// After the two calls that make the site, putting the page makes four, of which the last is `apply`.
+#[test]
+fn a_put_that_meets_a_fault_changes_nothing(rt: HostRuntime) -> Result<(), Fail> {
+    let alloc = rt.alloc();
+    let books = &mut [Marks::new()];
+    for (failing, call) in [
+        (3, Call::Site),
+        (4, Call::Load),
+        (5, Call::List),
+        (6, Call::Apply),
+    ] {
+        let mut keeper = Doubtful::over(keeper_failing(alloc, &[failing])?);
+        let found = first_otherwise(&rt, alloc, books, &mut keeper, &FAULTY_PUT)?;
+        assert_eq!(rt; (found, keeper.last()), (None, Some(call)));
+        let seen = look(alloc, &mut keeper, "acme", "home")?;
+        assert_eq!(rt; seen, (Some(0), None, 0, 0, 0), "{call:?}");
+        let found = first_otherwise(&rt, alloc, books, &mut keeper, &SAME_PUT)?;
+        assert_eq!(rt; found, None, "{call:?}");
+        let seen = look(alloc, &mut keeper, "acme", "home")?;
+        assert_eq!(rt; seen, (Some(1), Some(1), 1, 0, 5), "{call:?}");
     }
     Ok(())
 }
