@@ -8,7 +8,7 @@ use rule_core::Auto::{self, CantTell, Passed};
 use rule_core::Reason::{self, JudgeHeading, JudgeHeadingStart, Merged};
 use rule_core::RuleNo;
 use site_scripts::Alter::{Cut, Say};
-use site_scripts::Ask::{self, Alter, Judge, NewSite, Put, Role};
+use site_scripts::Ask::{self, Alter, Judge, JudgeBy, NewSite, Put, Role};
 use site_scripts::{
     Brief, IS_PASSED, Kind, NO_TARGET, NONE, Nodes, SAME_HAND, Why, asked, brief, keeper_failing,
 };
@@ -41,6 +41,9 @@ const HEADED: Nodes = &[
     Html(5, "h1", &[]),
     Words(8, "Opening hours"),
 ];
+
+// The digest of nothing that is known.
+const ZEROS: [u8; 32] = [0; 32];
 
 const HEADING: &str = "heading\nOpening hours";
 
@@ -94,12 +97,24 @@ static HEADINGS: [Step; 16] = [
         OPEN,
         0,
     ),
-    ("ann", Judge("home", 14, 7, Passed, "z"), IS_PASSED, OPEN, 0),
-    ("ann", Judge("home", 16, 7, Passed, "z"), SAME_HAND, OPEN, 0),
-    ("bob", Judge("home", 16, 7, Passed, "z"), MOVED, OPEN, 0),
+    (
+        "ann",
+        JudgeBy("home", 14, 7, Passed, ZEROS),
+        IS_PASSED,
+        OPEN,
+        0,
+    ),
+    (
+        "ann",
+        JudgeBy("home", 16, 7, Passed, ZEROS),
+        SAME_HAND,
+        OPEN,
+        0,
+    ),
+    ("bob", JudgeBy("home", 16, 7, Passed, ZEROS), MOVED, OPEN, 0),
     (
         "bob",
-        Judge("home", 16, 99, Passed, "z"),
+        JudgeBy("home", 16, 99, Passed, ZEROS),
         NO_TARGET,
         OPEN,
         0,
