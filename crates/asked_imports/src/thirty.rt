@@ -1,13 +1,11 @@
 //! Imports by any number of books of the thirty rules.
 
 use crate::sending::keeper_of;
-use desk_core::{Command, Reply};
+use desk_core::{Command, Reply, Summary};
 use keep_core::{Keeper, MemoryKeeper};
 use page_sketches::Node::{self, Facts, Html, Stop, Text as Hidden, Words};
 use rule_book::Thirty;
-use site_scripts::{
-    Kind, Nodes, Why, answer, brief, entry_of, page_name, stored_in, stored_numbers,
-};
+use site_scripts::{Kind, Nodes, Why, answer, brief, entry_of, page_name, stored_in};
 use snap_tree::{List, NodeId, OutOfMemory, Text};
 use std::alloc::Global;
 use std::process::Abort;
@@ -22,6 +20,14 @@ const SMALLEST: Nodes = &[
     Hidden(3, "Home", ""),
     Html(1, "body", &[]),
 ];
+
+// What that page comes to.
+const SMALLEST_SUMS: Summary = Summary {
+    passed: 3,
+    failed: 0,
+    cant_tell: 1,
+    inapplicable: 26,
+};
 
 // An ordinary page.
 const ORDINARY: Nodes = &[
@@ -63,6 +69,14 @@ const ORDINARY: Nodes = &[
     Words(23, "Menu"),
 ];
 
+// What that page comes to.
+const ORDINARY_SUMS: Summary = Summary {
+    passed: 11,
+    failed: 0,
+    cant_tell: 7,
+    inapplicable: 13,
+};
+
 fn thirties(alloc: Global, count: u32) -> Result<Vec<Thirty>, OutOfMemory> {
     let mut books = Vec::new(alloc);
     for _ in 0..count {
@@ -99,12 +113,8 @@ fn import_with(alloc: Global, p40: &[Node]) -> Result<Command, OutOfMemory> {
 }
 
 // What the page of a number comes to, of which the second is the smallest.
-fn wanted(n: u32) -> [u64; 5] {
-    if n == 2 {
-        [2, 3, 0, 1, 26]
-    } else {
-        [u64::from(n), 11, 0, 7, 13]
-    }
+fn sums_of(n: u32) -> Summary {
+    if n == 2 { SMALLEST_SUMS } else { ORDINARY_SUMS }
 }
 
 // Whether 64 pages are stored, p01 to p64.
@@ -113,7 +123,7 @@ fn are_all_stored(alloc: Global, reply: &Reply) -> Result<bool, OutOfMemory> {
     for stored in stored_in(reply) {
         n = n.saturating_add(1);
         let page = page_name(alloc, n)?;
-        if stored.page != page || stored_numbers(stored) != wanted(n) {
+        if stored.page != page || stored.rev != u64::from(n) || stored.summary != sums_of(n) {
             return Ok(false);
         }
     }
@@ -130,7 +140,7 @@ fn kept(alloc: Global, keeper: &mut MemoryKeeper) -> Result<(Option<u64>, usize)
 // The number and the node of the fault for which an import is refused, and the page; none for another reply.
 fn fault_in(reply: &Reply) -> Option<(u8, Option<NodeId>, &str)> {
     match brief(reply) {
-        (Kind::Refused(Why::Tree(fault)), page, _) => Some((fault.number(), fault.node(), page)),
+        (Kind::Refused(Why::Tree(fault)), page) => Some((fault.number(), fault.node(), page)),
         _ => None,
     }
 }

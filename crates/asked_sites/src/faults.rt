@@ -6,15 +6,17 @@ use keep_core::MemberRole;
 use rule_sketches::Marks;
 use site_scripts::Alter::Mark;
 use site_scripts::Ask::{Alter, Get, NewSite, Put, Role};
+use site_scripts::Kind::Refused;
+use site_scripts::Why::Stale;
 use site_scripts::{
-    Brief, Case, KEEPER_FAULT, Kind, NONE, PAGE, SITE_EXISTS, STALE, View, first_otherwise,
+    Brief, Case, KEEPER_FAULT, Kind, PAGE, PAGE_SUMS, SITE_EXISTS, View, first_otherwise,
     keeper_failing,
 };
 use std::test::Fail;
 
-const MADE: Brief<'static> = (Kind::Site, "acme", NONE);
+const MADE: Brief<'static> = (Kind::Site, "acme");
 
-const STORED: Brief<'static> = (Kind::Stored, "home", [1, 2, 0, 3, 1]);
+const STORED: Brief<'static> = (Kind::Stored(1, PAGE_SUMS), "home");
 
 // What is answered to making a site, making it again, and putting a page, where each call of the keeper
 // fails in turn: where the call of that number fails.
@@ -119,31 +121,38 @@ static ASKED: [Case; 8] = [
         "ann",
         "acme",
         Alter("home", 1, &[Mark(2, "y")]),
-        (Kind::Stored, "home", [2, 2, 0, 3, 1]),
+        (Kind::Stored(2, PAGE_SUMS), "home"),
     ),
     (
         "ann",
         "acme",
         Alter("home", 1, &[Mark(2, "y")]),
-        (STALE, "", [2, 0, 0, 0, 0]),
+        (Refused(Stale(2)), ""),
     ),
     (
         "ann",
         "acme",
         Role("bob", Some(MemberRole::Reader)),
-        (Kind::Member(Some(MemberRole::Reader)), "bob", NONE),
+        (Kind::Member(Some(MemberRole::Reader)), "bob"),
     ),
     (
         "ann",
         "acme",
         Get(View::Page, "home"),
-        (Kind::Page, "home", [2, 3, 0, 0, 0]),
+        (Kind::Page { rev: 2, nodes: 3 }, "home"),
     ),
     (
         "ann",
         "acme",
         Get(View::Outcomes, "home"),
-        (Kind::Outcomes, "home", [2, 5, 3, 0, 0]),
+        (
+            Kind::Outcomes {
+                rev: 2,
+                rows: 5,
+                open: 3,
+            },
+            "home",
+        ),
     ),
 ];
 

@@ -183,10 +183,10 @@ impl Tally {
     // Only a refused import names a page.
     fn take(&mut self, said: Brief) {
         match said {
-            (Kind::Refused(Why::Stale), page, _) if !page.is_empty() => count(&mut self.stale),
-            (Kind::Refused(Why::Tree(_)), page, _) if !page.is_empty() => count(&mut self.astray),
-            (Kind::Refused(_), _, _) => {}
-            (Kind::Imported, _, _) => {
+            (Kind::Refused(Why::Stale(_)), page) if !page.is_empty() => count(&mut self.stale),
+            (Kind::Refused(Why::Tree(_)), page) if !page.is_empty() => count(&mut self.astray),
+            (Kind::Refused(_), _) => {}
+            (Kind::Imported(_), _) => {
                 count(&mut self.accepted);
                 count(&mut self.imported);
             }
