@@ -8,7 +8,6 @@ use Rattle.desk_core.specs.declared.refusal.Refusal.TheVariants as refusal
 use Rattle.desk_core.specs.declared.reply.Reply.{Reply}
 use Rattle.desk_core.specs.declared.reply.Reply.TheVariants as reply
 use Rattle.desk_core.specs.declared.reply.Stored.{Stored}
-use Rattle.desk_core.specs.declared.reply.Sheet.{Sheet}
 use Rattle.desk_core.specs.Summaries.{ended}
 use Rattle.site_scripts.specs.declared.briefs.Why.{Why}
 use Rattle.site_scripts.specs.declared.briefs.Why.TheVariants as why
