@@ -3,17 +3,19 @@
 use crate::sending::{Kept, Sent, are_stored, import_of, keeper_of};
 use keep_core::MemoryKeeper;
 use rule_sketches::Marks;
+use site_scripts::Kind::Refused;
+use site_scripts::Why::Stale;
 use site_scripts::{
-    ASTRAY, Brief, KEEPER_FAULT, Kind, LOST, NEEDS_EDITOR, NO_SITE, NONE, PAGE, STALE, answer,
-    brief, keeper_failing,
+    ASTRAY, Brief, KEEPER_FAULT, Kind, LOST, NEEDS_EDITOR, NO_SITE, PAGE, PAGE_SUMS, answer, brief,
+    keeper_failing,
 };
 use std::alloc::Global;
 use std::test::Fail;
 use std::thread::Threads;
 
-const IMPORTED_TWO: Brief<'static> = (Kind::Imported, "", [2, 0, 0, 0, 0]);
+const IMPORTED_TWO: Brief<'static> = (Kind::Imported(2), "");
 
-const IMPORTED_THREE: Brief<'static> = (Kind::Imported, "", [3, 0, 0, 0, 0]);
+const IMPORTED_THREE: Brief<'static> = (Kind::Imported(3), "");
 
 /// Who imports what, what is answered, and the pages that are stored.
 type Import = (
@@ -30,39 +32,39 @@ static IMPORTS: [Import; 8] = [
         "ann",
         &[(1, 0, PAGE), (2, 0, PAGE)],
         IMPORTED_TWO,
-        &[("p01", [1, 2, 0, 3, 1]), ("p02", [2, 2, 0, 3, 1])],
+        &[("p01", 1, PAGE_SUMS), ("p02", 2, PAGE_SUMS)],
     ),
     (
         "ann",
         &[(3, 0, PAGE), (4, 0, ASTRAY), (5, 0, ASTRAY)],
-        (LOST, "p04", NONE),
+        (LOST, "p04"),
         &[],
     ),
     // A revision that isn't current comes before a tree's fault of an earlier page.
     (
         "ann",
         &[(4, 0, ASTRAY), (1, 0, PAGE), (2, 0, PAGE)],
-        (STALE, "p01", [1, 0, 0, 0, 0]),
+        (Refused(Stale(1)), "p01"),
         &[],
     ),
     (
         "ann",
         &[(2, 1, PAGE), (1, 2, PAGE)],
-        (STALE, "p02", [2, 0, 0, 0, 0]),
+        (Refused(Stale(2)), "p02"),
         &[],
     ),
-    ("ann", &[(3, 3, PAGE)], (STALE, "p03", NONE), &[]),
+    ("ann", &[(3, 3, PAGE)], (Refused(Stale(0)), "p03"), &[]),
     (
         "ann",
         &[(1, 1, PAGE), (3, 0, PAGE), (2, 2, PAGE)],
         IMPORTED_THREE,
         &[
-            ("p01", [3, 2, 0, 3, 1]),
-            ("p03", [4, 2, 0, 3, 1]),
-            ("p02", [5, 2, 0, 3, 1]),
+            ("p01", 3, PAGE_SUMS),
+            ("p03", 4, PAGE_SUMS),
+            ("p02", 5, PAGE_SUMS),
         ],
     ),
-    ("ann", &[(1, 1, PAGE)], (STALE, "p01", [3, 0, 0, 0, 0]), &[]),
+    ("ann", &[(1, 1, PAGE)], (Refused(Stale(3)), "p01"), &[]),
 ];
 
 // Whether an import is answered so, and stores these pages.
@@ -106,7 +108,7 @@ static FAULTY: [Import; 2] = [
         "ann",
         &[(1, 0, PAGE), (2, 0, PAGE)],
         IMPORTED_TWO,
-        &[("p01", [1, 2, 0, 3, 1]), ("p02", [2, 2, 0, 3, 1])],
+        &[("p01", 1, PAGE_SUMS), ("p02", 2, PAGE_SUMS)],
     ),
 ];
 

@@ -1,5 +1,6 @@
 //! Judgements of the thirty rules' outcomes.
 
+use desk_core::Summary;
 use judge_core::OutRow;
 use keep_core::{Keeper, MemberRole, MemoryKeeper};
 use page_sketches::Node::{Html, Stop, Words};
@@ -8,9 +9,11 @@ use rule_core::Auto::{self, CantTell, Passed};
 use rule_core::Reason::{self, JudgeHeading, JudgeHeadingStart, Merged};
 use rule_core::RuleNo;
 use site_scripts::Alter::{Cut, Say};
-use site_scripts::Ask::{self, Alter, Judge, NewSite, Put, Role};
+use site_scripts::Ask::{self, Alter, Judge, JudgeBy, NewSite, Put, Role};
+use site_scripts::Kind::Refused;
+use site_scripts::Why::Moved;
 use site_scripts::{
-    Brief, IS_PASSED, Kind, NO_TARGET, NONE, Nodes, SAME_HAND, Why, asked, brief, keeper_failing,
+    Brief, IS_PASSED, Kind, NO_TARGET, Nodes, SAME_HAND, asked, brief, keeper_failing,
 };
 use snap_tree::{NodeId, Text};
 use std::alloc::Global;
@@ -29,6 +32,30 @@ const HOURS: Nodes = &[
     Words(7, "Opening hours"),
 ];
 
+// What that page comes to when nobody has judged.
+const OPEN_SUMS: Summary = Summary {
+    passed: 4,
+    failed: 0,
+    cant_tell: 2,
+    inapplicable: 24,
+};
+
+// What it comes to when the heading is judged to have passed.
+const JUDGED_SUMS: Summary = Summary {
+    passed: 5,
+    failed: 0,
+    cant_tell: 1,
+    inapplicable: 24,
+};
+
+// What it comes to without the heading.
+const CUT_SUMS: Summary = Summary {
+    passed: 3,
+    failed: 0,
+    cant_tell: 1,
+    inapplicable: 26,
+};
+
 // A page of which one rule of four on bypassing finds something that a person has to judge.
 const HEADED: Nodes = &[
     Html(0, "html", &[("lang", "en")]),
@@ -42,17 +69,35 @@ const HEADED: Nodes = &[
     Words(8, "Opening hours"),
 ];
 
+// What that page comes to when nobody has judged.
+const HEADED_SUMS: Summary = Summary {
+    passed: 5,
+    failed: 3,
+    cant_tell: 4,
+    inapplicable: 18,
+};
+
+// What it comes to when its heading is judged to have passed.
+const BYPASSED_SUMS: Summary = Summary {
+    passed: 7,
+    failed: 3,
+    cant_tell: 2,
+    inapplicable: 18,
+};
+
+// The digest of nothing that is known.
+const ZEROS: [u8; 32] = [0; 32];
+
 const HEADING: &str = "heading\nOpening hours";
 
 // The digest of that.
 const MOVED: Brief<'static> = (
-    Kind::Refused(Why::Moved([
+    Refused(Moved([
         0x37, 0x96, 0x5c, 0x21, 0xb5, 0xb3, 0x48, 0x58, 0x50, 0x4c, 0x81, 0x82, 0x50, 0x08, 0x23,
         0xc1, 0x63, 0x5c, 0x9a, 0x40, 0xfb, 0x43, 0xba, 0x91, 0xc5, 0x1a, 0xd4, 0xec, 0xcd, 0x40,
         0x43, 0x64,
     ])),
     "",
-    NONE,
 );
 
 /// The outcome of a rule on a node of a page: what is found automatically, why, what is the last word, and
@@ -76,30 +121,42 @@ static HEADINGS: [Step; 16] = [
     (
         "ann",
         NewSite,
-        (Kind::Site, "acme", NONE),
+        (Kind::Site, "acme"),
         ("home", 16, 7, None),
         0,
     ),
     (
         "ann",
         Role("bob", Some(MemberRole::Judge)),
-        (Kind::Member(Some(MemberRole::Judge)), "bob", NONE),
+        (Kind::Member(Some(MemberRole::Judge)), "bob"),
         ("home", 16, 7, None),
         0,
     ),
     (
         "ann",
         Put("home", 0, HOURS),
-        (Kind::Stored, "home", [1, 4, 0, 2, 24]),
+        (Kind::Stored(1, OPEN_SUMS), "home"),
         OPEN,
         0,
     ),
-    ("ann", Judge("home", 14, 7, Passed, "z"), IS_PASSED, OPEN, 0),
-    ("ann", Judge("home", 16, 7, Passed, "z"), SAME_HAND, OPEN, 0),
-    ("bob", Judge("home", 16, 7, Passed, "z"), MOVED, OPEN, 0),
+    (
+        "ann",
+        JudgeBy("home", 14, 7, Passed, ZEROS),
+        IS_PASSED,
+        OPEN,
+        0,
+    ),
+    (
+        "ann",
+        JudgeBy("home", 16, 7, Passed, ZEROS),
+        SAME_HAND,
+        OPEN,
+        0,
+    ),
+    ("bob", JudgeBy("home", 16, 7, Passed, ZEROS), MOVED, OPEN, 0),
     (
         "bob",
-        Judge("home", 16, 99, Passed, "z"),
+        JudgeBy("home", 16, 99, Passed, ZEROS),
         NO_TARGET,
         OPEN,
         0,
@@ -107,63 +164,84 @@ static HEADINGS: [Step; 16] = [
     (
         "bob",
         Judge("home", 16, 7, Passed, HEADING),
-        (Kind::Judged(Passed), "", [16, 7, 0, 0, 0]),
+        (
+            Kind::Judged {
+                rule: 16,
+                node: 7,
+                outcome: Passed,
+            },
+            "",
+        ),
         BOB,
         1,
     ),
     (
         "bob",
         Judge("home", 16, 7, Passed, HEADING),
-        (Kind::Judged(Passed), "", [16, 7, 0, 0, 0]),
+        (
+            Kind::Judged {
+                rule: 16,
+                node: 7,
+                outcome: Passed,
+            },
+            "",
+        ),
         BOB,
         1,
     ),
     (
         "ann",
         Put("home", 1, HOURS),
-        (Kind::Stored, "home", [2, 5, 0, 1, 24]),
+        (Kind::Stored(2, JUDGED_SUMS), "home"),
         BOB,
         1,
     ),
     (
         "ann",
         Alter("home", 2, &[Say(8, "Hours")]),
-        (Kind::Stored, "home", [3, 4, 0, 2, 24]),
+        (Kind::Stored(3, OPEN_SUMS), "home"),
         OPEN,
         1,
     ),
     (
         "ann",
         Alter("home", 3, &[Say(8, "Opening hours")]),
-        (Kind::Stored, "home", [4, 5, 0, 1, 24]),
+        (Kind::Stored(4, JUDGED_SUMS), "home"),
         BOB,
         1,
     ),
     (
         "ann",
         Alter("home", 4, &[Cut(7)]),
-        (Kind::Stored, "home", [5, 3, 0, 1, 26]),
+        (Kind::Stored(5, CUT_SUMS), "home"),
         ("home", 16, 7, None),
         1,
     ),
     (
         "ann",
         Put("home", 5, HOURS),
-        (Kind::Stored, "home", [6, 5, 0, 1, 24]),
+        (Kind::Stored(6, JUDGED_SUMS), "home"),
         BOB,
         1,
     ),
     (
         "ann",
         Put("start", 0, HOURS),
-        (Kind::Stored, "start", [7, 4, 0, 2, 24]),
+        (Kind::Stored(7, OPEN_SUMS), "start"),
         ("start", 16, 7, Some((CantTell, JudgeHeading, CantTell, ""))),
         0,
     ),
     (
         "bob",
         Judge("start", 2, 1, Passed, "Library\nhttps://example.org/"),
-        (Kind::Judged(Passed), "", [2, 1, 0, 0, 0]),
+        (
+            Kind::Judged {
+                rule: 2,
+                node: 1,
+                outcome: Passed,
+            },
+            "",
+        ),
         BOB,
         1,
     ),
@@ -174,42 +252,49 @@ static BYPASSED: [Step; 6] = [
     (
         "ann",
         NewSite,
-        (Kind::Site, "acme", NONE),
+        (Kind::Site, "acme"),
         ("home", 30, 1, None),
         0,
     ),
     (
         "ann",
         Role("bob", Some(MemberRole::Judge)),
-        (Kind::Member(Some(MemberRole::Judge)), "bob", NONE),
+        (Kind::Member(Some(MemberRole::Judge)), "bob"),
         ("home", 30, 1, None),
         0,
     ),
     (
         "ann",
         Put("home", 0, HEADED),
-        (Kind::Stored, "home", [1, 5, 3, 4, 18]),
+        (Kind::Stored(1, HEADED_SUMS), "home"),
         ("home", 30, 1, Some((CantTell, Merged, CantTell, ""))),
         0,
     ),
     (
         "bob",
         Judge("home", 26, 1, Passed, "Opening hours"),
-        (Kind::Judged(Passed), "", [26, 1, 0, 0, 0]),
+        (
+            Kind::Judged {
+                rule: 26,
+                node: 1,
+                outcome: Passed,
+            },
+            "",
+        ),
         ("home", 30, 1, Some((CantTell, Merged, Passed, ""))),
         1,
     ),
     (
         "ann",
         Alter("home", 1, &[Say(9, "Hours")]),
-        (Kind::Stored, "home", [2, 5, 3, 4, 18]),
+        (Kind::Stored(2, HEADED_SUMS), "home"),
         ("home", 30, 1, Some((CantTell, Merged, CantTell, ""))),
         1,
     ),
     (
         "ann",
         Alter("home", 2, &[Say(9, "Opening hours")]),
-        (Kind::Stored, "home", [3, 7, 3, 2, 18]),
+        (Kind::Stored(3, BYPASSED_SUMS), "home"),
         (
             "home",
             26,

@@ -1,14 +1,16 @@
 //! A site that is full, and whose revisions end.
 
 use crate::sending::series;
-use desk_core::{Command, MOST_REVISION};
-use keep_core::{Batch, Change, Keeper, MemberRole, MemoryKeeper};
+use desk_core::Command;
+use keep_core::{Batch, Change, Keeper, MOST_REVISION, MemberRole, MemoryKeeper};
 use rule_sketches::Marks;
 use site_scripts::Alter::Mark;
 use site_scripts::Ask::{Alter, Gone, Put, Role};
+use site_scripts::Kind::Refused;
+use site_scripts::Why::Stale;
 use site_scripts::{
-    ASTRAY, Brief, Case, Kind, NEEDS_EDITOR, NO_MORE_PAGES, NO_MORE_REVISIONS, NO_PAGE, NONE, PAGE,
-    STALE, answer, brief, first_otherwise, keeper_failing, site_at,
+    ASTRAY, Brief, Case, Kind, NEEDS_EDITOR, NO_MORE_PAGES, NO_MORE_REVISIONS, NO_PAGE, PAGE,
+    PAGE_SUMS, answer, brief, first_otherwise, keeper_failing, site_at,
 };
 use std::alloc::Global;
 use std::process::Abort;
@@ -29,13 +31,13 @@ static MEMBERS: [Case; 2] = [
         "ann",
         "acme",
         Role("eda", Some(MemberRole::Editor)),
-        (Kind::Member(Some(MemberRole::Editor)), "eda", NONE),
+        (Kind::Member(Some(MemberRole::Editor)), "eda"),
     ),
     (
         "ann",
         "acme",
         Role("rea", Some(MemberRole::Reader)),
-        (Kind::Member(Some(MemberRole::Reader)), "rea", NONE),
+        (Kind::Member(Some(MemberRole::Reader)), "rea"),
     ),
 ];
 
@@ -48,13 +50,13 @@ static FULL: [Case; 14] = [
         "eda",
         "acme",
         Put("p00", 5, ASTRAY),
-        (STALE, "", [9_223_372_036_854_775_307, 0, 0, 0, 0]),
+        (Refused(Stale(9_223_372_036_854_775_307)), ""),
     ),
     (
         "eda",
         "acme",
         Put("p00", 9_223_372_036_854_775_307, PAGE),
-        (Kind::Stored, "p00", [9_223_372_036_854_775_807, 2, 0, 3, 1]),
+        (Kind::Stored(9_223_372_036_854_775_807, PAGE_SUMS), "p00"),
     ),
     (
         "rea",
@@ -75,13 +77,13 @@ static FULL: [Case; 14] = [
         "eda",
         "acme",
         Gone("p00", 5),
-        (STALE, "", [9_223_372_036_854_775_807, 0, 0, 0, 0]),
+        (Refused(Stale(9_223_372_036_854_775_807)), ""),
     ),
     (
         "eda",
         "acme",
         Gone("p00", MOST_REVISION),
-        (Kind::Dropped, "p00", NONE),
+        (Kind::Dropped, "p00"),
     ),
     ("eda", "acme", Put("new", 0, PAGE), NO_MORE_REVISIONS),
     ("eda", "acme", Put("p01", 5, ASTRAY), NO_MORE_REVISIONS),
@@ -108,7 +110,7 @@ fn is_answered<R: Threads + Sync>(
     Ok(brief(&reply) == wanted)
 }
 
-const FIFTY: Brief<'static> = (Kind::Imported, "", [50, 0, 0, 0, 0]);
+const FIFTY: Brief<'static> = (Kind::Imported(50), "");
 
 // A keeper of the site acme with 500 pages and one revision left.
 fn full<R: Threads + Sync + Abort>(rt: &R, alloc: Global) -> Result<MemoryKeeper, Fail> {
@@ -116,7 +118,7 @@ fn full<R: Threads + Sync + Abort>(rt: &R, alloc: Global) -> Result<MemoryKeeper
     let found = first_otherwise(rt, alloc, &mut [Marks::new()], &mut keeper, &MEMBERS)?;
     assert_eq!(rt; found, None);
     for turn in 0..10 {
-        let import = series(alloc, turn * 50, turn * 50 + 50, PAGE, (500, PAGE))?;
+        let import = series(alloc, turn * 50, turn * 50 + 50, PAGE)?;
         assert!(rt;
             is_answered(rt, alloc, &mut keeper, "eda", import, FIFTY)?,
             "{turn}"
@@ -130,7 +132,7 @@ fn a_site_holds_500_pages(rt: HostRuntime) -> Result<(), Fail> {
     let alloc = rt.alloc();
     let mut keeper = full(&rt, alloc)?;
     for (caller, from, wanted) in IMPORTS.as_slice() {
-        let import = series(alloc, *from, from.saturating_add(2), ASTRAY, (0, ASTRAY))?;
+        let import = series(alloc, *from, from.saturating_add(2), ASTRAY)?;
         assert!(rt;
             is_answered(&rt, alloc, &mut keeper, caller, import, *wanted)?,
             "{from}"

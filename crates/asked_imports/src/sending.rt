@@ -1,12 +1,10 @@
 //! Imports as tables, and what they store.
 
-use desk_core::{Command, Reply};
+use desk_core::{Command, Reply, Summary};
 use keep_core::{MemberRole, MemoryKeeper};
 use rule_sketches::Marks;
 use site_scripts::Ask::{NewSite, Role};
-use site_scripts::{
-    Case, Kind, NONE, Nodes, entry_of, first_otherwise, keeper_failing, stored_in, stored_numbers,
-};
+use site_scripts::{Case, Kind, Nodes, entry_of, first_otherwise, keeper_failing, stored_in};
 use snap_tree::{List, OutOfMemory, Text};
 use std::alloc::Global;
 use std::test::Fail;
@@ -16,7 +14,7 @@ use std::thread::Threads;
 pub type Sent = (u32, u64, Nodes);
 
 /// A page that is stored: its name, its revision, and what its outcomes come to.
-pub type Kept = (&'static str, [u64; 5]);
+pub type Kept = (&'static str, u64, Summary);
 
 /// The import of some pages into the site acme.
 pub fn import_of(alloc: Global, sent: &[Sent]) -> Result<Command, OutOfMemory> {
@@ -30,28 +28,22 @@ pub fn import_of(alloc: Global, sent: &[Sent]) -> Result<Command, OutOfMemory> {
     })
 }
 
-/// The import into acme of new pages from one number to below another, of the same nodes but for one.
-pub fn series(
-    alloc: Global,
-    from: u32,
-    to: u32,
-    nodes: Nodes,
-    other: (u32, Nodes),
-) -> Result<Command, OutOfMemory> {
+/// The import into acme of new pages from one number to below another, of the same nodes.
+pub fn series(alloc: Global, from: u32, to: u32, nodes: Nodes) -> Result<Command, OutOfMemory> {
     let mut sent = Vec::new(alloc);
     for n in from..to {
-        sent.push((n, 0, if n == other.0 { other.1 } else { nodes }))?;
+        sent.push((n, 0, nodes))?;
     }
     import_of(alloc, sent.as_slice())
 }
 
 static MADE: [Case; 2] = [
-    ("ann", "acme", NewSite, (Kind::Site, "acme", NONE)),
+    ("ann", "acme", NewSite, (Kind::Site, "acme")),
     (
         "ann",
         "acme",
         Role("rea", Some(MemberRole::Reader)),
-        (Kind::Member(Some(MemberRole::Reader)), "rea", NONE),
+        (Kind::Member(Some(MemberRole::Reader)), "rea"),
     ),
 ];
 
@@ -70,8 +62,8 @@ pub fn keeper_of<R: Threads + Sync>(
 /// Whether these pages are stored by an import.
 pub fn are_stored(reply: &Reply, wanted: &[Kept]) -> bool {
     let pages = stored_in(reply);
-    for (stored, (page, numbers)) in pages.iter().zip(wanted.iter()) {
-        if stored.page.as_str() != *page || stored_numbers(stored) != *numbers {
+    for (stored, (page, rev, sums)) in pages.iter().zip(wanted.iter()) {
+        if stored.page.as_str() != *page || stored.rev != *rev || stored.summary != *sums {
             return false;
         }
     }

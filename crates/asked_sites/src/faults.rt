@@ -1,19 +1,22 @@
 //! Keepers that fail, and one that ceases to tell what it keeps.
 
-use crate::doubtful::Doubtful;
+use crate::doubtful::{Call, Doubtful};
+use crate::keeping::look;
 use keep_core::MemberRole;
 use rule_sketches::Marks;
 use site_scripts::Alter::Mark;
 use site_scripts::Ask::{Alter, Get, NewSite, Put, Role};
+use site_scripts::Kind::Refused;
+use site_scripts::Why::Stale;
 use site_scripts::{
-    Brief, Case, KEEPER_FAULT, Kind, NONE, PAGE, SITE_EXISTS, STALE, View, first_otherwise,
+    Brief, Case, KEEPER_FAULT, Kind, PAGE, PAGE_SUMS, SITE_EXISTS, View, first_otherwise,
     keeper_failing,
 };
 use std::test::Fail;
 
-const MADE: Brief<'static> = (Kind::Site, "acme", NONE);
+const MADE: Brief<'static> = (Kind::Site, "acme");
 
-const STORED: Brief<'static> = (Kind::Stored, "home", [1, 2, 0, 3, 1]);
+const STORED: Brief<'static> = (Kind::Stored(1, PAGE_SUMS), "home");
 
 // What is answered to making a site, making it again, and putting a page, where each call of the keeper
 // fails in turn: where the call of that number fails.
@@ -71,6 +74,39 @@ fn a_fault_of_the_keeper_is_of_one_request(rt: HostRuntime) -> Result<(), Fail> 
     Ok(())
 }
 
+// A page is put into a new site, and the keeper meets a fault.
+static FAULTY_PUT: [Case; 2] = [
+    ("ann", "acme", NewSite, MADE),
+    ("ann", "acme", Put("home", 0, PAGE), KEEPER_FAULT),
+];
+
+// The same again.
+static SAME_PUT: [Case; 1] = [("ann", "acme", Put("home", 0, PAGE), STORED)];
+
+// After the two calls that make the site, putting the page makes four, of which the last is `apply`.
+#[test]
+fn a_put_that_meets_a_fault_changes_nothing(rt: HostRuntime) -> Result<(), Fail> {
+    let alloc = rt.alloc();
+    let books = &mut [Marks::new()];
+    for (failing, call) in [
+        (3, Call::Site),
+        (4, Call::Load),
+        (5, Call::List),
+        (6, Call::Apply),
+    ] {
+        let mut keeper = Doubtful::over(keeper_failing(alloc, &[failing])?);
+        let found = first_otherwise(&rt, alloc, books, &mut keeper, &FAULTY_PUT)?;
+        assert_eq!(rt; (found, keeper.last()), (None, Some(call)));
+        let seen = look(alloc, &mut keeper, "acme", "home")?;
+        assert_eq!(rt; seen, (Some(0), None, 0, 0, 0), "{call:?}");
+        let found = first_otherwise(&rt, alloc, books, &mut keeper, &SAME_PUT)?;
+        assert_eq!(rt; found, None, "{call:?}");
+        let seen = look(alloc, &mut keeper, "acme", "home")?;
+        assert_eq!(rt; seen, (Some(1), Some(1), 1, 0, 5), "{call:?}");
+    }
+    Ok(())
+}
+
 // What is asked of a keeper whose eighth call fails, and what is answered.
 static ASKED: [Case; 8] = [
     ("ann", "acme", NewSite, MADE),
@@ -85,31 +121,38 @@ static ASKED: [Case; 8] = [
         "ann",
         "acme",
         Alter("home", 1, &[Mark(2, "y")]),
-        (Kind::Stored, "home", [2, 2, 0, 3, 1]),
+        (Kind::Stored(2, PAGE_SUMS), "home"),
     ),
     (
         "ann",
         "acme",
         Alter("home", 1, &[Mark(2, "y")]),
-        (STALE, "", [2, 0, 0, 0, 0]),
+        (Refused(Stale(2)), ""),
     ),
     (
         "ann",
         "acme",
         Role("bob", Some(MemberRole::Reader)),
-        (Kind::Member(Some(MemberRole::Reader)), "bob", NONE),
+        (Kind::Member(Some(MemberRole::Reader)), "bob"),
     ),
     (
         "ann",
         "acme",
         Get(View::Page, "home"),
-        (Kind::Page, "home", [2, 3, 0, 0, 0]),
+        (Kind::Page { rev: 2, nodes: 3 }, "home"),
     ),
     (
         "ann",
         "acme",
         Get(View::Outcomes, "home"),
-        (Kind::Outcomes, "home", [2, 5, 3, 0, 0]),
+        (
+            Kind::Outcomes {
+                rev: 2,
+                rows: 5,
+                open: 3,
+            },
+            "home",
+        ),
     ),
 ];
 

@@ -4,15 +4,17 @@ ghost use Rattle.std.specs.Prelude.{◌≡◌, ◌∷◌, [], IfOk};
 ghost use Rattle.keep_core.specs.Fits.{Fits, FitsPage};
 
 use crate::doubtful::Doubtful;
+use crate::soundness::is_sound;
 use judge_core::{Judgement, OutRow, Outcomes};
 use keep_core::{
-    Batch, Change, Keeper, MemoryKeeper, Page, PageHead, PagePut, is_name, laws_of_changes,
+    Batch, Change, Keeper, MemoryKeeper, Page, PageHead, PagePut, SitePage, is_name,
+    laws_of_changes,
 };
 use page_sketches::Node::Html;
 use rule_core::Auto::{CantTell, Passed};
 use rule_core::{Reason, RuleNo};
 use site_scripts::{Unasked, keeper_failing, named, site_at};
-use snap_tree::{List, NodeId, OutOfMemory, Text};
+use snap_tree::{Duplicate, List, NodeId, OutOfMemory, Text};
 use std::alloc::Global;
 use std::process::Abort;
 use std::test::Fail;
@@ -60,9 +62,9 @@ enum Step {
     Drop,
 }
 
-// What a keeper answers of the site and the page: the counter, the page's revision, how many pages the site has,
-// and how many judgements and rows of outcomes the page has.
-type Seen = (Option<u64>, Option<u64>, usize, usize, usize);
+/// What a keeper answers of a site and a page: the counter, the page's revision, how many pages the site has,
+/// and how many judgements and rows of outcomes the page has.
+pub type Seen = (Option<u64>, Option<u64>, usize, usize, usize);
 
 const NOTHING: Seen = (None, None, 0, 0, 0);
 
@@ -112,14 +114,19 @@ fn outcomes(alloc: Global) -> Result<Outcomes, OutOfMemory> {
     Ok(Outcomes { rows })
 }
 
+fn page_put(rt: &impl Abort, alloc: Global, rev: u16) -> Result<PagePut, Fail>
+    ensures { IfOk result (λ put. FitsPage put.page) }
+{
+    let page = page(rt, alloc, rev)?;
+    let outcomes = outcomes(alloc)?;
+    Ok(PagePut { page, outcomes })
+}
+
 fn put_pages(rt: &impl Abort, alloc: Global, rev: u16) -> Result<Change, Fail>
     ensures { IfOk result Fits }
 {
     let site = named(alloc, "s")?;
-    let put = PagePut {
-        page: page(rt, alloc, rev)?,
-        outcomes: outcomes(alloc)?,
-    };
+    let put = page_put(rt, alloc, rev)?;
     let pages = one(alloc, put)?;
     Ok(Change::PutPages {
         site,
@@ -178,9 +185,15 @@ fn change(rt: &impl Abort, alloc: Global, step: Step) -> Result<Change, Fail>
     }
 }
 
-fn look<K: Keeper>(alloc: Global, keeper: &mut K) -> Result<Seen, Fail> {
-    let site = Text::from_str(alloc, "s")?;
-    let page = Text::from_str(alloc, "p")?;
+/// What a keeper answers of a site and a page.
+pub fn look<K: Keeper>(
+    alloc: Global,
+    keeper: &mut K,
+    site: &str,
+    page: &str,
+) -> Result<Seen, Fail> {
+    let site = Text::from_str(alloc, site)?;
+    let page = Text::from_str(alloc, page)?;
     let counter = keeper.site(alloc, &site)?.map(|site| site.counter);
     let rev = keeper.load(alloc, &site, &page)?.map(|page| page.head.rev);
     let pages = keeper.list(alloc, &site)?.len();
@@ -196,9 +209,42 @@ fn each_change_is_seen(rt: HostRuntime) -> Result<(), Fail> {
     for (step, wanted) in STEPS.as_slice() {
         let change = change(&rt, alloc, *step)?;
         keeper.apply(alloc, &Batch { change })?;
-        assert_eq!(rt; look(alloc, &mut keeper)?, *wanted, "{step:?}");
+        assert_eq!(rt; look(alloc, &mut keeper, "s", "p")?, *wanted, "{step:?}");
     }
     laws_of_changes();
+    Ok(())
+}
+
+// The page's one row of outcomes is no book's.
+#[test]
+fn what_is_not_sound_is_found(rt: HostRuntime) -> Result<(), Fail> {
+    let alloc = rt.alloc();
+    let mut keeper = keeper_failing(alloc, &[])?;
+    let site = Text::from_str(alloc, "s")?;
+    for (step, wanted) in [(Step::Site, true), (Step::Page(1), false)] {
+        let change = change(&rt, alloc, step)?;
+        keeper.apply(alloc, &Batch { change })?;
+        assert_eq!(rt; is_sound(alloc, &mut keeper, &site)?, wanted, "{step:?}");
+    }
+    Ok(())
+}
+
+#[test]
+fn copies_are_equal(rt: HostRuntime) -> Result<(), Fail> {
+    let alloc = rt.alloc();
+    let put = page_put(&rt, alloc, 1)?;
+    let copy = put.copy(alloc)?;
+    assert_eq!(rt; copy.page.head, put.page.head);
+    assert_eq!(rt; copy.page.tree.address(), put.page.tree.address());
+    assert_eq!(rt; copy.page.tree.rows().len(), 1);
+    assert!(rt; copy.page.tree.rows()[0].is_html("html"));
+    assert_eq!(rt; copy.outcomes, put.outcomes);
+    let shown = SitePage {
+        head: put.page.head,
+        address: put.page.tree.address().copy(alloc)?,
+        outcomes: put.outcomes,
+    };
+    assert_eq!(rt; shown.copy(alloc)?, shown);
     Ok(())
 }
 
@@ -232,7 +278,7 @@ fn the_calls_that_the_list_names_fail(rt: HostRuntime) -> Result<(), Fail> {
         for (place, failed) in fails.iter().enumerate() {
             assert_eq!(rt; *failed, place as u64 + 1 == named, "{place} of {named}");
         }
-        let seen = look(alloc, &mut keeper)?;
+        let seen = look(alloc, &mut keeper, "s", "p")?;
         assert_eq!(rt; seen == NOTHING, named == 6, "{named}");
     }
     Ok(())
@@ -247,6 +293,6 @@ fn a_keeper_may_cease_to_tell(rt: HostRuntime) -> Result<(), Fail> {
     let mut keeper = Doubtful::over(memory);
     let site = Text::from_str(alloc, "s")?;
     assert!(rt; keeper.site(alloc, &site).is_err());
-    assert_eq!(rt; look(alloc, &mut keeper)?, STEPS[0].1);
+    assert_eq!(rt; look(alloc, &mut keeper, "s", "p")?, STEPS[0].1);
     Ok(())
 }

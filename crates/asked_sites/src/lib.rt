@@ -12,3 +12,5 @@ mod keeping;
 mod random;
 #[cfg(test)]
 mod scripts;
+#[cfg(test)]
+mod soundness;

@@ -1,15 +1,18 @@
 //! A thousand requests at random, after which what is kept is sound.
 
-use desk_core::Reply;
-use keep_core::{Keeper, Member, MemberRole, MemoryKeeper, PageHead};
+use crate::soundness::is_sound;
+use desk_core::{Command, Entry};
+use keep_core::{Keeper, MemberRole, MemoryKeeper};
 use page_sketches::Node::Html;
-use reaudit::audit_page;
+use page_sketches::raw;
 use rule_core::Auto::{CantTell, Failed, Passed};
 use rule_sketches::Marks;
 use site_scripts::Alter::{Cut, Mark};
 use site_scripts::Ask::{self, Alter, Gone, Judge, NewSite, Put, Role};
-use site_scripts::{ASTRAY, Alter as Edit, Nodes, PAGE, asked, keeper_failing};
-use snap_tree::Text;
+use site_scripts::{
+    ASTRAY, Alter as Edit, Brief, Kind, Nodes, PAGE, Why, answer, brief, command_of, keeper_failing,
+};
+use snap_tree::{List, Text};
 use std::alloc::Global;
 use std::test::Fail;
 use std::thread::Threads;
@@ -41,6 +44,18 @@ static USERS: [&str; 4] = ["ann", "ann", "bob", "eve"];
 static SITES: [&str; 2] = ["acme", "beta"];
 
 static PAGES: [&str; 3] = ["away", "home", "news"];
+
+// The pages of an import.
+static IMPORTED: [&[&str]; 8] = [
+    &["home"],
+    &["shop"],
+    &["away", "home"],
+    &["news", "away"],
+    &["shop", "news"],
+    &["away", "home", "news"],
+    &["news", "shop", "away"],
+    &["home", "away", "shop"],
+];
 
 static ROLES: [Option<MemberRole>; 6] = [
     None,
@@ -101,68 +116,100 @@ fn drawn(dice: &mut Dice, page: &'static str, rev: u64) -> Ask {
     }
 }
 
-// One request more; whether it is accepted.
+// The revision that the sender of a page saw: the current one, or now and then the first.
+fn seen(
+    alloc: Global,
+    dice: &mut Dice,
+    keeper: &mut MemoryKeeper,
+    site: &str,
+    page: &str,
+) -> Result<u64, Fail> {
+    if dice.below(4) == 0 {
+        return Ok(1);
+    }
+    current(alloc, keeper, site, page)
+}
+
+// An import of some pages.
+fn importing(
+    alloc: Global,
+    dice: &mut Dice,
+    keeper: &mut MemoryKeeper,
+    site: &str,
+) -> Result<Command, Fail> {
+    let mut entries = Vec::new(alloc);
+    for page in dice.pick(&IMPORTED, &[]) {
+        let rev = seen(alloc, dice, keeper, site, page)?;
+        let raw = raw(alloc, dice.pick(&SENT, PAGE))?;
+        let page = Text::from_str(alloc, page)?;
+        entries.push(Entry { page, rev, raw })?;
+    }
+    Ok(Command::Import {
+        site: Text::from_str(alloc, site)?,
+        entries: List::from_vec(entries),
+    })
+}
+
+// A request of a site.
+fn request(
+    alloc: Global,
+    dice: &mut Dice,
+    keeper: &mut MemoryKeeper,
+    site: &str,
+) -> Result<Command, Fail> {
+    if dice.below(5) == 0 {
+        return importing(alloc, dice, keeper, site);
+    }
+    let page = dice.pick(&PAGES, "home");
+    let rev = seen(alloc, dice, keeper, site, page)?;
+    Ok(command_of(alloc, site, drawn(dice, page, rev))?)
+}
+
+/// How many requests were accepted, how many imports of them, and how many imports were refused for a
+/// revision, and how many for a tree.
+#[derive(Debug, Drop)]
+struct Tally {
+    accepted: u32,
+    imported: u32,
+    stale: u32,
+    astray: u32,
+}
+
+fn count(count: &mut u32) {
+    *count = count.saturating_add(1);
+}
+
+impl Tally {
+    // Only a refused import names a page.
+    fn take(&mut self, said: Brief) {
+        match said {
+            (Kind::Refused(Why::Stale(_)), page) if !page.is_empty() => count(&mut self.stale),
+            (Kind::Refused(Why::Tree(_)), page) if !page.is_empty() => count(&mut self.astray),
+            (Kind::Refused(_), _) => {}
+            (Kind::Imported(_), _) => {
+                count(&mut self.accepted);
+                count(&mut self.imported);
+            }
+            _ => count(&mut self.accepted),
+        }
+    }
+}
+
+// One request more.
 fn turn<R: Threads + Sync>(
     rt: &R,
     alloc: Global,
     dice: &mut Dice,
     keeper: &mut MemoryKeeper,
-) -> Result<bool, Fail> {
+    tally: &mut Tally,
+) -> Result<(), Fail> {
     let site = dice.pick(&SITES, "acme");
-    let page = dice.pick(&PAGES, "home");
     let caller = dice.pick(&USERS, "ann");
-    let is_stale = dice.below(4) == 0;
-    let current = current(alloc, keeper, site, page)?;
-    let ask = drawn(dice, page, if is_stale { 1 } else { current });
-    let reply = asked(rt, alloc, &mut [Marks::new()], keeper, caller, site, ask)?;
-    Ok(!matches!(reply, Reply::Refused(_)))
-}
-
-// Whether the outcomes that are kept of a page are those that it has when it is audited anew.
-fn is_audited(
-    alloc: Global,
-    keeper: &mut MemoryKeeper,
-    site: &Text,
-    page: &Text,
-) -> Result<bool, Fail> {
-    let Some(kept) = keeper.load(alloc, site, page)? else {
-        return Ok(false);
-    };
-    let judgements = keeper.judgements(alloc, site, page)?;
-    let outcomes = keeper.outcomes(alloc, site, page)?;
-    let mut book = Marks::new();
-    let anew = audit_page(alloc, &mut book, &kept.tree, judgements.as_slice())?;
-    Ok(anew == outcomes)
-}
-
-fn has_owner(members: &[Member]) -> bool {
-    members
-        .iter()
-        .any(|member| member.role == MemberRole::Owner)
-}
-
-// Whether a page's revision isn't past the counter, and no other page has it.
-fn has_own_revision(heads: &[PageHead], rev: u64, counter: u64) -> bool {
-    let same = heads.iter().filter(|head| head.rev == rev).count();
-    same == 1 && rev <= counter
-}
-
-// What is kept of a site is sound: it has an owner, its pages' revisions differ and are none past its
-// counter, and its pages' outcomes are their own.
-fn is_sound(alloc: Global, keeper: &mut MemoryKeeper, site: &Text) -> Result<bool, Fail> {
-    let Some(row) = keeper.site(alloc, site)? else {
-        return Ok(true);
-    };
-    let heads = keeper.list(alloc, site)?;
-    let heads = heads.as_slice();
-    for head in heads {
-        if !has_own_revision(heads, head.rev, row.counter)
-            || !is_audited(alloc, keeper, site, &head.page)?
-        {
-            return Ok(false);
-        }
-    }
-    Ok(has_owner(row.members.as_slice()))
+    let command = request(alloc, dice, keeper, site)?;
+    let books = &mut [Marks::new(), Marks::new()];
+    let reply = answer(rt, alloc, books, keeper, caller, command)?;
+    tally.take(brief(&reply));
+    Ok(())
 }
 
 #[test]
@@ -170,17 +217,22 @@ fn what_is_kept_stays_sound(rt: HostRuntime) -> Result<(), Fail> {
     let alloc = rt.alloc();
     let mut dice = Dice { state: 2026 };
     let mut keeper = keeper_failing(alloc, &[])?;
-    let mut accepted = 0u32;
+    let mut tally = Tally {
+        accepted: 0,
+        imported: 0,
+        stale: 0,
+        astray: 0,
+    };
     for _ in 0..20 {
         for _ in 0..50 {
-            let is_accepted = turn(&rt, alloc, &mut dice, &mut keeper)?;
-            accepted = accepted.saturating_add(u32::from(is_accepted));
+            turn(&rt, alloc, &mut dice, &mut keeper, &mut tally)?;
         }
         for site in SITES {
             let site = Text::from_str(alloc, site)?;
             assert!(rt; is_sound(alloc, &mut keeper, &site)?);
         }
     }
-    assert!(rt; 100 < accepted);
+    assert!(rt; 100 < tally.accepted && 10 < tally.imported, "{tally:?}");
+    assert!(rt; 10 < tally.stale && 10 < tally.astray, "{tally:?}");
     Ok(())
 }

@@ -1,217 +1,226 @@
 //! Requests one after another, by the book of marks.
 
+use desk_core::Summary;
 use keep_core::{MemberRole, MemoryKeeper, SitePage};
 use page_sketches::ADDRESS;
 use rule_core::Auto::{Failed, Passed};
 use rule_sketches::Marks;
 use site_scripts::Alter::Mark;
 use site_scripts::Ask::{self, Alter, Csv, Earl, Get, Gone, Judge, NewSite, Put, Report, Role};
+use site_scripts::Kind::Refused;
+use site_scripts::Why::{Moved, Stale};
 use site_scripts::{
     ASTRAY, Brief, Case, IS_PASSED, Kind, LOST, NEEDS_ANOTHER_OWNER, NEEDS_EDITOR, NEEDS_JUDGE,
-    NEEDS_OWNER, NEEDS_READER, NO_NODE, NO_PAGE, NO_SITE, NO_TARGET, NONE, PAGE, SAME_HAND,
-    SITE_EXISTS, STALE, Unasked, View, Why, asked, first_otherwise, keeper_failing, pages_in,
+    NEEDS_OWNER, NEEDS_READER, NO_NODE, NO_PAGE, NO_SECOND_NODE, NO_SITE, NO_TARGET, PAGE,
+    PAGE_SUMS, SAME_HAND, SITE_EXISTS, Unasked, View, asked, first_otherwise, keeper_failing,
+    pages_in,
 };
 use std::alloc::Global;
 use std::test::Fail;
 use std::thread::Threads;
 
+// What the page comes to when node 2 is marked as failed.
+const FAILED_SUMS: Summary = Summary {
+    passed: 2,
+    failed: 3,
+    cant_tell: 0,
+    inapplicable: 1,
+};
+
 // Sites, members, and one page that is put, edited and dropped.
 static PAGES: [Case; 35] = [
     ("ann", "acme", Get(View::Page, "home"), NO_SITE),
-    ("ann", "acme", NewSite, (Kind::Site, "acme", NONE)),
-    ("ann", "acme", Csv, (Kind::SiteCsv, "acme", NONE)),
+    ("ann", "acme", NewSite, (Kind::Site, "acme")),
+    ("ann", "acme", Csv, (Kind::SiteCsv(0), "acme")),
     ("bob", "acme", NewSite, SITE_EXISTS),
     (
         "ann",
         "acme",
         Role("bob", Some(MemberRole::Judge)),
-        (Kind::Member(Some(MemberRole::Judge)), "bob", NONE),
+        (Kind::Member(Some(MemberRole::Judge)), "bob"),
     ),
     (
         "ann",
         "acme",
         Role("eve", Some(MemberRole::Reader)),
-        (Kind::Member(Some(MemberRole::Reader)), "eve", NONE),
+        (Kind::Member(Some(MemberRole::Reader)), "eve"),
     ),
     (
         "ann",
         "acme",
         Role("eve", None),
-        (Kind::Member(None), "eve", NONE),
+        (Kind::Member(None), "eve"),
     ),
     ("eve", "acme", Get(View::Page, "home"), NEEDS_READER),
     ("bob", "acme", Get(View::Page, "home"), NO_PAGE),
-    ("bob", "acme", Report, (Kind::SiteReport, "acme", NONE)),
+    ("bob", "acme", Report, (Kind::SiteReport(0), "acme")),
     (
         "ann",
         "acme",
         Put("home", 0, PAGE),
-        (Kind::Stored, "home", [1, 2, 0, 3, 1]),
+        (Kind::Stored(1, PAGE_SUMS), "home"),
     ),
-    (
-        "ann",
-        "acme",
-        Put("home", 0, PAGE),
-        (STALE, "", [1, 0, 0, 0, 0]),
-    ),
+    ("ann", "acme", Put("home", 0, PAGE), (Refused(Stale(1)), "")),
     (
         "bob",
         "acme",
         Get(View::Outcomes, "home"),
-        (Kind::Outcomes, "home", [1, 5, 3, 0, 0]),
+        (
+            Kind::Outcomes {
+                rev: 1,
+                rows: 5,
+                open: 3,
+            },
+            "home",
+        ),
     ),
     (
         "bob",
         "acme",
         Get(View::Report, "home"),
-        (Kind::Report, "home", [1, 5, 3, 0, 0]),
+        (
+            Kind::Report {
+                rev: 1,
+                rows: 5,
+                open: 3,
+            },
+            "home",
+        ),
     ),
     (
         "bob",
         "acme",
         Get(View::Earl, "home"),
-        (Kind::Earl, "home", [1, 5, 3, 0, 0]),
+        (
+            Kind::Earl {
+                rev: 1,
+                rows: 5,
+                open: 3,
+            },
+            "home",
+        ),
     ),
     (
         "ann",
         "acme",
         Put("home", 1, PAGE),
-        (Kind::Stored, "home", [2, 2, 0, 3, 1]),
+        (Kind::Stored(2, PAGE_SUMS), "home"),
     ),
+    ("ann", "acme", Alter("home", 2, &[Mark(9, "y")]), NO_NODE),
     (
         "ann",
         "acme",
-        Alter("home", 2, &[Mark(9, "y")]),
-        (NO_NODE, "", NONE),
+        Alter("home", 2, &[Mark(2, "y")]),
+        (Kind::Stored(3, PAGE_SUMS), "home"),
     ),
     (
         "ann",
         "acme",
         Alter("home", 2, &[Mark(2, "y")]),
-        (Kind::Stored, "home", [3, 2, 0, 3, 1]),
-    ),
-    (
-        "ann",
-        "acme",
-        Alter("home", 2, &[Mark(2, "y")]),
-        (STALE, "", [3, 0, 0, 0, 0]),
+        (Refused(Stale(3)), ""),
     ),
     (
         "bob",
         "acme",
         Get(View::Outcomes, "home"),
-        (Kind::Outcomes, "home", [3, 5, 3, 0, 0]),
+        (
+            Kind::Outcomes {
+                rev: 3,
+                rows: 5,
+                open: 3,
+            },
+            "home",
+        ),
     ),
     (
         "ann",
         "acme",
         Alter("home", 3, &[Mark(2, "x"), Mark(2, "failed")]),
-        (Kind::Stored, "home", [4, 2, 3, 0, 1]),
+        (Kind::Stored(4, FAILED_SUMS), "home"),
     ),
     (
         "bob",
         "acme",
         Get(View::Page, "home"),
-        (Kind::Page, "home", [4, 3, 0, 0, 0]),
+        (Kind::Page { rev: 4, nodes: 3 }, "home"),
     ),
     (
         "bob",
         "acme",
         Get(View::Names, "home"),
-        (Kind::Names, "", [3, 0, 0, 0, 0]),
+        (Kind::Names(3), ""),
     ),
     (
         "ann",
         "acme",
         Put("away", 0, PAGE),
-        (Kind::Stored, "away", [5, 2, 0, 3, 1]),
+        (Kind::Stored(5, PAGE_SUMS), "away"),
     ),
-    (
-        "bob",
-        "acme",
-        Report,
-        (Kind::SiteReport, "acme", [2, 0, 0, 0, 0]),
-    ),
-    (
-        "bob",
-        "acme",
-        Earl,
-        (Kind::SiteEarl, "acme", [2, 0, 0, 0, 0]),
-    ),
-    ("bob", "acme", Csv, (Kind::SiteCsv, "acme", [2, 0, 0, 0, 0])),
+    ("bob", "acme", Report, (Kind::SiteReport(2), "acme")),
+    ("bob", "acme", Earl, (Kind::SiteEarl(2), "acme")),
+    ("bob", "acme", Csv, (Kind::SiteCsv(2), "acme")),
     ("bob", "acme", Gone("home", 4), NEEDS_EDITOR),
-    (
-        "ann",
-        "acme",
-        Gone("home", 4),
-        (Kind::Dropped, "home", NONE),
-    ),
+    ("ann", "acme", Gone("home", 4), (Kind::Dropped, "home")),
     ("ann", "acme", Gone("home", 4), NO_PAGE),
-    ("bob", "acme", Csv, (Kind::SiteCsv, "acme", [1, 0, 0, 0, 0])),
+    ("bob", "acme", Csv, (Kind::SiteCsv(1), "acme")),
     (
         "ann",
         "acme",
         Put("home", 0, PAGE),
-        (Kind::Stored, "home", [6, 2, 0, 3, 1]),
+        (Kind::Stored(6, PAGE_SUMS), "home"),
     ),
     (
         "ann",
         "acme",
         Put("b", 0, PAGE),
-        (Kind::Stored, "b", [7, 2, 0, 3, 1]),
+        (Kind::Stored(7, PAGE_SUMS), "b"),
     ),
-    (
-        "bob",
-        "acme",
-        Report,
-        (Kind::SiteReport, "acme", [3, 0, 0, 0, 0]),
-    ),
-    ("ann", "acme", Put("c", 0, ASTRAY), (LOST, "", NONE)),
+    ("bob", "acme", Report, (Kind::SiteReport(3), "acme")),
+    ("ann", "acme", Put("c", 0, ASTRAY), (LOST, "")),
 ];
 
 // The digest of `x`.
 const MOVED: Brief<'static> = (
-    Kind::Refused(Why::Moved([
+    Refused(Moved([
         0x2d, 0x71, 0x16, 0x42, 0xb7, 0x26, 0xb0, 0x44, 0x01, 0x62, 0x7c, 0xa9, 0xfb, 0xac, 0x32,
         0xf5, 0xc8, 0x53, 0x0f, 0xb1, 0x90, 0x3c, 0xc4, 0xdb, 0x02, 0x25, 0x87, 0x17, 0x92, 0x1a,
         0x48, 0x81,
     ])),
     "",
-    NONE,
 );
 
 // Each command's refusals, each where the next ones in the order would hold too, if they can.
 static REFUSED: [Case; 61] = [
-    ("ann", "acme", NewSite, (Kind::Site, "acme", NONE)),
+    ("ann", "acme", NewSite, (Kind::Site, "acme")),
     (
         "ann",
         "acme",
         Role("eda", Some(MemberRole::Editor)),
-        (Kind::Member(Some(MemberRole::Editor)), "eda", NONE),
+        (Kind::Member(Some(MemberRole::Editor)), "eda"),
     ),
     (
         "ann",
         "acme",
         Role("joe", Some(MemberRole::Judge)),
-        (Kind::Member(Some(MemberRole::Judge)), "joe", NONE),
+        (Kind::Member(Some(MemberRole::Judge)), "joe"),
     ),
     (
         "ann",
         "acme",
         Role("rea", Some(MemberRole::Reader)),
-        (Kind::Member(Some(MemberRole::Reader)), "rea", NONE),
+        (Kind::Member(Some(MemberRole::Reader)), "rea"),
     ),
     (
         "eda",
         "acme",
         Put("home", 0, PAGE),
-        (Kind::Stored, "home", [1, 2, 0, 3, 1]),
+        (Kind::Stored(1, PAGE_SUMS), "home"),
     ),
     (
         "ann",
         "acme",
         Put("own", 0, PAGE),
-        (Kind::Stored, "own", [2, 2, 0, 3, 1]),
+        (Kind::Stored(2, PAGE_SUMS), "own"),
     ),
     ("rea", "acme", NewSite, SITE_EXISTS),
     ("ann", "none", Role("ann", None), NO_SITE),
@@ -231,10 +240,10 @@ static REFUSED: [Case; 61] = [
         "eda",
         "acme",
         Put("home", 5, ASTRAY),
-        (STALE, "", [1, 0, 0, 0, 0]),
+        (Refused(Stale(1)), ""),
     ),
-    ("eda", "acme", Put("new", 1, PAGE), (STALE, "", NONE)),
-    ("eda", "acme", Put("home", 1, ASTRAY), (LOST, "", NONE)),
+    ("eda", "acme", Put("new", 1, PAGE), (Refused(Stale(0)), "")),
+    ("eda", "acme", Put("home", 1, ASTRAY), (LOST, "")),
     ("ann", "none", Alter("gone", 5, &[Mark(9, "y")]), NO_SITE),
     (
         "rea",
@@ -253,19 +262,19 @@ static REFUSED: [Case; 61] = [
         "eda",
         "acme",
         Alter("home", 5, &[Mark(9, "y")]),
-        (STALE, "", [1, 0, 0, 0, 0]),
+        (Refused(Stale(1)), ""),
     ),
     (
         "eda",
         "acme",
         Alter("home", 1, &[Mark(2, "y"), Mark(9, "y")]),
-        (NO_NODE, "", [1, 0, 0, 0, 0]),
+        NO_SECOND_NODE,
     ),
     ("ann", "none", Gone("gone", 5), NO_SITE),
     ("rea", "acme", Gone("gone", 5), NEEDS_EDITOR),
     ("joe", "acme", Gone("home", 1), NEEDS_EDITOR),
     ("eda", "acme", Gone("gone", 5), NO_PAGE),
-    ("eda", "acme", Gone("home", 5), (STALE, "", [1, 0, 0, 0, 0])),
+    ("eda", "acme", Gone("home", 5), (Refused(Stale(1)), "")),
     ("ann", "none", Judge("gone", 3, 9, Passed, "z"), NO_SITE),
     ("rea", "acme", Judge("gone", 3, 9, Passed, "z"), NEEDS_JUDGE),
     ("eda", "acme", Judge("home", 3, 2, Passed, "x"), NEEDS_JUDGE),
@@ -313,24 +322,24 @@ fn pages_come_and_go_and_the_first_refusal_counts(rt: HostRuntime) -> Result<(),
 
 // Pages put into a site one after another.
 static PUT: [Case; 4] = [
-    ("ann", "acme", NewSite, (Kind::Site, "acme", NONE)),
+    ("ann", "acme", NewSite, (Kind::Site, "acme")),
     (
         "ann",
         "acme",
         Put("home", 0, PAGE),
-        (Kind::Stored, "home", [1, 2, 0, 3, 1]),
+        (Kind::Stored(1, PAGE_SUMS), "home"),
     ),
     (
         "ann",
         "acme",
         Put("away", 0, PAGE),
-        (Kind::Stored, "away", [2, 2, 0, 3, 1]),
+        (Kind::Stored(2, PAGE_SUMS), "away"),
     ),
     (
         "ann",
         "acme",
         Put("b", 0, PAGE),
-        (Kind::Stored, "b", [3, 2, 0, 3, 1]),
+        (Kind::Stored(3, PAGE_SUMS), "b"),
     ),
 ];
 

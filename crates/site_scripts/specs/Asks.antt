@@ -33,6 +33,7 @@ command_of site (ask.Put page rev nodes) = command.PutPage site page.now rev (sk
 command_of site (ask.Alter page rev alters) = command.EditPage site page.now rev (map edit_of alters.now)
 command_of site (ask.Gone page rev) = command.DropPage site page.now rev
 command_of site (ask.Judge page rule node verdict evidence) = command.Judge site page.now (record { 0 = rule }) (record { 0 = node }) verdict (digest evidence.now) []
+command_of site (ask.JudgeBy page rule node verdict seen) = command.Judge site page.now (record { 0 = rule }) (record { 0 = node }) verdict seen []
 command_of site (ask.Get shown page) = view_of site page.now shown
 command_of site ask.Report = command.SiteReport site
 command_of site ask.Earl = command.SiteEarl site

@@ -48,6 +48,8 @@ pub enum Ask {
     Gone(&'static str, u64),
     /// A rule on a node of a page is judged, by the digest of an evidence.
     Judge(&'static str, u16, u32, Auto, &'static str),
+    /// A rule on a node of a page is judged, by this digest.
+    JudgeBy(&'static str, u16, u32, Auto, [u8; 32]),
     Get(View, &'static str),
     Report,
     Earl,
@@ -145,12 +147,11 @@ fn judge_of(
     rule: u16,
     node: u32,
     verdict: Auto,
-    evidence: &str,
+    digest: [u8; 32],
 ) -> Result<Command, OutOfMemory>
-    ensures { IfOk result (λ c. c ≡ command.Judge site page.now (record { 0 = rule }) (record { 0 = node }) verdict (digest evidence.now) []) }
+    ensures { IfOk result (λ c. c ≡ command.Judge site page.now (record { 0 = rule }) (record { 0 = node }) verdict digest []) }
 {
     let page = Text::from_str(alloc, page)?;
-    let digest = digest(&Text::from_str(alloc, evidence)?);
     Ok(Command::Judge {
         site,
         page,
@@ -187,7 +188,11 @@ pub fn command_of(alloc: Global, site: &str, ask: Ask) -> Result<Command, OutOfM
         Ask::Alter(page, rev, alters) => alter_of(alloc, site, page, rev, alters),
         Ask::Gone(page, rev) => drop_of(alloc, site, page, rev),
         Ask::Judge(page, rule, node, verdict, evidence) => {
-            judge_of(alloc, site, page, rule, node, verdict, evidence)
+            let digest = digest(&Text::from_str(alloc, evidence)?);
+            judge_of(alloc, site, page, rule, node, verdict, digest)
+        }
+        Ask::JudgeBy(page, rule, node, verdict, digest) => {
+            judge_of(alloc, site, page, rule, node, verdict, digest)
         }
         Ask::Get(view, page) => view_of(alloc, site, page, view),
         Ask::Report => Ok(Command::SiteReport { site }),

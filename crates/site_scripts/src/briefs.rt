@@ -1,9 +1,9 @@
 ghost use Rattle.std.specs.Prelude.{◌≡◌};
 ghost use Rattle.desk_core.specs.Summaries.{ended};
 ghost use Rattle.judge_core.specs.Composites.{is_open};
-ghost use Rattle.site_scripts.specs.Briefs.{why_of, kind_of, named_in, refused_name, name_in, stored_numbers, shown_numbers, refused_numbers, numbers_in, pages_in, stored_in};
+ghost use Rattle.site_scripts.specs.Briefs.{why_of, kind_of, named_in, refused_name, name_in, pages_in, stored_in};
 
-use desk_core::{Limit, Needed, Refusal, Reply, Stored};
+use desk_core::{Limit, Needed, Refusal, Reply, Stored, Summary};
 use judge_core::OutRow;
 use keep_core::{MemberRole, SitePage};
 use rule_core::Auto;
@@ -11,7 +11,7 @@ use snap_edit::EditKind;
 use snap_tree::{Text, TreeFault};
 use std::slice::from_ref;
 
-/// Why a request was refused, without names and numbers.
+/// Why a request was refused, without names.
 #[derive(Clone, Copy, Debug, PartialEq, Eq)]
 pub enum Why {
     NoSite,
@@ -19,9 +19,10 @@ pub enum Why {
     NotAllowed(Needed),
     NoPage,
     PageLimit(Limit),
-    Stale,
+    /// The page's current revision.
+    Stale(u64),
     Tree(TreeFault),
-    Edit(EditKind),
+    Edit { index: u32, kind: EditKind },
     NoTarget,
     NotOpen(Auto),
     SameHand,
@@ -30,38 +31,34 @@ pub enum Why {
     OutOfMemory,
 }
 
-/// What is replied, without names and numbers.
+/// What is replied, without names. A page that is shown with its outcomes is told by its revision, how many rows
+/// they have, and how many of those are open.
 #[derive(Clone, Copy, Debug, PartialEq, Eq)]
 pub enum Kind {
     Site,
     Member(Option<MemberRole>),
-    Stored,
-    Page,
+    /// The page's new revision, and what its outcomes come to.
+    Stored(u64, Summary),
+    Page { rev: u64, nodes: usize },
     Dropped,
-    Imported,
-    Judged(Auto),
-    Outcomes,
-    Report,
-    Earl,
-    Names,
-    SiteReport,
-    SiteEarl,
-    SiteCsv,
+    /// How many pages were imported.
+    Imported(usize),
+    Judged { rule: u16, node: u32, outcome: Auto },
+    Outcomes { rev: u64, rows: usize, open: usize },
+    Report { rev: u64, rows: usize, open: usize },
+    Earl { rev: u64, rows: usize, open: usize },
+    /// How many nodes the page has.
+    Names(usize),
+    /// How many pages the site has; so for the two below.
+    SiteReport(usize),
+    SiteEarl(usize),
+    SiteCsv(usize),
     Refused(Why),
 }
 
-/// A reply in brief: what it is, the name in it, and the numbers in it, with 0 for none. The name is that of
-/// the page, the user or the site; of a refusal it is that of the page, and empty where there is none. The
-/// numbers are:
-///
-/// - of a page that is stored its revision, and how many rows passed, failed and are open, and how many
-///   rules have none;
-/// - of a page its revision and how many nodes it has, and of a page's names that count alone;
-/// - of a page's outcomes its revision, how many rows there are, and how many of them are open;
-/// - of a judgement the rule and the node;
-/// - of several pages how many they are;
-/// - of a refusal the page's current revision, or the place of the edit.
-pub type Brief<'a> = (Kind, &'a str, [u64; 5]);
+/// A reply in brief: what it is, and the name in it. That is the name of the page, the user or the site; of a
+/// refusal it is that of the page, and empty where there is none.
+pub type Brief<'a> = (Kind, &'a str);
 
 fn why_of(refusal: &Refusal) -> Why
     ensures { result ≡ why_of refusal.now }
@@ -72,9 +69,12 @@ fn why_of(refusal: &Refusal) -> Why
         Refusal::NotAllowed { needed } => Why::NotAllowed(*needed),
         Refusal::NoPage => Why::NoPage,
         Refusal::PageLimit { limit } => Why::PageLimit(*limit),
-        Refusal::StaleRevision { .. } => Why::Stale,
+        Refusal::StaleRevision { current, .. } => Why::Stale(*current),
         Refusal::TreeFault { fault, .. } => Why::Tree(*fault),
-        Refusal::EditFault { kind, .. } => Why::Edit(*kind),
+        Refusal::EditFault { index, kind } => Why::Edit {
+            index: *index,
+            kind: *kind,
+        },
         Refusal::NoTarget => Why::NoTarget,
         Refusal::NotOpen { automatic } => Why::NotOpen(*automatic),
         Refusal::SameHand => Why::SameHand,
@@ -84,24 +84,55 @@ fn why_of(refusal: &Refusal) -> Why
     }
 }
 
+fn open_among(rows: &[OutRow]) -> usize
+    ensures { result ≡ ended is_open rows.now }
+{
+    rows.iter()
+        .filter(|row| matches!(row.last, Auto::CantTell))
+        .count()
+}
+
 fn kind_of(reply: &Reply) -> Kind
     ensures { result ≡ kind_of reply.now }
 {
     match reply {
         Reply::Site { .. } => Kind::Site,
         Reply::Member { role, .. } => Kind::Member(*role),
-        Reply::Stored(_) => Kind::Stored,
-        Reply::Page(_) => Kind::Page,
+        Reply::Stored(stored) => Kind::Stored(stored.rev, stored.summary),
+        Reply::Page(page) => Kind::Page {
+            rev: page.head.rev,
+            nodes: page.tree.rows().len(),
+        },
         Reply::Dropped { .. } => Kind::Dropped,
-        Reply::Imported { .. } => Kind::Imported,
-        Reply::Judged { outcome, .. } => Kind::Judged(*outcome),
-        Reply::Outcomes(_) => Kind::Outcomes,
-        Reply::Report(_) => Kind::Report,
-        Reply::Earl(_) => Kind::Earl,
-        Reply::Names(_) => Kind::Names,
-        Reply::SiteReport(_) => Kind::SiteReport,
-        Reply::SiteEarl(_) => Kind::SiteEarl,
-        Reply::SiteCsv(_) => Kind::SiteCsv,
+        Reply::Imported { pages } => Kind::Imported(pages.len()),
+        Reply::Judged {
+            rule,
+            node,
+            outcome,
+        } => Kind::Judged {
+            rule: rule.0,
+            node: node.0,
+            outcome: *outcome,
+        },
+        Reply::Outcomes(page) => Kind::Outcomes {
+            rev: page.head.rev,
+            rows: page.outcomes.rows.len(),
+            open: open_among(page.outcomes.rows.as_slice()),
+        },
+        Reply::Report(page) => Kind::Report {
+            rev: page.head.rev,
+            rows: page.outcomes.rows.len(),
+            open: open_among(page.outcomes.rows.as_slice()),
+        },
+        Reply::Earl(page) => Kind::Earl {
+            rev: page.head.rev,
+            rows: page.outcomes.rows.len(),
+            open: open_among(page.outcomes.rows.as_slice()),
+        },
+        Reply::Names(tree) => Kind::Names(tree.rows().len()),
+        Reply::SiteReport(sheet) => Kind::SiteReport(sheet.pages.len()),
+        Reply::SiteEarl(sheet) => Kind::SiteEarl(sheet.pages.len()),
+        Reply::SiteCsv(sheet) => Kind::SiteCsv(sheet.pages.len()),
         Reply::Refused(refusal) => Kind::Refused(why_of(refusal)),
     }
 }
@@ -147,75 +178,12 @@ fn name_in(reply: &Reply) -> &str
     }
 }
 
-/// The revision of a page that is stored, and its summary.
-pub fn stored_numbers(stored: &Stored) -> [u64; 5]
-    ensures { result ≡ stored_numbers stored.now }
-{
-    let of = stored.summary;
-    [
-        stored.rev,
-        u64::from(of.passed),
-        u64::from(of.failed),
-        u64::from(of.cant_tell),
-        u64::from(of.inapplicable),
-    ]
-}
-
-fn open_among(rows: &[OutRow]) -> usize
-    ensures { result ≡ ended is_open rows.now }
-{
-    rows.iter()
-        .filter(|row| matches!(row.last, Auto::CantTell))
-        .count()
-}
-
-fn shown_numbers(page: &SitePage) -> [u64; 5]
-    ensures { result ≡ shown_numbers page.now }
-{
-    let rows = page.outcomes.rows.as_slice();
-    let open = open_among(rows);
-    [page.head.rev, rows.len() as u64, open as u64, 0, 0]
-}
-
-fn refused_numbers(refusal: &Refusal) -> [u64; 5]
-    ensures { result ≡ refused_numbers refusal.now }
-{
-    match refusal {
-        Refusal::StaleRevision { current, .. } => [*current, 0, 0, 0, 0],
-        Refusal::EditFault { index, .. } => [u64::from(*index), 0, 0, 0, 0],
-        _ => [0; 5],
-    }
-}
-
-fn numbers_in(reply: &Reply) -> [u64; 5]
-    ensures { result ≡ numbers_in reply.now }
-{
-    match reply {
-        Reply::Site { .. } => [0; 5],
-        Reply::Member { .. } => [0; 5],
-        Reply::Stored(stored) => stored_numbers(stored),
-        Reply::Page(page) => [page.head.rev, page.tree.rows().len() as u64, 0, 0, 0],
-        Reply::Dropped { .. } => [0; 5],
-        Reply::Imported { pages } => [pages.len() as u64, 0, 0, 0, 0],
-        Reply::Judged { rule, node, .. } => [u64::from(rule.0), u64::from(node.0), 0, 0, 0],
-        Reply::Outcomes(page) => shown_numbers(page),
-        Reply::Report(page) => shown_numbers(page),
-        Reply::Earl(page) => shown_numbers(page),
-        Reply::Names(tree) => [tree.rows().len() as u64, 0, 0, 0, 0],
-        Reply::SiteReport(sheet) => [sheet.pages.len() as u64, 0, 0, 0, 0],
-        Reply::SiteEarl(sheet) => [sheet.pages.len() as u64, 0, 0, 0, 0],
-        Reply::SiteCsv(sheet) => [sheet.pages.len() as u64, 0, 0, 0, 0],
-        Reply::Refused(refusal) => refused_numbers(refusal),
-    }
-}
-
 /// A reply in brief.
 pub fn brief(reply: &Reply) -> Brief<'_>
     ensures kind { result.0 ≡ kind_of reply.now }
     ensures name { result.1.now ≡ name_in reply.now }
-    ensures numbers { result.2 ≡ numbers_in reply.now }
 {
-    (kind_of(reply), name_in(reply), numbers_in(reply))
+    (kind_of(reply), name_in(reply))
 }
 
 /// The pages that a reply shows with their outcomes, in their order.

@@ -5,6 +5,7 @@ ghost use Rattle.keep_core.specs.declared.member.MemberRole.TheVariants.{Owner};
 
 use crate::asks::Nodes;
 use crate::unasked::Unasked;
+use desk_core::Summary;
 use keep_core::{MOST_REVISION, Member, MemberRole, MemoryKeeper, Site, is_name};
 use page_sketches::Node::Html;
 use snap_tree::{List, OutOfMemory, Text};
@@ -17,6 +18,14 @@ pub const PAGE: Nodes = &[
     Html(1, "div", &[("a", "x")]),
     Html(1, "div", &[("b", "passed")]),
 ];
+
+/// What that page comes to.
+pub const PAGE_SUMS: Summary = Summary {
+    passed: 2,
+    failed: 0,
+    cant_tell: 3,
+    inapplicable: 1,
+};
 
 /// Rows of which the second names a parent that isn't there.
 pub const ASTRAY: Nodes = &[Html(0, "div", &[]), Html(9, "div", &[])];

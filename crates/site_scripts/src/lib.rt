@@ -12,12 +12,12 @@ mod serving;
 mod unasked;
 
 pub use asks::{Alter, Ask, Nodes, View, command_of, entry_of, page_name};
-pub use briefs::{Brief, Kind, Why, brief, pages_in, stored_in, stored_numbers};
-pub use fixtures::{ASTRAY, PAGE, keeper_failing, named, site_at};
+pub use briefs::{Brief, Kind, Why, brief, pages_in, stored_in};
+pub use fixtures::{ASTRAY, PAGE, PAGE_SUMS, keeper_failing, named, site_at};
 pub use refusals::{
     IS_PASSED, KEEPER_FAULT, LOST, NEEDS_ANOTHER_OWNER, NEEDS_EDITOR, NEEDS_JUDGE, NEEDS_OWNER,
-    NEEDS_READER, NO_MORE_PAGES, NO_MORE_REVISIONS, NO_NODE, NO_PAGE, NO_SITE, NO_TARGET, NONE,
-    SAME_HAND, SITE_EXISTS, STALE,
+    NEEDS_READER, NO_MORE_PAGES, NO_MORE_REVISIONS, NO_NODE, NO_PAGE, NO_SECOND_NODE, NO_SITE,
+    NO_TARGET, SAME_HAND, SITE_EXISTS,
 };
 pub use serving::{Case, answer, asked, first_otherwise};
 pub use unasked::Unasked;
