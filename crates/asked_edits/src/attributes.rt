@@ -32,11 +32,11 @@ const CASES: [Case; 15] = [
     ("text 3 Stop", "1 0 form;2 1 input CLASS=a id=b;3 1 #Stop"),
     ("text 3 ", "1 0 form;2 1 input CLASS=a id=b;3 1 #"),
     (
-        "facts 2 12",
-        "1 0 form;2 1 input CLASS=a id=b ^12;3 1 #Go~on",
+        "facts 2 !ft",
+        "1 0 form;2 1 input CLASS=a id=b !ft;3 1 #Go~on",
     ),
-    ("facts 3 0", "1 0 form;2 1 input CLASS=a id=b;3 1 #Go~on ^0"),
-    ("facts 1 3", FORM),
+    ("facts 3 !", "1 0 form;2 1 input CLASS=a id=b;3 1 #Go~on !"),
+    ("facts 1 !rv", FORM),
 ];
 
 #[test]

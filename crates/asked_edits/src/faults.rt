@@ -10,7 +10,7 @@ const CASES: [Case; 22] = [
     ("drop 6 class", "0: 2"),
     ("text 4 Go", "0: 1"),
     ("text 5 Go", "0: 3"),
-    ("facts 4 0", "0: 1"),
+    ("facts 4 !", "0: 1"),
     ("insert 4 0 60 0 p", "0: 1"),
     ("insert 6 0 60 0 p", "0: 2"),
     ("insert 2 3 60 0 p", "0: 7"),

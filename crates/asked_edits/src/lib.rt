@@ -25,5 +25,3 @@ mod orders;
 mod references;
 #[cfg(test)]
 mod shown;
-#[cfg(test)]
-mod sketch;

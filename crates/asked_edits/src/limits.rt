@@ -1,4 +1,4 @@
-use crate::answers::{Case, each_verdict_is, times, verdict_on};
+use crate::answers::{Case, each_verdict_is, verdict_on};
 use crate::shown::show_number;
 use std::alloc::Global;
 use std::process::Abort;
@@ -106,7 +106,7 @@ const TEXTS: [(&str, &str, &str); 8] = [
 #[test]
 fn texts_have_65536_bytes_at_most(rt: HostRuntime) -> Result<(), Fail> {
     let alloc = rt.alloc();
-    let text = times(alloc, "xxxxxxxxxxxxxxxx", 4_096)?;
+    let text = "x".repeat(alloc, 65_536)?;
     for (first, last, wanted) in TEXTS {
         let edits = format!(in alloc; "{first}{text}{last}")?;
         verdict_is(&rt, alloc, edits.as_str(), wanted)?;

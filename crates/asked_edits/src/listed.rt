@@ -1,13 +1,13 @@
-use crate::sketch::{cut, facts_of, number_of, rows_of, spaced};
+use page_texts::{cut, facts, number, row, spaced};
 use snap_edit::Edit;
-use snap_tree::{NodeId, Text};
+use snap_tree::{List, NodeId, Row, Text};
 use std::alloc::Global;
 use std::test::Fail;
 
-// Edits in a table of tests are words with `;` between: `set 2 class x`, `drop 2 class`, `text 6 Go`,
-// `facts 5 0`, `remove 7`, `move 5 7 1` with the parent and the place, and `insert 2 0 60 0 p+61 60 #x`
-// with the parent, the place, and rows with `+` between.
-pub fn edits_of(alloc: Global, text: &str) -> Result<Vec<Edit>, Fail> {
+/// The edits that a text in a table of tests says, in the words of `page_texts`, with `;` between two:
+/// `set 2 class x`, `drop 2 class`, `text 6 Go`, `facts 5 !rv`, `remove 7`, `move 5 7 1` with the parent and
+/// the place, and `insert 2 0 60 0 p+61 60 #x` with the parent, the place, and rows with `+` between.
+pub(crate) fn edits_of(alloc: Global, text: &str) -> Result<Vec<Edit>, Fail> {
     let mut edits = Vec::new(alloc);
     for edit in text.split(';') {
         if !edit.is_empty() {
@@ -19,8 +19,8 @@ pub fn edits_of(alloc: Global, text: &str) -> Result<Vec<Edit>, Fail> {
 
 fn edit_of(alloc: Global, text: &str) -> Result<Edit, Fail> {
     let (word, rest) = cut(text);
-    let (number, rest) = cut(rest);
-    let node = NodeId(number_of(number)?);
+    let (node, rest) = cut(rest);
+    let node = NodeId(number(node)?);
     match word {
         "set" => set(alloc, node, rest),
         "insert" => insert(alloc, node, rest),
@@ -34,7 +34,7 @@ fn edit_of(alloc: Global, text: &str) -> Result<Edit, Fail> {
             Ok(Edit::SetText { node, text })
         }
         "facts" => {
-            let facts = facts_of(number_of(rest)?);
+            let facts = facts(rest);
             Ok(Edit::SetFacts { node, facts })
         }
         "remove" => Ok(Edit::Remove { node }),
@@ -49,10 +49,20 @@ fn set(alloc: Global, node: NodeId, rest: &str) -> Result<Edit, Fail> {
     Ok(Edit::SetAttr { node, name, value })
 }
 
+fn rows_of(alloc: Global, text: &str) -> Result<List<Row>, Fail> {
+    let mut rows = Vec::new(alloc);
+    for part in text.split('+') {
+        if !part.is_empty() {
+            rows.push(row(alloc, part)?)?;
+        }
+    }
+    Ok(List::from_vec(rows))
+}
+
 fn insert(alloc: Global, parent: NodeId, rest: &str) -> Result<Edit, Fail> {
     let (place, rows) = cut(rest);
-    let place = number_of(place)?;
-    let rows = rows_of(alloc, rows, '+')?;
+    let place = number(place)?;
+    let rows = rows_of(alloc, rows)?;
     Ok(Edit::Insert {
         parent,
         place,
@@ -62,8 +72,8 @@ fn insert(alloc: Global, parent: NodeId, rest: &str) -> Result<Edit, Fail> {
 
 fn move_to(node: NodeId, rest: &str) -> Result<Edit, Fail> {
     let (parent, place) = cut(rest);
-    let parent = NodeId(number_of(parent)?);
-    let place = number_of(place)?;
+    let parent = NodeId(number(parent)?);
+    let place = number(place)?;
     Ok(Edit::Move {
         node,
         parent,

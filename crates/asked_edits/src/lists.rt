@@ -1,4 +1,4 @@
-use crate::answers::{Case, HEADINGS, answer_to, each_answers, times};
+use crate::answers::{Case, HEADINGS, answer_to, each_answers};
 use std::alloc::Global;
 use std::test::Fail;
 
@@ -29,15 +29,15 @@ fn edits_follow_one_another(rt: HostRuntime) -> Result<(), Fail> {
 }
 
 // What comes of a first edit, so many more, and a last.
-fn answer_to_many(alloc: Global, first: &str, count: u32, last: &str) -> Result<String, Fail> {
-    let many = times(alloc, "facts 5 0;", count)?;
+fn answer_to_many(alloc: Global, first: &str, count: usize, last: &str) -> Result<String, Fail> {
+    let many = "facts 5 !;".repeat(alloc, count)?;
     let edits = format!(in alloc; "{first}{many}{last}")?;
     answer_to(alloc, HEADINGS, edits.as_str())
 }
 
-const EDITED: &str = "1 0 html;2 1 body;5 2 h2 ^0;6 5 #A;7 2 div;8 7 h2;9 8 #B";
+const EDITED: &str = "1 0 html;2 1 body;5 2 h2 !;6 5 #A;7 2 div;8 7 h2;9 8 #B";
 
-const MANY: [(&str, u32, &str, &str); 6] = [
+const MANY: [(&str, usize, &str, &str); 6] = [
     ("", 200, "", EDITED),
     ("", 201, "", "200: 9"),
     ("remove 4;", 199, "", "0: 1"),

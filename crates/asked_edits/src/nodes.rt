@@ -1,6 +1,6 @@
 use crate::answers::{Case, HEADINGS, each_answers};
 use crate::listed::edits_of;
-use crate::sketch::built;
+use page_texts::page;
 use snap_edit::{Edit, apply};
 use snap_tree::{NodeId, Text, Tree};
 use std::alloc::Global;
@@ -101,10 +101,10 @@ fn has_headings(alloc: Global, tree: &Tree, nodes: &[NodeId]) -> Result<bool, Fa
 }
 
 fn gives_headings(alloc: Global, edits: &str, nodes: &[NodeId]) -> Result<bool, Fail> {
-    let tree = built(alloc, HEADINGS)?;
+    let tree = page(alloc, HEADINGS)?;
     let edits = edits_of(alloc, edits)?;
-    let page = edited(alloc, &tree, edits.as_slice())?;
-    has_headings(alloc, &page, nodes)
+    let edited = edited(alloc, &tree, edits.as_slice())?;
+    has_headings(alloc, &edited, nodes)
 }
 
 const HEADED: [(&str, &[NodeId]); 4] = [

@@ -1,11 +1,11 @@
-use crate::answers::{Case, each_verdict_is, times};
+use crate::answers::{Case, each_verdict_is};
 use std::alloc::Global;
 use std::test::Fail;
 
 // A paragraph of weight 1,026 is named 98 times where no span before it has its id.
 fn page(alloc: Global) -> Result<String, Fail> {
-    let names = times(alloc, "t~", 98)?;
-    let text = times(alloc, "xxxxxxxxxxxxxxxx", 4_096)?;
+    let names = "t~".repeat(alloc, 98)?;
+    let text = "x".repeat(alloc, 65_536)?;
     let page = format!(in alloc;
         "1 0 html;2 1 div aria-labelledby={names};3 1 span id=t;4 1 p id=t;5 4 #{text}"
     )?;

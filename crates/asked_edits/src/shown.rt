@@ -1,11 +1,10 @@
-use crate::sketch::SHOWN;
 use snap_edit::{EditFault, EditKind};
 use snap_tree::{Attr, Body, Facts, NodeId, OutOfMemory, Row, Tree};
 use std::alloc::{AllocError, Global};
 use std::test::Fail;
 
-// A page as its sketch. Facts other than a sketched row's stand last, as in `5 2 h2 ^0`.
-pub fn shown(alloc: Global, tree: &Tree) -> Result<String, Fail> {
+/// The text of a page of HTML elements, in the words of `page_texts`.
+pub(crate) fn shown(alloc: Global, tree: &Tree) -> Result<String, Fail> {
     let mut text = String::new(alloc);
     for row in rows(tree) {
         if !text.is_empty() {
@@ -26,12 +25,7 @@ fn show_row(alloc: Global, text: &mut String, row: &Row) -> Result<(), AllocErro
     show_number(alloc, text, number_of(row.parent))?;
     text.push(' ')?;
     show_body(text, &row.body)?;
-    let facts = number_of_facts(row.facts);
-    if facts != SHOWN {
-        text.push_str(" ^")?;
-        show_number(alloc, text, facts)?;
-    }
-    Ok(())
+    show_facts(text, row.facts)
 }
 
 fn show_body(text: &mut String, body: &Body) -> Result<(), AllocError> {
@@ -64,7 +58,8 @@ fn show_spaced(text: &mut String, value: &str) -> Result<(), AllocError> {
     Ok(())
 }
 
-pub fn show_number(alloc: Global, text: &mut String, number: u32) -> Result<(), AllocError> {
+/// Adds a number in decimal digits.
+pub(crate) fn show_number(alloc: Global, text: &mut String, number: u32) -> Result<(), AllocError> {
     let digits = format!(in alloc; "{number}")?;
     text.push_str(digits.as_str())
 }
@@ -76,16 +71,27 @@ fn number_of(node: Option<NodeId>) -> u32 {
     }
 }
 
-fn number_of_facts(facts: Facts) -> u32 {
-    (facts.rendered as u32)
-        | ((facts.visible as u32) << 1)
-        | ((facts.focusable as u32) << 2)
-        | ((facts.tabbable as u32) << 3)
+fn show_facts(text: &mut String, facts: Facts) -> Result<(), AllocError> {
+    if facts == page_texts::facts("rv") {
+        return Ok(());
+    }
+    text.push_str(" !")?;
+    for (is_so, letter) in [
+        (facts.rendered, 'r'),
+        (facts.visible, 'v'),
+        (facts.focusable, 'f'),
+        (facts.tabbable, 't'),
+    ] {
+        if is_so {
+            text.push(letter)?;
+        }
+    }
+    Ok(())
 }
 
-// The index of the refused edit and its kind's number, and behind `8` the page's fault and its node: as
-// `0: 8 12 5`.
-pub fn refused(alloc: Global, fault: EditFault) -> Result<String, Fail> {
+/// The index of the refused edit and its kind's number, and behind `8` the page's fault and its node: as
+/// `0: 8 12 5`.
+pub(crate) fn refused(alloc: Global, fault: EditFault) -> Result<String, Fail> {
     let EditFault::At { index, kind } = fault else {
         return Err(Fail::from(OutOfMemory));
     };

@@ -1,6 +1,6 @@
 use crate::labels::{has_labels, is_first};
 use crate::look_ups::{has_kids, has_tagged};
-use crate::sketch::{built, words};
+use page_texts::{page, row};
 use snap_tree::{Facts, NodeId, Tree};
 use std::alloc::Global;
 use std::test::Fail;
@@ -17,7 +17,7 @@ fn has_value(tree: &Tree, number: u32, name: &str, value: &str) -> bool {
 #[test]
 fn copies_are_equal(rt: HostRuntime) -> Result<(), Fail> {
     let alloc = rt.alloc();
-    let tree = built(alloc, "1 0 form;2 1 label for=q class=c;3 1 input id=q")?;
+    let tree = page(alloc, "1 0 form;2 1 label for=q class=c;3 1 input id=q")?;
     let copy = tree.copy()?;
     assert_eq!(rt; copy.address().as_str(), "https://example.org/");
     assert_eq!(rt; copy.rows().len(), 3);
@@ -30,7 +30,7 @@ fn copies_are_equal(rt: HostRuntime) -> Result<(), Fail> {
 }
 
 fn copied_facts(alloc: Global, facts: Facts) -> Result<Facts, Fail> {
-    let mut row = words(alloc, 7, 3, "Agree")?;
+    let mut row = row(alloc, "7 3 #Agree")?;
     row.facts = facts;
     Ok(row.copy(alloc)?.facts)
 }

@@ -1,57 +1,107 @@
-use crate::sketch::fault_is;
-use snap_tree::{NodeId, TreeFault};
+use page_texts::{PageFault, page};
+use snap_tree::TreeFault::{
+    DoubleAttr, DoubleNumber, EmptyName, ParentUnknownOrNotOpen, RootNotElement, TextHasKids,
+};
+use snap_tree::{BuildFault, NodeId, TreeFault};
 use std::alloc::Global;
 use std::process::Abort;
 use std::test::Fail;
 
-// A page, and the number of its first fault and of that one's node, where 0 stands for none.
-type Case = (&'static str, u8, u32);
+fn fault_of(alloc: Global, text: &str) -> Result<Option<TreeFault>, Fail> {
+    match page(alloc, text) {
+        Ok(_) => Ok(None),
+        Err(PageFault::Build(BuildFault::Tree(fault))) => Ok(Some(fault)),
+        Err(fault) => Err(Fail::from(fault)),
+    }
+}
+
+/// Fails unless the page of a text has this first fault. The case is what a failure names.
+pub(crate) fn fault_is(
+    rt: &impl Abort,
+    alloc: Global,
+    text: &str,
+    fault: Option<TreeFault>,
+    case: &str,
+) -> Result<(), Fail> {
+    assert_eq!(rt; fault_of(alloc, text)?, fault, "{case}");
+    Ok(())
+}
+
+// A page and its first fault.
+type Case = (&'static str, Option<TreeFault>);
 
 fn each_breaks(rt: &impl Abort, alloc: Global, cases: &[Case]) -> Result<(), Fail> {
-    for (page, number, node) in cases {
-        fault_is(rt, alloc, page, (*number, *node), page)?;
+    for (text, fault) in cases {
+        fault_is(rt, alloc, text, *fault, text)?;
     }
     Ok(())
 }
 
-const ONE_FAULT: [Case; 14] = [
-    ("1 0 p;2 1 p;3 2 #x;4 1 p", 0, 0),
-    ("1 0 p;7 1 p;7 7 p", 3, 7),
-    ("1 9 p", 4, 1),
-    ("1 0 p;2 0 p", 4, 2),
-    ("1 0 p;2 9 p", 4, 2),
-    ("1 0 p;2 1 p;3 1 p;4 2 p", 4, 4),
-    ("1 0 p;2 2 p", 4, 2),
-    ("1 0 #x", 11, 1),
-    ("1 0 p;2 1 #x;3 2 #y", 9, 3),
-    ("1 0 p;2 1 p href=a HREF=b", 8, 2),
-    ("1 0 p \u{c4}= \u{e4}=", 0, 0),
-    ("0 0 p", 12, 0),
-    ("1 0 p;2 1  id=a", 12, 2),
-    ("1 0 p;2 1 p =a", 12, 2),
+static ONE_FAULT: [Case; 14] = [
+    ("1 0 p;2 1 p;3 2 #x;4 1 p", None),
+    ("1 0 p;7 1 p;7 7 p", Some(DoubleNumber { node: NodeId(7) })),
+    ("1 9 p", Some(ParentUnknownOrNotOpen { node: NodeId(1) })),
+    (
+        "1 0 p;2 0 p",
+        Some(ParentUnknownOrNotOpen { node: NodeId(2) }),
+    ),
+    (
+        "1 0 p;2 9 p",
+        Some(ParentUnknownOrNotOpen { node: NodeId(2) }),
+    ),
+    (
+        "1 0 p;2 1 p;3 1 p;4 2 p",
+        Some(ParentUnknownOrNotOpen { node: NodeId(4) }),
+    ),
+    (
+        "1 0 p;2 2 p",
+        Some(ParentUnknownOrNotOpen { node: NodeId(2) }),
+    ),
+    ("1 0 #x", Some(RootNotElement { node: NodeId(1) })),
+    ("1 0 p;2 1 #x;3 2 #y", Some(TextHasKids { node: NodeId(3) })),
+    (
+        "1 0 p;2 1 p href=a HREF=b",
+        Some(DoubleAttr { node: NodeId(2) }),
+    ),
+    ("1 0 p \u{c4}= \u{e4}=", None),
+    ("0 0 p", Some(EmptyName { node: NodeId(0) })),
+    ("1 0 p;2 1  id=a", Some(EmptyName { node: NodeId(2) })),
+    ("1 0 p;2 1 p =a", Some(EmptyName { node: NodeId(2) })),
 ];
 
 #[test]
 fn names_the_first_fault(rt: HostRuntime) -> Result<(), Fail> {
-    each_breaks(&rt, rt.alloc(), ONE_FAULT.as_slice())
+    each_breaks(&rt, rt.alloc(), &ONE_FAULT)
 }
 
-const TWO_FAULTS: [Case; 10] = [
-    ("1 0 p;1 9 p", 3, 1),
-    ("1 0 p;1 1 ", 3, 1),
-    ("1 9 #x", 4, 1),
-    ("1 0 p;2 9 ", 4, 2),
-    ("0 0 #x", 11, 0),
-    ("1 0 p;2 1 #x;3 2 ", 9, 3),
-    ("1 0 p;2 1 #x;3 2 p href=a HREF=b", 9, 3),
-    ("1 0 p;2 1  href=a HREF=b", 8, 2),
-    ("1 0 p;2 1 ;1 1 p", 12, 2),
-    ("1 0 p;2 1 p href=a HREF=b;3 9 p", 8, 2),
+static TWO_FAULTS: [Case; 10] = [
+    ("1 0 p;1 9 p", Some(DoubleNumber { node: NodeId(1) })),
+    ("1 0 p;1 1 ", Some(DoubleNumber { node: NodeId(1) })),
+    ("1 9 #x", Some(ParentUnknownOrNotOpen { node: NodeId(1) })),
+    (
+        "1 0 p;2 9 ",
+        Some(ParentUnknownOrNotOpen { node: NodeId(2) }),
+    ),
+    ("0 0 #x", Some(RootNotElement { node: NodeId(0) })),
+    ("1 0 p;2 1 #x;3 2 ", Some(TextHasKids { node: NodeId(3) })),
+    (
+        "1 0 p;2 1 #x;3 2 p href=a HREF=b",
+        Some(TextHasKids { node: NodeId(3) }),
+    ),
+    (
+        "1 0 p;2 1  href=a HREF=b",
+        Some(DoubleAttr { node: NodeId(2) }),
+    ),
+    ("1 0 p;2 1 ;1 1 p", Some(EmptyName { node: NodeId(2) })),
+    (
+        "1 0 p;2 1 p href=a HREF=b;3 9 p",
+        Some(DoubleAttr { node: NodeId(2) }),
+    ),
 ];
 
 #[test]
 fn names_the_first_of_two_faults(rt: HostRuntime) -> Result<(), Fail> {
-    each_breaks(&rt, rt.alloc(), TWO_FAULTS.as_slice())
+    each_breaks(&rt, rt.alloc(), &TWO_FAULTS)
 }
 
 #[test]

@@ -1,11 +1,11 @@
-use crate::sketch::{built, number_of};
+use page_texts::{number, page};
 use snap_tree::{NodeId, Text, Tree};
 use std::alloc::Global;
 use std::process::Abort;
 use std::test::Fail;
 
-// Whether the first element with an id has this number, or there is none.
-pub(super) fn is_first(
+/// Whether the first element with an id has this number, or there is none.
+pub(crate) fn is_first(
     alloc: Global,
     tree: &Tree,
     id: &str,
@@ -18,9 +18,9 @@ pub(super) fn is_first(
 #[test]
 fn finds_the_first_element_of_an_id(rt: HostRuntime) -> Result<(), Fail> {
     let alloc = rt.alloc();
-    let page =
+    let text =
         "1 0 html ID=root;9 1 svg:g id=a;3 9 p id=a name=b;4 1 p id=A;5 1 p id=;6 1 p id=~;7 1 p id=a~b;8 1 label for=c";
-    let tree = built(alloc, page)?;
+    let tree = page(alloc, text)?;
     let cases = [
         ("root", Some(1)),
         ("a", Some(9)),
@@ -38,33 +38,33 @@ fn finds_the_first_element_of_an_id(rt: HostRuntime) -> Result<(), Fail> {
     Ok(())
 }
 
-// Whether a node has these labels, in this order.
-pub(super) fn has_labels(
+/// Whether a node has these labels, in this order.
+pub(crate) fn has_labels(
     alloc: Global,
     tree: &Tree,
-    number: u32,
+    node: u32,
     labels: &str,
 ) -> Result<bool, Fail> {
     let mut wanted = Vec::new(alloc);
     for label in labels.split_whitespace() {
-        wanted.push(NodeId(number_of(label)?))?;
+        wanted.push(NodeId(number(label)?))?;
     }
-    let found = tree.labels_for(alloc, NodeId(number))?;
+    let found = tree.labels_for(alloc, NodeId(node))?;
     Ok(found.as_slice() == wanted.as_slice())
 }
 
 // A page, and a node of it with its labels.
 type Case<'a> = (&'a str, u32, &'a str);
 
-fn labels_are(alloc: Global, page: &str, number: u32, labels: &str) -> Result<bool, Fail> {
-    let tree = built(alloc, page)?;
-    has_labels(alloc, &tree, number, labels)
+fn labels_are(alloc: Global, text: &str, node: u32, labels: &str) -> Result<bool, Fail> {
+    let tree = page(alloc, text)?;
+    has_labels(alloc, &tree, node, labels)
 }
 
 fn each_labelled(rt: &impl Abort, alloc: Global, cases: &[Case<'_>]) -> Result<(), Fail> {
-    for (page, number, labels) in cases {
-        let is_labelled = labels_are(alloc, page, *number, labels)?;
-        assert!(rt; is_labelled, "{page} {number}");
+    for (text, node, labels) in cases {
+        let is_labelled = labels_are(alloc, text, *node, labels)?;
+        assert!(rt; is_labelled, "{text} {node}");
     }
     Ok(())
 }

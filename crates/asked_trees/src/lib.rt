@@ -14,6 +14,4 @@ mod limits;
 #[cfg(test)]
 mod look_ups;
 #[cfg(test)]
-mod sketch;
-#[cfg(test)]
 mod weight;

@@ -1,5 +1,9 @@
-use crate::sketch::{fault_is, repeated};
-use snap_tree::OutOfMemory;
+use crate::fault::fault_is;
+use snap_tree::TreeFault::{
+    DoubleAttr, EmptyName, ParentUnknownOrNotOpen, RootNotElement, TextHasKids, TextTooLong,
+    TooDeep, TooMany, TooManyAttrs,
+};
+use snap_tree::{NodeId, OutOfMemory, TreeFault};
 use std::alloc::Global;
 use std::test::Fail;
 
@@ -16,21 +20,27 @@ fn path(alloc: Global, rows: &str) -> Result<String, OutOfMemory> {
     Ok(page)
 }
 
-const DEPTHS: [(&str, u8, u32); 6] = [
-    ("", 0, 0),
-    (";129 127 p", 0, 0),
-    (";129 128 p", 5, 129),
-    (";129 128 ", 5, 129),
-    (";129 128 p href=a HREF=b", 5, 129),
-    (";129 127 #x;130 129 p", 9, 130),
+static DEPTHS: [(&str, Option<TreeFault>); 6] = [
+    ("", None),
+    (";129 127 p", None),
+    (";129 128 p", Some(TooDeep { node: NodeId(129) })),
+    (";129 128 ", Some(TooDeep { node: NodeId(129) })),
+    (
+        ";129 128 p href=a HREF=b",
+        Some(TooDeep { node: NodeId(129) }),
+    ),
+    (
+        ";129 127 #x;130 129 p",
+        Some(TextHasKids { node: NodeId(130) }),
+    ),
 ];
 
 #[test]
 fn keeps_the_greatest_depth(rt: HostRuntime) -> Result<(), Fail> {
     let alloc = rt.alloc();
-    for (rows, number, node) in DEPTHS {
+    for (rows, fault) in DEPTHS {
         let page = path(alloc, rows)?;
-        fault_is(&rt, alloc, page.as_str(), (number, node), rows)?;
+        fault_is(&rt, alloc, page.as_str(), fault, rows)?;
     }
     Ok(())
 }
@@ -45,19 +55,23 @@ fn wide(alloc: Global, root: &str, count: u32) -> Result<String, OutOfMemory> {
     Ok(page)
 }
 
-const COUNTS: [(&str, u32, u8, u32); 4] = [
-    ("1 0 div", 10_000, 0, 0),
-    ("1 0 div", 10_001, 2, 0),
-    ("1 9 div", 10_000, 4, 1),
-    ("1 9 div", 10_001, 2, 0),
+static COUNTS: [(&str, u32, Option<TreeFault>); 4] = [
+    ("1 0 div", 10_000, None),
+    ("1 0 div", 10_001, Some(TooMany)),
+    (
+        "1 9 div",
+        10_000,
+        Some(ParentUnknownOrNotOpen { node: NodeId(1) }),
+    ),
+    ("1 9 div", 10_001, Some(TooMany)),
 ];
 
 #[test]
 fn keeps_the_greatest_number_of_nodes(rt: HostRuntime) -> Result<(), Fail> {
     let alloc = rt.alloc();
-    for (root, count, number, node) in COUNTS {
+    for (root, count, fault) in COUNTS {
         let page = wide(alloc, root, count)?;
-        fault_is(&rt, alloc, page.as_str(), (number, node), root)?;
+        fault_is(&rt, alloc, page.as_str(), fault, root)?;
     }
     Ok(())
 }
@@ -73,57 +87,60 @@ fn attributed(alloc: Global, root: &str, count: u8, more: &str) -> Result<String
     Ok(page)
 }
 
-const ATTRIBUTES: [(&str, u8, &str, u8, u32); 7] = [
-    ("5 0 svg:g", 64, "", 0, 0),
-    ("5 0 svg:g", 65, "", 6, 5),
-    ("5 0 svg:g", 2, " A1=", 8, 5),
-    ("5 0 svg:g", 64, " A1=", 6, 5),
-    ("5 0 svg:g", 64, " =", 6, 5),
-    ("5 0 ", 64, "", 12, 5),
-    ("5 0 ", 65, "", 6, 5),
+static ATTRIBUTES: [(&str, u8, &str, Option<TreeFault>); 7] = [
+    ("5 0 svg:g", 64, "", None),
+    ("5 0 svg:g", 65, "", Some(TooManyAttrs { node: NodeId(5) })),
+    ("5 0 svg:g", 2, " A1=", Some(DoubleAttr { node: NodeId(5) })),
+    (
+        "5 0 svg:g",
+        64,
+        " A1=",
+        Some(TooManyAttrs { node: NodeId(5) }),
+    ),
+    (
+        "5 0 svg:g",
+        64,
+        " =",
+        Some(TooManyAttrs { node: NodeId(5) }),
+    ),
+    ("5 0 ", 64, "", Some(EmptyName { node: NodeId(5) })),
+    ("5 0 ", 65, "", Some(TooManyAttrs { node: NodeId(5) })),
 ];
 
 #[test]
 fn keeps_the_greatest_number_of_attributes(rt: HostRuntime) -> Result<(), Fail> {
     let alloc = rt.alloc();
-    for (root, count, more, number, node) in ATTRIBUTES {
+    for (root, count, more, fault) in ATTRIBUTES {
         let page = attributed(alloc, root, count, more)?;
-        fault_is(&rt, alloc, page.as_str(), (number, node), more)?;
+        fault_is(&rt, alloc, page.as_str(), fault, more)?;
     }
     Ok(())
 }
 
-// The page with a text of 65,536 letters in place of each `@`.
-fn lengthened(alloc: Global, page: &str) -> Result<String, OutOfMemory> {
-    let long = repeated(alloc, "a", 65_536)?;
-    let mut text = String::new(alloc);
-    for (place, part) in page.split('@').enumerate() {
-        if place > 0 {
-            text.push_str(long.as_str())?;
-        }
-        text.push_str(part)?;
-    }
-    Ok(text)
+// The rows with a text of 65,536 letters in place of each `@`.
+fn lengthened(alloc: Global, rows: &str) -> Result<String, OutOfMemory> {
+    let long = "a".repeat(alloc, 65_536)?;
+    Ok(rows.replace(alloc, '@', long.as_str())?)
 }
 
-const LENGTHS: [(&str, u8, u32); 9] = [
-    ("5 0 @ @=@;6 5 #@", 0, 0),
-    ("5 0 @b id=", 7, 5),
-    ("5 0 p @b=", 7, 5),
-    ("5 0 p id=@b", 7, 5),
-    ("5 0 p;6 5 #@b", 7, 6),
-    ("5 0 #@b", 11, 5),
-    ("5 0 p id=@b ID=", 7, 5),
-    ("5 0  id=@b", 7, 5),
-    ("5 0 p;6 5 ;7 5 #@b", 12, 6),
+static LENGTHS: [(&str, Option<TreeFault>); 9] = [
+    ("5 0 @ @=@;6 5 #@", None),
+    ("5 0 @b id=", Some(TextTooLong { node: NodeId(5) })),
+    ("5 0 p @b=", Some(TextTooLong { node: NodeId(5) })),
+    ("5 0 p id=@b", Some(TextTooLong { node: NodeId(5) })),
+    ("5 0 p;6 5 #@b", Some(TextTooLong { node: NodeId(6) })),
+    ("5 0 #@b", Some(RootNotElement { node: NodeId(5) })),
+    ("5 0 p id=@b ID=", Some(TextTooLong { node: NodeId(5) })),
+    ("5 0  id=@b", Some(TextTooLong { node: NodeId(5) })),
+    ("5 0 p;6 5 ;7 5 #@b", Some(EmptyName { node: NodeId(6) })),
 ];
 
 #[test]
 fn keeps_the_greatest_length(rt: HostRuntime) -> Result<(), Fail> {
     let alloc = rt.alloc();
-    for (sketch, number, node) in LENGTHS {
-        let page = lengthened(alloc, sketch)?;
-        fault_is(&rt, alloc, page.as_str(), (number, node), sketch)?;
+    for (rows, fault) in LENGTHS {
+        let page = lengthened(alloc, rows)?;
+        fault_is(&rt, alloc, page.as_str(), fault, rows)?;
     }
     Ok(())
 }

@@ -1,10 +1,11 @@
-use crate::sketch::{built, parent_of};
+use page_texts::page;
 use snap_tree::{NodeId, Text, Tree};
 use std::alloc::Global;
 use std::process::Abort;
 use std::test::Fail;
 
-pub(super) fn has_kids(tree: &Tree, number: u32, kids: &[u32]) -> bool {
+/// Whether a node has these children, in this order.
+pub(crate) fn has_kids(tree: &Tree, number: u32, kids: &[u32]) -> bool {
     let mut found = tree.kids(NodeId(number));
     for kid in kids {
         if found.next() != Some(NodeId(*kid)) {
@@ -14,15 +15,15 @@ pub(super) fn has_kids(tree: &Tree, number: u32, kids: &[u32]) -> bool {
     found.next().is_none()
 }
 
-// A number, whether the page holds it, its parent's (0 for none) and its children's.
-type Standing<'a> = (u32, bool, u32, &'a [u32]);
+// A number, whether the page holds it, its parent's and its children's.
+type Standing<'a> = (u32, bool, Option<u32>, &'a [u32]);
 
 fn stands_so(rt: &impl Abort, tree: &Tree, case: Standing<'_>) {
     let (number, is_held, parent, kids) = case;
     let node = NodeId(number);
     let is_found = tree.node(node).is_some() & tree.below(node).is_some();
     assert_eq!(rt; is_found, is_held, "{number}");
-    assert!(rt; tree.parent(node) == parent_of(parent), "{number}");
+    assert!(rt; tree.parent(node) == parent.map(NodeId), "{number}");
     assert!(rt; has_kids(tree, number, kids), "{number}");
 }
 
@@ -31,14 +32,14 @@ const TITLES: &str =
 
 #[test]
 fn looks_nodes_up(rt: HostRuntime) -> Result<(), Fail> {
-    let tree = built(rt.alloc(), TITLES)?;
+    let tree = page(rt.alloc(), TITLES)?;
     let cases: [Standing<'_>; 6] = [
-        (1, true, 0, &[2, 5]),
-        (2, true, 1, &[3]),
-        (4, true, 3, &[]),
-        (5, true, 1, &[6, 8]),
-        (8, true, 5, &[]),
-        (9, false, 0, &[]),
+        (1, true, None, &[2, 5]),
+        (2, true, Some(1), &[3]),
+        (4, true, Some(3), &[]),
+        (5, true, Some(1), &[6, 8]),
+        (8, true, Some(5), &[]),
+        (9, false, None, &[]),
     ];
     for case in cases {
         stands_so(&rt, &tree, case);
@@ -46,7 +47,8 @@ fn looks_nodes_up(rt: HostRuntime) -> Result<(), Fail> {
     Ok(())
 }
 
-pub(super) fn has_tagged(
+/// Whether the elements of HTML with a tag are these nodes, in this order.
+pub(crate) fn has_tagged(
     alloc: Global,
     tree: &Tree,
     tag: &str,
@@ -59,7 +61,7 @@ pub(super) fn has_tagged(
 #[test]
 fn finds_html_elements_by_tag(rt: HostRuntime) -> Result<(), Fail> {
     let alloc = rt.alloc();
-    let tree = built(alloc, TITLES)?;
+    let tree = page(alloc, TITLES)?;
     let titles = [NodeId(3), NodeId(8)];
     assert!(rt; has_tagged(alloc, &tree, "Title", titles.as_slice())?);
     assert!(rt; has_tagged(alloc, &tree, "svg", [].as_slice())?);

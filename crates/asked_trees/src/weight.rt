@@ -1,5 +1,6 @@
-use crate::sketch::{fault_is, repeated};
-use snap_tree::OutOfMemory;
+use crate::fault::fault_is;
+use snap_tree::TreeFault::{EmptyName, ReferenceWeight};
+use snap_tree::{NodeId, OutOfMemory, TreeFault};
 use std::alloc::Global;
 use std::test::Fail;
 
@@ -12,8 +13,8 @@ fn referring(
     rows: &str,
     bytes: usize,
 ) -> Result<String, OutOfMemory> {
-    let list = repeated(alloc, "t~", count)?;
-    let text = repeated(alloc, "a", bytes)?;
+    let list = "t~".repeat(alloc, count)?;
+    let text = "a".repeat(alloc, bytes)?;
     let mut page = format!(in alloc; "1 0 html;2 1 a {name}=")?;
     page.push_str(list.as_str())?;
     page.push_str(rows)?;
@@ -23,26 +24,32 @@ fn referring(
 }
 
 // the p and its text weigh 1 + 1 + 1,024, and 1 + 1 + 998 where the text has 63,872 bytes
-const BY_IDS: [(&str, usize, &str, usize, u8); 11] = [
-    ("aria-labelledby", 97, "", 65_536, 0),
-    ("aria-labelledby", 98, "", 65_536, 10),
-    ("aria-owns", 97, "", 65_536, 0),
-    ("ARIA-OWNS", 98, "", 65_536, 10),
-    ("aria-describedby", 98, "", 65_536, 0),
-    ("aria-labelledby", 98, ";5 1 span id=t", 65_536, 0),
-    ("aria-labelledby", 98, ";0 1 p", 65_536, 12),
-    ("aria-labelledby", 100, "", 63_872, 0),
-    ("aria-labelledby", 100, "", 63_935, 0),
-    ("aria-labelledby", 100, "", 63_936, 10),
-    ("aria-labelledby", 101, "", 63_872, 10),
+static BY_IDS: [(&str, usize, &str, usize, Option<TreeFault>); 11] = [
+    ("aria-labelledby", 97, "", 65_536, None),
+    ("aria-labelledby", 98, "", 65_536, Some(ReferenceWeight)),
+    ("aria-owns", 97, "", 65_536, None),
+    ("ARIA-OWNS", 98, "", 65_536, Some(ReferenceWeight)),
+    ("aria-describedby", 98, "", 65_536, None),
+    ("aria-labelledby", 98, ";5 1 span id=t", 65_536, None),
+    (
+        "aria-labelledby",
+        98,
+        ";0 1 p",
+        65_536,
+        Some(EmptyName { node: NodeId(0) }),
+    ),
+    ("aria-labelledby", 100, "", 63_872, None),
+    ("aria-labelledby", 100, "", 63_935, None),
+    ("aria-labelledby", 100, "", 63_936, Some(ReferenceWeight)),
+    ("aria-labelledby", 101, "", 63_872, Some(ReferenceWeight)),
 ];
 
 #[test]
 fn weighs_what_ids_find(rt: HostRuntime) -> Result<(), Fail> {
     let alloc = rt.alloc();
-    for (name, count, rows, bytes, number) in BY_IDS {
+    for (name, count, rows, bytes, fault) in BY_IDS {
         let page = referring(alloc, name, count, rows, bytes)?;
-        fault_is(&rt, alloc, page.as_str(), (number, 0), name)?;
+        fault_is(&rt, alloc, page.as_str(), fault, name)?;
     }
     Ok(())
 }
@@ -50,8 +57,8 @@ fn weighs_what_ids_find(rt: HostRuntime) -> Result<(), Fail> {
 // A label with the id `t` and this attribute, which holds a text of 65,536 bytes and an input that names
 // `t` so often.
 fn labelled(alloc: Global, attr: &str, kind: &str, count: usize) -> Result<String, OutOfMemory> {
-    let list = repeated(alloc, "t~", count)?;
-    let text = repeated(alloc, "a", 65_536)?;
+    let list = "t~".repeat(alloc, count)?;
+    let text = "a".repeat(alloc, 65_536)?;
     let mut page = format!(in alloc; "1 0 html;2 1 label id=t {attr};3 2 #")?;
     page.push_str(text.as_str())?;
     let input = format!(in alloc; ";4 2 input id=q type={kind} aria-labelledby=")?;
@@ -61,22 +68,22 @@ fn labelled(alloc: Global, attr: &str, kind: &str, count: usize) -> Result<Strin
 }
 
 // the label weighs 1 + 1,025 + 4, since the input's values have from 197 to 201 bytes
-const BY_LABELS: [(&str, &str, usize, u8); 7] = [
-    ("for=q", "hidden", 97, 0),
-    ("for=q", "text", 97, 10),
-    ("for=q", "text", 96, 0),
-    ("class=q", "text", 97, 10),
-    ("class=q", "text", 96, 0),
-    ("for=", "text", 97, 0),
-    ("for=x", "text", 97, 0),
+static BY_LABELS: [(&str, &str, usize, Option<TreeFault>); 7] = [
+    ("for=q", "hidden", 97, None),
+    ("for=q", "text", 97, Some(ReferenceWeight)),
+    ("for=q", "text", 96, None),
+    ("class=q", "text", 97, Some(ReferenceWeight)),
+    ("class=q", "text", 96, None),
+    ("for=", "text", 97, None),
+    ("for=x", "text", 97, None),
 ];
 
 #[test]
 fn weighs_what_labels_find(rt: HostRuntime) -> Result<(), Fail> {
     let alloc = rt.alloc();
-    for (attr, kind, count, number) in BY_LABELS {
+    for (attr, kind, count, fault) in BY_LABELS {
         let page = labelled(alloc, attr, kind, count)?;
-        fault_is(&rt, alloc, page.as_str(), (number, 0), attr)?;
+        fault_is(&rt, alloc, page.as_str(), fault, attr)?;
     }
     Ok(())
 }

@@ -15,7 +15,6 @@ use Rattle.judge_core.specs.Books.{Book}
 use Rattle.keep_core.specs.declared.member.MemberRole.{MemberRole}
 use Rattle.keep_core.specs.declared.site.Site.{Site}
 use Rattle.desk_core.specs.declared.limits.TheConstants.{MOST_PAGES}
-use Rattle.desk_core.specs.declared.command.Entry.{Entry}
 use Rattle.desk_core.specs.declared.decided.Decided.{Decided}
 use Rattle.desk_core.specs.declared.refusal.Needed.TheVariants as needed
 use Rattle.desk_core.specs.declared.refusal.Limit.TheVariants as limit
@@ -25,7 +24,7 @@ use Rattle.desk_core.specs.Refusals.{Decision, unless, unless_refused}
 use Rattle.desk_core.specs.State.{PageState, SiteState}
 use Rattle.desk_core.specs.Members.{put_site, put_member}
 use Rattle.desk_core.specs.Pages.{rev_of, judged, has_room, has_revisions, renewed, built, put_page, edited, edit_page, drop_page}
-use Rattle.desk_core.specs.Imports.{new_pages, first_stale, first_fault, import}
+use Rattle.desk_core.specs.Imports.{first_fault}
 use Rattle.desk_core.specs.declared.placed.Placed.{Placed}
 use Rattle.desk_core.specs.Placing.{entries_of, new_among, stale_among, import_placed}
 use Rattle.desk_core.specs.Serving.{Accepts, Agrees}
@@ -75,13 +74,6 @@ edit_page_accepts book site caller page rev edits s kept =
 
 pub drop_page_accepts : (site page : List ℕ) (rev : ℕ) (kept : PageState) → Accepts (drop_page site page rev kept)
 drop_page_accepts site page rev kept = unless_accepts (rev == kept.page.head.rev) (refusal.StaleRevision kept.page.head.rev None) _ tt
-
-pub import_accepts : (book : Book) (site caller : List ℕ) (entries : List Entry) (s : SiteState) → Accepts (import book site caller entries s)
-import_accepts book site caller entries s =
-    unless_accepts (nat_le (length s.pages + new_pages s.pages entries) MOST_PAGES) (refusal.PageLimit limit.Pages) _ (
-    unless_accepts (has_revisions s.site.counter (length entries)) (refusal.PageLimit limit.Revisions) _ (
-    unless_refused_accepts (first_stale s.pages entries) _ (
-    unless_refused_accepts (first_fault entries) _ tt)))
 
 pub import_placed_accepts : (book : Book) (site caller : List ℕ) (counter pages : ℕ) (all : List Placed) → Accepts (import_placed book site caller counter pages all)
 import_placed_accepts book site caller counter pages all =

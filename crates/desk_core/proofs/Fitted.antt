@@ -85,10 +85,10 @@ page_fits : (book : Book) (page : List ℕ) (rev : ℕ) (hand : List ℕ) (tree 
     → IsWebAddress tree.address → FitsPage (page_put book page rev hand tree js).page
 page_fits book page rev hand tree js named within address = record { head = record { page = named; rev = within }; address = address }
 
-abbrev PutFits : PagePut → Type 0
+abbrev pub PutFits : PagePut → Type 0
 PutFits p = FitsPage p.page
 
-abbrev Apart : PagePut → PagePut → Type 0
+abbrev pub Apart : PagePut → PagePut → Type 0
 Apart p q = p.page.head.page ≡ q.page.head.page → ⊥
 
 one_fits : (site : List ℕ) (counter : ℕ) (put : PagePut) → IsTrue (is_name site) → counter ≤ MOST_REVISION → PutFits put → FitsPages site counter (put ∷ [])
@@ -134,7 +134,7 @@ puts_fit book caller pages counter (e ∷ entries) each within =
 abbrev ApartFrom : List ℕ → Entry → Type 0
 ApartFrom name e = name ≡ e.page → ⊥
 
-abbrev EntriesApart : Entry → Entry → Type 0
+abbrev pub EntriesApart : Entry → Entry → Type 0
 EntriesApart d e = d.page ≡ e.page → ⊥
 
 puts_apart_from : (book : Book) (caller name : List ℕ) (pages : List PageState) (counter : ℕ) (entries : List Entry) → All (ApartFrom name) entries

@@ -7,7 +7,6 @@ use Rattle.judge_core.specs.Books.{Book}
 use Rattle.keep_core.specs.declared.page.PagePut.{PagePut}
 use Rattle.keep_core.specs.Names.{is_name}
 use Rattle.keep_core.specs.declared.limits.TheConstants.{MOST_REVISION}
-use Rattle.keep_core.specs.Fits.{FitsPage}
 use Rattle.desk_core.specs.declared.limits.TheConstants.{MOST_PAGES}
 use Rattle.desk_core.specs.declared.command.Entry.{Entry}
 use Rattle.desk_core.specs.declared.placed.Placed.{Placed}
@@ -19,16 +18,7 @@ use Rattle.desk_core.specs.Imports.{first_fault}
 use Rattle.desk_core.specs.Fitting.{FitsEntry, FitsEntries}
 use Rattle.desk_core.specs.Placing.{entries_of, new_among, stale_among, heads_from, work_of, puts_by, storing_all, import_placed}
 use Rattle.desk_core.proofs.Deciding.{Brings, unless_brings, unless_refused_brings}
-use Rattle.desk_core.proofs.Fitted.{IfAnyFits, has_revisions_le, first_apart, rest_apart}
-
-abbrev PutFits : PagePut → Type 0
-PutFits p = FitsPage p.page
-
-abbrev Apart : PagePut → PagePut → Type 0
-Apart p q = p.page.head.page ≡ q.page.head.page → ⊥
-
-abbrev EntriesApart : Entry → Entry → Type 0
-EntriesApart d e = d.page ≡ e.page → ⊥
+use Rattle.desk_core.proofs.Fitted.{IfAnyFits, has_revisions_le, PutFits, Apart, EntriesApart, first_apart, rest_apart}
 
 module _ (book : Book) (caller : List ℕ) where
   made : ℕ → List Placed → List PagePut

@@ -22,7 +22,7 @@ use Rattle.desk_core.specs.Refusals.{Decision}
 use Rattle.desk_core.specs.Judging.{judged_row, judge, added, AddsTo}
 use Rattle.desk_core.specs.Serving.{Stands, Agrees, Accepts, Decides, FindsKept, IsTrueTo}
 use Rattle.desk_core.proofs.Ways.{followed}
-use Rattle.desk_core.proofs.Onward.{not_fault, agrees_with, only_read, read_as}
+use Rattle.desk_core.proofs.Onward.{untold, not_fault, agrees_with, only_read, read_as}
 use Rattle.desk_core.proofs.ReadLaws.{found_is_true}
 
 fits_of : (site page : List ℕ) → IsTrue (is_name site) → IsTrue (is_name page) → (change : Option Change) → IfSome change (AddsTo site page) → IfSome change Fits
@@ -43,10 +43,6 @@ there_of site page t kept (Some (AddJudgement s p j o)) is =
     let P : List ℕ → Type 0 = λ n. IsSome (kept_page n p t) in
     let Q : List ℕ → Type 0 = λ n. IsSome (kept_page site n t) in
     subst P (sym is.0) (subst Q (sym is.1) kept)
-
-untold : (change : Option Change) → IfSome change (λ c. IfSome None (IsThere c))
-untold None = tt
-untold (Some change) = tt
 
 there_in : (o : Option KeptPage) (p : PageState) → option_map page_state o ≡ Some p → IsSome o
 there_in None p is = cc

@@ -1,7 +1,7 @@
 -- One way through a keeper after another.
-use Rattle.std.proofs.Common.{◌≡◌, ℕ, length, ◌≤◌, List, Option, Some, None, Result, Ok, Err, IfSome, IfOk, IsErrOf, inl, inr, refl, sym, ap, subst, ◌∙◌, arith}
+use Rattle.std.proofs.Common.{◌≡◌, ℕ, length, ◌≤◌, List, Option, Some, None, Result, Ok, Err, IfSome, IfOk, IsErrOf, refl, sym, ap, subst, ◌∙◌, arith}
 use Rattle.std.proofs.lemmas.List.{length-map}
-use Rattle.counts.specs.Counts.{Rose}
+use Rattle.counts.proofs.CountLaws.{rose_after}
 use Rattle.judge_core.specs.Books.{Book}
 use Rattle.keep_core.specs.declared.change.Change.{Change}
 use Rattle.keep_core.specs.declared.site.Site.{Site}
@@ -23,17 +23,13 @@ use Rattle.desk_core.proofs.Accepting.{accepted_by}
 use Rattle.desk_core.proofs.Kept.{IfAnyIsThere, decided_is_there}
 use Rattle.desk_core.proofs.Ways.{not_allowed, entered, followed, page_is, pages_are}
 
-rose_from : (from at to : ℕ) → from ≤ at → Rose at to → Rose from to
-rose_from from at to le (inl less) = inl (omega arith)
-rose_from from at to le (inr is) = inr is
-
 -- what is read after other reading is read after what came before
 pub thence : {A B : Type 0} (old mid new : Option Tables) (from at to : ℕ) (r : Result A Refusal) (s : Result B Refusal)
     → OnlyReads old mid from at r → OnlyReads mid new at to s → OnlyReads old new from to s
 thence old mid new from at to r s earlier later = record {
   stays = λ t told. earlier.stays t (later.stays t told);
   never_falls = omega (arith, earlier.never_falls, later.never_falls);
-  failed = λ e. rose_from from at to earlier.never_falls (later.failed e);
+  failed = λ e. rose_after from at to earlier.never_falls (later.failed e);
 }
 
 -- reading whose answer isn't the keeper's fault
@@ -74,7 +70,8 @@ pub fits_by : (result : Result Decided Refusal) (decision : Decision) → Agrees
 fits_by (Ok d) decision agrees brings = brought IfAnyFits decision d agrees brings
 fits_by (Err r) decision agrees brings = tt
 
-untold : (change : Option Change) → IfSome change (λ c. IfSome None (IsThere c))
+-- of tables that aren't told, nothing is to be there
+pub untold : (change : Option Change) → IfSome change (λ c. IfSome None (IsThere c))
 untold None = tt
 untold (Some change) = tt
 

@@ -164,7 +164,7 @@ module _ (book : Book) (t : Tables) (sound : IsSound book t) (caller : List ℕ)
         let few : length (f k).pages ≤ MOST_PAGES = (kept_sound book (changed (PutPages site (k.site.counter + length (e ∷ entries)) given) t) sound' site (f k) kept).few in
         let same : length pages ≡ length (f k).pages = length-map (f k).pages page_state in
         let newer : (p : List ℕ) (rev : ℕ) → HasEntry p rev (e ∷ entries) → 0 < rev_of (page_at p pages) =
-            λ p rev has. puts_newer_at book caller p rev k.pages k.pages 0 k.site.counter (e ∷ entries) (omega arith) has in
+        λ p rev has. puts_newer_at book caller p rev k.pages k.pages 0 k.site.counter (e ∷ entries) (omega arith) has in
         let none : new_pages pages (e ∷ entries) ≡ 0 = none_new pages (e ∷ entries) newer in
         enters IsBehind needed.Editor caller _ _ (site_state (f k)) (there_then site k f (λ _. refl) is) allows
         (unless_refuses IsBehind (nat_le (length pages + new_pages pages (e ∷ entries)) MOST_PAGES) (refusal.PageLimit limit.Pages) _

@@ -1,6 +1,7 @@
 -- A request that was decided, and whose change was made, is served.
 use Rattle.std.proofs.Common.{◌≡◌, ℕ, ◌≤◌, Option, Some, None, Ok, Err, ◌⊎◌, inl, inr, refl, sym, ap, subst, ◌∙◌, arith}
 use Rattle.counts.specs.Counts.{Rose}
+use Rattle.counts.proofs.CountLaws.{rose_after}
 use Rattle.judge_core.specs.Books.{Book}
 use Rattle.keep_core.specs.declared.change.Change.{Change}
 use Rattle.keep_core.specs.Tables.{Tables, kept_site}
@@ -21,10 +22,6 @@ use Rattle.desk_core.proofs.Views.{changes_seen}
 use Rattle.desk_core.proofs.Keeping.{keeps_sound}
 use Rattle.desk_core.proofs.Deciding.{brought}
 use Rattle.desk_core.proofs.Sites.{Names, decided_names, rows_stay}
-
-rose_later : (from at to : ℕ) → from ≤ at → Rose at to → Rose from to
-rose_later from at to le (inl less) = inl (omega arith)
-rose_later from at to le (inr is) = inr is
 
 turned : (change : Option Change) (mid new : Option Tables) → TurnsBy change mid new → (t : Tables) → new ≡ Some t → (s : Tables) × (mid ≡ Some s) × (t ≡ made change s)
 turned None mid new turns t is = (t, turns t is, refl)
@@ -53,7 +50,7 @@ fault_rose at now reply (inr is) fault = let no : Refused refusal.OutOfMemory �
 
 failed_by : (before at now : ℕ) (d : Decided) (mid new : Option Tables) (reply : Reply) → before ≤ at → IsAccepted d.reply → Ends d mid new at now reply → reply ≡ Refused refusal.KeeperFault → Rose before now
 failed_by before at now d mid new reply le accepted (inl is) fault = absurd (not_accepted refusal.KeeperFault d.reply accepted (sym is.0 ∙ fault))
-failed_by before at now d mid new reply le accepted (inr is) fault = rose_later before at now le (fault_rose at now reply is.0 fault)
+failed_by before at now d mid new reply le accepted (inr is) fault = rose_after before at now le (fault_rose at now reply is.0 fault)
 
 -- a reply that refuses is none that was made with a change, so the tables are as they were
 stays_by : (old mid new : Option Tables) (at now : ℕ) (d : Decided) (reply : Reply) (r : Refusal) → reply ≡ Refused r → IsAccepted d.reply → Stays old mid → Ends d mid new at now reply → Stays old new
@@ -100,7 +97,7 @@ module _ (book : Book) (request : Request) where
   }
 
   failed_later : (from at to : ℕ) (reply : Reply) → from ≤ at → Fails reply at to → Fails reply from to
-  failed_later from at to reply le (inl is) = inl (is.0, rose_later from at to le is.1)
+  failed_later from at to reply le (inl is) = inl (is.0, rose_after from at to le is.1)
   failed_later from at to reply le (inr is) = inr is
 
   state_after : (change : Option Change) (t : Tables) → after change (state_of t) ≡ state_of (made change t)

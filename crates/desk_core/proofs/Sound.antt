@@ -24,7 +24,7 @@ use Rattle.keep_core.specs.Changes.{put_over, with_pages, without_page, with_jud
 use Rattle.keep_core.specs.Fits.{FitsPage, FitsPages, FitsKept}
 use Rattle.desk_core.specs.declared.limits.TheConstants.{MOST_PAGES}
 use Rattle.desk_core.specs.Members.{new_site, site_with, members_with}
-use Rattle.desk_core.specs.Soundness.{has_owner, IsSoundPage, IsSoundSite, IsSound}
+use Rattle.desk_core.specs.Soundness.{IsSoundPage, IsSoundSite, IsSound}
 use Rattle.desk_core.proofs.Owners.{Owns, owner_stays}
 use Rattle.desk_core.proofs.Fitted.{new_site_fits, site_with_fits}
 use Rattle.desk_core.proofs.SoundPages.{Given, Differ, SoundPages}
@@ -34,9 +34,6 @@ some_has P o x is has = subst (λ o. IfSome o P) is has
 
 pub pages_sound : (book : Book) (s : KeptSite) → IsSoundSite book s → SoundPages book s.site.counter s.pages
 pages_sound book s sound = record { each = sound.pages; given = sound.given; differ = sound.differ }
-
-pub site_sound : (book : Book) (s : KeptSite) → has_owner s.site.members ≡ true → length s.pages ≤ MOST_PAGES → SoundPages book s.site.counter s.pages → IsSoundSite book s
-site_sound book s owned few pages = record { owned = owned; few = few; pages = pages.each; given = pages.given; differ = pages.differ }
 
 abbrev FitsPageOf : KeptPage → Type 0
 FitsPageOf p = FitsPage p.page

@@ -93,19 +93,16 @@ pages_put orig cur (put ∷ puts) same =
 
 -- ---- changes
 
-site_after : Site → List PageState → SiteState
-site_after site pages = record { site = site; pages = pages }
-
 pub changes_seen : (c : Change) (t : Tables) → state_of (tables.changed c t) ≡ changed c (state_of t)
-unfolding site_after
+unfolding site_with
 changes_seen (PutSite site) t = site_put site t
 changes_seen (PutPages site counter puts) t =
     sym (with_row_map kept.site_name site_name site_state (λ _. refl) site (tables.with_pages counter puts)
     (λ s. record { site = with_counter counter s.site; pages = with_pages puts s.pages })
-    (λ s _. ap (site_after (with_counter counter s.site)) (pages_put s.pages s.pages puts (λ _. refl))) t)
+    (λ s _. ap (site_with (with_counter counter s.site)) (pages_put s.pages s.pages puts (λ _. refl))) t)
 changes_seen (DropPage site page) t =
     sym (with_row_map kept.site_name site_name site_state (λ _. refl) site (tables.without_page page) (in_pages (take_row page_name page))
-    (λ s _. ap (site_after s.site) (take_map kept.page_name page_name page_state (λ _. refl) page s.pages)) t)
+    (λ s _. ap (site_with s.site) (take_map kept.page_name page_name page_state (λ _. refl) page s.pages)) t)
 changes_seen (AddJudgement site page j outcomes) t =
     sym (with_row_map kept.site_name site_name site_state (λ _. refl) site (tables.with_judged page j outcomes) (in_pages (with_row page_name page (with_judgement j)))
-    (λ s _. ap (site_after s.site) (with_row_map kept.page_name page_name page_state (λ _. refl) page (tables.with_judgement j outcomes) (with_judgement j) (λ _ _. refl) s.pages)) t)
+    (λ s _. ap (site_with s.site) (with_row_map kept.page_name page_name page_state (λ _. refl) page (tables.with_judgement j outcomes) (with_judgement j) (λ _ _. refl) s.pages)) t)

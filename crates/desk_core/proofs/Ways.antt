@@ -1,27 +1,17 @@
 -- What follows from what is read of the tables: of a site's row, and of a page.
 use Rattle.std.proofs.Common.{◌≡◌, ℕ, List, true, false, Option, Some, None, option_map, Err, refl, sym, ap, ◌∙◌}
 use Rattle.named_rows.specs.ByName.{at}
-use Rattle.keep_core.specs.declared.fault.KeepFault.{KeepFault}
-use Rattle.keep_core.specs.declared.fault.KeepFault.TheVariants as keep
-use Rattle.keep_core.specs.declared.page.Page.{Page}
 use Rattle.keep_core.specs.declared.site.Site.{Site}
-use Rattle.keep_core.specs.declared.tables.KeptPage.{KeptPage}
 use Rattle.keep_core.specs.declared.tables.KeptSite.{KeptSite}
 use Rattle.keep_core.specs.Tables.{Tables, kept_site, kept_page, pages_in, pages_of, site_of, page_of, judgements_of, judgements_in}
 use Rattle.keep_core.specs.Tables as kept
-use Rattle.judge_core.specs.declared.judgement.Judgement.{Judgement}
 use Rattle.desk_core.specs.declared.refusal.Needed.{Needed}
 use Rattle.desk_core.specs.declared.refusal.Refusal.TheVariants.{NoSite, NotAllowed, NoPage}
-use Rattle.desk_core.specs.Refusals.{Decision, of_keep_fault, unless, on}
+use Rattle.desk_core.specs.Refusals.{Decision, unless, on}
 use Rattle.desk_core.specs.State.{PageState, SiteState, page_state, site_state, state_of, site_at, page_at}
 use Rattle.desk_core.specs.Rights.{may, role_of, entering, on_page}
-use Rattle.desk_core.specs.Serving.{Stands, IsIn, page_in}
+use Rattle.desk_core.specs.Serving.{IsIn, page_in}
 use Rattle.desk_core.proofs.Views.{site_seen, page_seen}
-
--- a keeper's fault stands in the place of any decision
-pub fault_stands : (fault : KeepFault) (decision : Decision) → Stands (Unit {0}) (of_keep_fault fault) decision
-fault_stands keep.Failed decision = tt
-fault_stands keep.OutOfMemory decision = tt
 
 no_site_by : (leave : Needed) (caller : List ℕ) (o : Option KeptSite) (next : SiteState → Decision) → option_map (λ (k : KeptSite). k.site) o ≡ None
     → entering leave caller (option_map site_state o) next ≡ Err NoSite
@@ -77,27 +67,6 @@ pages_are name t k is = ap pages_in is
 pub page_is : (name page : List ℕ) (t : Tables) (k : KeptSite) → kept_site name t ≡ Some k → page_at page (site_state k).pages ≡ page_in name page t
 page_is name page t k is =
     page_seen page k.pages ∙ sym (ap (λ pages. option_map page_state (at kept.page_name page pages)) (pages_are name t k is))
-
-no_page_by : (o : Option KeptPage) → option_map (λ (p : KeptPage). p.page) o ≡ None → option_map page_state o ≡ None
-no_page_by None is = refl
-no_page_by (Some p) is = cc
-
--- a page that isn't loaded isn't there
-pub no_page : (name page : List ℕ) (t : Tables) → page_of name page t ≡ None → page_in name page t ≡ None
-no_page name page t is = no_page_by (kept_page name page t) is
-
-a_page_by : (o : Option KeptPage) (p : Page) (js : List Judgement) → option_map (λ (p : KeptPage). p.page) o ≡ Some p → judgements_in o ≡ js
-    → option_map page_state o ≡ Some (record { page = p; judgements = js })
-a_page_by None p js is has = cc
-a_page_by (Some k) p js is has =
-    let same : k.page ≡ p = cc in
-    ap (λ (q : Page). Some (let s : PageState = record { page = q; judgements = k.judgements } in s)) same
-    ∙ ap (λ l. Some (let s : PageState = record { page = p; judgements = l } in s)) has
-
--- and one that is loaded is there, with the judgements that are read of it
-pub a_page : (name page : List ℕ) (t : Tables) (p : Page) (js : List Judgement) → page_of name page t ≡ Some p → judgements_of name page t ≡ js
-    → page_in name page t ≡ Some (record { page = p; judgements = js })
-a_page name page t p js is has = a_page_by (kept_page name page t) p js is has
 
 -- what follows on a page of a site that is entered is what is decided
 pub followed : (leave : Needed) (caller name page : List ℕ) (t : Tables) (site : Site) (found : Option PageState) (next : SiteState → PageState → Decision) (decision : Decision)

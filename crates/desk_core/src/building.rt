@@ -1,6 +1,6 @@
 //! The pages of an import, built by many threads that share nothing.
 
-ghost use Rattle.std.specs.Prelude.{◌≡◌, ◌<◌, ◌++◌, ◌∷◌, List, map, None, IfOk, IfErr, OnOk};
+ghost use Rattle.std.specs.Prelude.{◌≡◌, ◌<◌, ◌++◌, ◌∷◌, List, None, IfOk, IfErr, OnOk};
 ghost use Rattle.std.specs.Thread.{IsSync};
 ghost use Rattle.snap_tree.specs.Faults.{tree_fault};
 ghost use Rattle.desk_core.specs.Refusals.{Decision, unless_refused};
@@ -21,8 +21,8 @@ use std::collections::VecDeque;
 use std::thread::{Threads, join};
 
 /// The pages that entries make, in their order, and else the first fault of their rows. At most so many
-/// threads build them, each a part of them.
-#[cycle(halving)]
+/// threads build them: a new one builds its share, and this thread shares the others out.
+#[cycle(sharing)]
 pub fn build_all<R: Threads + Sync>(
     rt: &R,
     alloc: &Global,
@@ -35,15 +35,12 @@ pub fn build_all<R: Threads + Sync>(
     if threads == 1 {
         return build_in_turn(*alloc, placed);
     }
-    let half = threads / 2;
-    let rest = threads - half;
+    let rest = threads - 1;
     let mut ones = placed;
-    let others = ones.split_off(share(ones.len(), half, threads))?;
+    let others = ones.split_off(share(ones.len(), threads))?;
     let first = || -> Result<Vec<PageWork>, Refusal>
-        requires sync { IsSync R.row }
-        requires some { 0 < half }
         ensures { Builds ones.items result }
-    { build_all(rt, alloc, half, ones) };
+    { build_in_turn(*alloc, ones) };
     let later = || -> Result<Vec<PageWork>, Refusal>
         requires sync { IsSync R.row }
         requires some { 0 < rest }

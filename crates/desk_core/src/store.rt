@@ -1,17 +1,14 @@
-ghost use Rattle.std.specs.Prelude.{◌≡◌, ◌+◌, ◌<◌, ◌≤◌, ◌⊎◌, [], ◌∷◌, length, sum_by, Some, None, IfOk, IfErr, OnOk};
-ghost use Rattle.snap_tree.specs.Grown.{page_of};
-ghost use Rattle.snap_tree.specs.Faults.{tree_fault};
+ghost use Rattle.std.specs.Prelude.{◌≡◌, ◌+◌, ◌<◌, ◌≤◌, length, sum_by, IfOk};
 ghost use Rattle.judge_core.specs.Outcomes.{outcomes, judgings};
 ghost use Rattle.desk_core.specs.Pages.{page_put, stored};
 
-use crate::refusal::Refusal;
-use crate::reply::{Reply, Stored};
+use crate::reply::Stored;
 use crate::summaries::summary_of;
 use judge_core::{Judgement, Outcomes, infos_of};
 use keep_core::{Page, PageHead, PagePut};
 use reaudit::audit_page;
 use rule_core::RuleBook;
-use snap_tree::{BuildFault, List, OutOfMemory, Raw, Text, Tree};
+use snap_tree::{OutOfMemory, Text, Tree};
 use std::alloc::Global;
 
 /// The outcomes of a page by the first of some books.

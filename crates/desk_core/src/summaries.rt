@@ -1,4 +1,4 @@
-ghost use Rattle.std.specs.Prelude.{◌≡◌, ℕ, min, Bool};
+ghost use Rattle.std.specs.Prelude.{◌≡◌};
 ghost use Rattle.rule_core.specs.declared.verdict.Auto.{Auto};
 ghost use Rattle.judge_core.specs.Composites.{is_passed, is_open};
 ghost use Rattle.desk_core.specs.Summaries.{told, ended, is_failed, has_rows, idle, summary};

@@ -11,7 +11,7 @@ use crate::parts::{Part, rows_found};
 use crate::rows::push_row;
 use judge_core::{OutRow, merge_composite};
 use rule_core::{Auto, Reason, RuleInfo, RuleNo};
-use snap_tree::{List, NodeId, OutOfMemory, Text};
+use snap_tree::{NodeId, OutOfMemory, Text};
 use std::alloc::Global;
 
 /// What some inputs of a composite rule come to on a node: their outcomes that were found

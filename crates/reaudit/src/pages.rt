@@ -35,8 +35,10 @@ pub fn audit_pages<R: Threads + Sync, B: RuleBook + Send>(
     audit_part(rt, &alloc, pages, books)
 }
 
-// A part of the pages by a part of the books.
-#[cycle(halving)]
+// The pages by the books: the first book audits its share of them in a new thread, and this thread shares
+// the others out. So one thread makes all the others: threads that are made by new threads are often put on
+// the processor of those that made them, beside an idle one.
+#[cycle(sharing)]
 fn audit_part<R: Threads + Sync, B: RuleBook + Send>(
     rt: &R,
     alloc: &Global,
@@ -52,9 +54,8 @@ fn audit_part<R: Threads + Sync, B: RuleBook + Send>(
     if books.len() == 1 {
         return audit_in_turn(*alloc, &mut books[0], pages);
     }
-    let half = books.len() / 2;
-    let (first_pages, later_pages) = pages.split_at(share(pages.len(), half, books.len()));
-    let (first_books, later_books) = books.split_at_mut(half);
+    let (first_pages, later_pages) = pages.split_at(share(pages.len(), books.len()));
+    let (first_books, later_books) = books.split_at_mut(1);
     let (first, later) = audit_both(
         rt,
         alloc,
@@ -66,8 +67,8 @@ fn audit_part<R: Threads + Sync, B: RuleBook + Send>(
     joined(first, later)
 }
 
-// Two parts of the pages by two parts of the books, each in a thread of its own.
-#[cycle(halving)]
+// Two parts of the pages by two parts of the books, the first in a new thread.
+#[cycle(sharing)]
 fn audit_both<R: Threads + Sync, B: RuleBook + Send>(
     rt: &R,
     alloc: &Global,
@@ -109,15 +110,14 @@ fn audit_both<R: Threads + Sync, B: RuleBook + Send>(
     join_mut(rt, &mut first, &mut later)
 }
 
-/// How many pages some of the workers take: in proportion to their number, rounded down.
+/// How many pages the next of so many workers takes: its part of them, rounded down.
 #[tactic(auto, using(crate::proofs::Shares::share_within))]
-pub fn share(pages: usize, some: usize, workers: usize) -> usize
-    requires some { some ≤ workers }
-    requires workers { 0 < workers }
-    ensures share { result ≡ pages * some / workers }
+pub fn share(pages: usize, workers: usize) -> usize
+    requires { 0 < workers }
+    ensures share { result ≡ pages / workers }
     ensures within { result ≤ pages }
 {
-    (pages as u128 * some as u128 / workers as u128) as usize
+    pages / workers
 }
 
 // Some pages, one after another, by one book.

@@ -1,6 +1,6 @@
 ghost use Rattle.std.specs.Prelude.{◌≡◌, ◌==◌, ◌++◌, List, [], if◌then◌else◌, map, IfOk, OnOk};
 ghost use Rattle.std.specs.Option.{option_copied};
-ghost use Rattle.std.specs.List.{find, AllByRecursion};
+ghost use Rattle.std.specs.List.{find};
 ghost use Rattle.snap_tree.specs.Trees.{Document};
 ghost use Rattle.rule_core.specs.Infos.{is_atomic};
 ghost use Rattle.judge_core.specs.declared.judgement.Judgement.{Judgement};

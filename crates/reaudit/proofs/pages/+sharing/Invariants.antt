@@ -1,5 +1,5 @@
 use Rattle.std.proofs.Common.{◌+◌, ◌*◌, max, length}
-use Rattle.reaudit.proofs.pages.+halving.Given as goal
+use Rattle.reaudit.proofs.pages.+sharing.Given as goal
 
 abbrev pub decreases-audit_both : goal.decreases-audit_both
 decreases-audit_both g l = 3 * max (length l.first_books.now) (length l.later_books.now) + 2

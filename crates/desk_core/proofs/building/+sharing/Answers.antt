@@ -1,7 +1,7 @@
 use Rattle.std.proofs.Common.{◌++◌, ap, ◌∙◌, subst, take}
 use Rattle.std.proofs.lemmas.List.{take-append-drop}
 use Rattle.desk_core.specs.Building.{Builds}
-use Rattle.desk_core.proofs.building.+halving.Goals as goal
+use Rattle.desk_core.proofs.building.+sharing.Goals as goal
 
 pub returns : goal.returns
 returns g t c =
