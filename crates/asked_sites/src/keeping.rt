@@ -239,10 +239,12 @@ fn copies_are_equal(rt: HostRuntime) -> Result<(), Fail> {
     assert_eq!(rt; copy.page.tree.rows().len(), 1);
     assert!(rt; copy.page.tree.rows()[0].is_html("html"));
     assert_eq!(rt; copy.outcomes, put.outcomes);
+    let address = put.page.tree.address().copy(alloc)?;
+    let PagePut { page, outcomes } = put;
     let shown = SitePage {
-        head: put.page.head,
-        address: put.page.tree.address().copy(alloc)?,
-        outcomes: put.outcomes,
+        head: page.head,
+        address,
+        outcomes,
     };
     assert_eq!(rt; shown.copy(alloc)?, shown);
     Ok(())
