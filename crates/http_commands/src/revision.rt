@@ -5,8 +5,8 @@ ghost use Rattle.http_commands.specs.Revisions.{at_most_greatest, stated, revisi
 
 use crate::shape::in_shape;
 use crate::unasked::Unasked;
-use keep_core::MOST_REVISION;
 use http_messages::{Head, number_of};
+use keep_core::MOST_REVISION;
 use request_faults::Part;
 use serde_json::Value;
 
