@@ -1,5 +1,5 @@
-use crate::sketch::built;
 use acc_name::name;
+use page_texts::page;
 use snap_tree::{NodeId, OutOfMemory};
 use std::alloc::Global;
 use std::fmt::Write;
@@ -24,8 +24,8 @@ fn nested(alloc: Global, levels: u32, text: &str) -> Result<String, Fail> {
 }
 
 fn has_name(alloc: Global, levels: u32, text: &str) -> Result<bool, Fail> {
-    let page = nested(alloc, levels, text)?;
-    let tree = built(alloc, page.as_str())?;
+    let nested = nested(alloc, levels, text)?;
+    let tree = page(alloc, nested.as_str())?;
     match name(alloc, &tree, NodeId(2)) {
         Ok(_) => Ok(true),
         Err(OutOfMemory) => Ok(false),

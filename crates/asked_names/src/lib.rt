@@ -24,6 +24,4 @@ mod references;
 #[cfg(test)]
 mod roles;
 #[cfg(test)]
-mod sketch;
-#[cfg(test)]
 mod values;

@@ -1,23 +1,25 @@
-use crate::sketch::built;
+use page_texts::page;
 use snap_tree::{NodeId, OutOfMemory, Tree};
 use std::alloc::Global;
 use std::test::Fail;
 
-// A page that ends with the node in question.
-pub fn page_with(alloc: Global, rows: &str) -> Result<Tree, Fail> {
-    let mut page = String::from_str(alloc, "1 0 html;2 1 body;")?;
-    page.push_str(rows)?;
-    built(alloc, page.as_str())
+/// A page of which these are the rows in body 2, with the node in question last.
+pub(crate) fn page_with(alloc: Global, rows: &str) -> Result<Tree, Fail> {
+    let mut text = String::from_str(alloc, "1 0 html;2 1 body;")?;
+    text.push_str(rows)?;
+    Ok(page(alloc, text.as_str())?)
 }
 
-pub fn last_of(tree: &Tree) -> NodeId {
+/// The last node of a page; 0 where it has none.
+pub(crate) fn last_of(tree: &Tree) -> NodeId {
     match tree.rows().last() {
         Some(row) => row.id,
         None => NodeId(0),
     }
 }
 
-pub fn add_number(text: &mut String, n: NodeId) -> Result<(), OutOfMemory> {
+/// Adds a number, behind a space where it isn't the first.
+pub(crate) fn add_number(text: &mut String, n: NodeId) -> Result<(), OutOfMemory> {
     if !text.is_empty() {
         text.push(' ')?;
     }
