@@ -1,4 +1,4 @@
-use page_texts::{PageFault, page};
+use page_texts::{PageFault, RowFault, page};
 use snap_tree::TreeFault::{
     DoubleAttr, DoubleNumber, EmptyName, ParentUnknownOrNotOpen, RootNotElement, TextHasKids,
 };
@@ -102,6 +102,32 @@ static TWO_FAULTS: [Case; 10] = [
 #[test]
 fn names_the_first_of_two_faults(rt: HostRuntime) -> Result<(), Fail> {
     each_breaks(&rt, rt.alloc(), &TWO_FAULTS)
+}
+
+static NO_ROWS: [&str; 9] = [
+    "",
+    "1 0 p;",
+    "1",
+    "x 0 p",
+    "1 0 p a",
+    "1 0 p#a",
+    "1 0 #a b",
+    "1 0 p!r",
+    "1 0 p a=b!",
+];
+
+fn is_no_rows(alloc: Global, text: &str) -> bool {
+    match page(alloc, text) {
+        Err(fault) => fault == PageFault::Rows(RowFault::NoRow),
+        Ok(_) => false,
+    }
+}
+
+#[test]
+fn refuses_a_text_that_is_no_rows(rt: HostRuntime) {
+    for text in NO_ROWS {
+        assert!(rt; is_no_rows(rt.alloc(), text), "{text}");
+    }
 }
 
 #[test]
