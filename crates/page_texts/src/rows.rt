@@ -1,7 +1,7 @@
-ghost use Rattle.std.specs.Prelude.{◌≡◌, ◌++◌, ◌∷◌, [], None, IfOk, IfErr, OnOk};
+ghost use Rattle.std.specs.Prelude.{◌≡◌, ◌++◌, None, IfOk, IfErr, OnOk};
 ghost use Rattle.snap_tree.specs.Faults.{tree_fault};
 ghost use Rattle.snap_tree.specs.Grown.{page_of};
-ghost use Rattle.page_texts.specs.Texts.{attr_in, named_in, attrs_in, space_in, tag_in, element_in, body_in, row_facts, named, row_of, row_in, rows_in, raw_in, Breaks};
+ghost use Rattle.page_texts.specs.Texts.{attr_in, named_in, attrs_in, space_in, tag_in, element_in, body_in, named, row_of, row_in, rows_in, raw_in, Breaks};
 
 use crate::fault::{PageFault, RowFault};
 use crate::words::{cut, facts, number, spaced};

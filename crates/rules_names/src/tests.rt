@@ -3,10 +3,12 @@ use crate::form_field::FormFieldHasName;
 use crate::heading::HeadingHasName;
 use crate::image::ImageHasName;
 use crate::link::LinkHasName;
-use crate::samples::{Case, each_is_told, page, tells};
+use crate::samples::{Case, each_is_told};
+use page_texts::page;
 use rule_core::Auto::{Failed, Passed};
 use rule_core::Reason::{Met, NoName};
 use rule_core::Rule;
+use rule_sketches::says;
 use snap_tree::{Text, Tree};
 use std::alloc::Global;
 use std::fmt::Write;
@@ -15,7 +17,7 @@ use std::test::Fail;
 // A button refers to itself, to a hidden node and to nothing; another holds an image.
 static BUTTONS: [Case; 2] = [
     (
-        "1 0 div;20 1 button id=b1 aria-label=Save aria-labelledby=b1~h1~zz;21 1 !span id=h1;22 21 !#file",
+        "1 0 div;20 1 button id=b1 aria-label=Save aria-labelledby=b1~h1~zz;21 1 span id=h1 !;22 21 #file !",
         20,
         Some((Passed, Met, "button\nSave file")),
     ),
@@ -67,7 +69,7 @@ fn long_names_stand_by_their_digests(rt: HostRuntime) -> Result<(), Fail> {
         }
         let tree = page(rt.alloc(), nodes.as_str())?;
         let told = Some((Passed, Met, *evidence));
-        assert!(rt; tells(rt.alloc(), &HeadingHasName, &tree, 1, told)?);
+        assert!(rt; says(rt.alloc(), &HeadingHasName, &tree, 1, told)?);
     }
     Ok(())
 }

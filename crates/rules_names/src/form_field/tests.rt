@@ -51,7 +51,7 @@ static FIELDS: [Case; 16] = [
         Some((Passed, Met, "switch\nOn")),
     ),
     (
-        "1 0 *g role=menuitemcheckbox",
+        "1 0 svg:g role=menuitemcheckbox",
         1,
         Some((Failed, NoName, "menuitemcheckbox\n")),
     ),
@@ -64,7 +64,7 @@ static FIELDS: [Case; 16] = [
     ("1 0 input type=button", 1, None),
     ("1 0 progress", 1, None),
     ("1 0 input role=none", 1, None),
-    ("1 0 !input", 1, None),
+    ("1 0 input !", 1, None),
 ];
 
 #[test]

@@ -7,21 +7,21 @@ use std::test::Fail;
 static HEADINGS: [Case; 9] = [
     ("1 0 h1;2 1 #Open", 1, Some((Passed, Met, "heading\nOpen"))),
     ("1 0 h6", 1, Some((Failed, NoName, "heading\n"))),
-    ("1 0 h2;2 1 !#Open", 1, Some((Failed, NoName, "heading\n"))),
+    ("1 0 h2;2 1 #Open !", 1, Some((Failed, NoName, "heading\n"))),
     (
         "1 0 div role=heading aria-label=Open",
         1,
         Some((Passed, Met, "heading\nOpen")),
     ),
     (
-        "1 0 *text role=heading",
+        "1 0 svg:text role=heading",
         1,
         Some((Failed, NoName, "heading\n")),
     ),
     ("1 0 h2 role=tab;2 1 #Open", 1, None),
     ("1 0 h2 role=presentation;2 1 #Open", 1, None),
     ("1 0 p;2 1 #Open", 1, None),
-    ("1 0 !h1;2 1 #Open", 1, None),
+    ("1 0 h1 !;2 1 #Open", 1, None),
 ];
 
 #[test]

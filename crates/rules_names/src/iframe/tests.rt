@@ -14,9 +14,9 @@ static FRAMES: [Case; 8] = [
     ),
     ("1 0 iframe role=none title=Map", 1, None),
     ("1 0 iframe title=Map aria-hidden=true", 1, None),
-    ("1 0 *iframe title=Map", 1, None),
+    ("1 0 svg:iframe title=Map", 1, None),
     ("1 0 frame title=Map", 1, None),
-    ("1 0 !iframe title=Map", 1, None),
+    ("1 0 iframe title=Map !", 1, None),
 ];
 
 #[test]

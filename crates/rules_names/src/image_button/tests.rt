@@ -23,8 +23,8 @@ static IMAGE_BUTTONS: [Case; 8] = [
     ("1 0 input type=image role=none alt=Go", 1, None),
     ("1 0 input type=~image alt=Go", 1, None),
     ("1 0 input type=submit", 1, None),
-    ("1 0 *input type=image", 1, None),
-    ("1 0 !input type=image", 1, None),
+    ("1 0 svg:input type=image", 1, None),
+    ("1 0 input type=image !", 1, None),
 ];
 
 #[test]

@@ -19,8 +19,8 @@ static LINKS: [Case; 9] = [
     ("1 0 span role=link", 1, Some((Failed, NoName, "link\n"))),
     ("1 0 a;2 1 #More", 1, None),
     ("1 0 a href=/ role=button", 1, None),
-    ("1 0 *a role=link aria-label=More", 1, None),
-    ("1 0 !a href=/", 1, None),
+    ("1 0 svg:a role=link aria-label=More", 1, None),
+    ("1 0 a href=/ !", 1, None),
     ("1 0 a href=/ aria-hidden=TRUE", 1, None),
 ];
 

@@ -6,21 +6,21 @@ use std::test::Fail;
 
 static IMAGES: [Case; 8] = [
     (
-        "1 0 *svg role=img;2 1 *title;3 2 #Chart",
+        "1 0 svg:svg role=img;2 1 svg:title;3 2 #Chart",
         1,
         Some((Passed, Met, "img\nChart")),
     ),
-    ("1 0 *svg role=img", 1, Some((Failed, NoName, "img\n"))),
+    ("1 0 svg:svg role=img", 1, Some((Failed, NoName, "img\n"))),
     (
-        "1 0 *circle role=foo~IMG aria-label=Dot",
+        "1 0 svg:circle role=foo~IMG aria-label=Dot",
         1,
         Some((Passed, Met, "img\nDot")),
     ),
-    ("1 0 *svg", 1, None),
-    ("1 0 *g role=group~img", 1, None),
-    ("1 0 *svg role=graphics-symbol", 1, None),
+    ("1 0 svg:svg", 1, None),
+    ("1 0 svg:g role=group~img", 1, None),
+    ("1 0 svg:svg role=graphics-symbol", 1, None),
     ("1 0 img role=img", 1, None),
-    ("1 0 !*svg role=img", 1, None),
+    ("1 0 svg:svg role=img !", 1, None),
 ];
 
 #[test]
