@@ -20,6 +20,3 @@ pub use item::{Item, Message, Sent};
 pub use laws::laws_of_talk;
 pub use parse::{MOST_FIELDS, read_head};
 pub use reading::{Got, ReadFault, read_item};
-
-#[cfg(test)]
-mod tests;

@@ -74,6 +74,3 @@ pub fn composites() -> &'static [RuleInfo]
 {
     COMPOSITES.as_slice()
 }
-
-#[cfg(test)]
-mod tests;

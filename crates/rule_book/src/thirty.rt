@@ -136,6 +136,3 @@ impl RuleBook for Thirty {
 
     ghost strange = { said_strange thirty };
 }
-
-#[cfg(test)]
-mod tests;

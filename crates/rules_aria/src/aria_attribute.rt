@@ -77,6 +77,3 @@ impl Rule for AriaAttributeIsDefined {
         }
     }
 }
-
-#[cfg(test)]
-mod tests;

@@ -95,6 +95,3 @@ impl Rule for HiddenHoldsNoFocus {
         }
     }
 }
-
-#[cfg(test)]
-mod tests;

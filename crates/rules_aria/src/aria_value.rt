@@ -122,6 +122,3 @@ impl Rule for AriaValueIsValid {
         }
     }
 }
-
-#[cfg(test)]
-mod tests;

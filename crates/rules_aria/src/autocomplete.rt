@@ -299,6 +299,3 @@ impl Rule for AutocompleteIsValid {
         }
     }
 }
-
-#[cfg(test)]
-mod tests;

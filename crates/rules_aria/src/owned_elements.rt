@@ -100,6 +100,3 @@ impl Rule for OwnsRequiredElements {
         }
     }
 }
-
-#[cfg(test)]
-mod tests;

@@ -99,6 +99,3 @@ impl Rule for HasRequiredStates {
         }
     }
 }
-
-#[cfg(test)]
-mod tests;

@@ -95,6 +95,3 @@ impl Rule for RoleIsValid {
         }
     }
 }
-
-#[cfg(test)]
-mod tests;

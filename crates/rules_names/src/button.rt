@@ -43,6 +43,3 @@ impl Rule for ButtonHasName {
         wants_name(alloc, tree, n, &sight)
     }
 }
-
-#[cfg(test)]
-mod tests;

@@ -49,6 +49,3 @@ impl Rule for FormFieldHasName {
         wants_name(alloc, tree, n, &sight)
     }
 }
-
-#[cfg(test)]
-mod tests;

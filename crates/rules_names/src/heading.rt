@@ -33,6 +33,3 @@ impl Rule for HeadingHasName {
         wants_name(alloc, tree, n, &sight)
     }
 }
-
-#[cfg(test)]
-mod tests;

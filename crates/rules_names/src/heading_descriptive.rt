@@ -65,6 +65,3 @@ impl Rule for HeadingIsDescriptive {
         verdict(alloc, tree, n, &sight)
     }
 }
-
-#[cfg(test)]
-mod tests;

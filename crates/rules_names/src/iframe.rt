@@ -32,6 +32,3 @@ impl Rule for IframeHasName {
         wants_name(alloc, tree, n, &sight)
     }
 }
-
-#[cfg(test)]
-mod tests;

@@ -81,6 +81,3 @@ impl Rule for ImageHasName {
         verdict(alloc, tree, n, &sight)
     }
 }
-
-#[cfg(test)]
-mod tests;

@@ -41,6 +41,3 @@ impl Rule for ImageButtonHasName {
         wants_name(alloc, tree, n, &sight)
     }
 }
-
-#[cfg(test)]
-mod tests;

@@ -13,11 +13,7 @@ mod image_button;
 mod link;
 mod named;
 mod role_and_name;
-#[cfg(test)]
-mod samples;
 mod svg_image;
-#[cfg(test)]
-mod tests;
 
 pub use button::ButtonHasName;
 pub use form_field::FormFieldHasName;

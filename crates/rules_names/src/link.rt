@@ -42,6 +42,3 @@ impl Rule for LinkHasName {
         wants_name(alloc, tree, n, &sight)
     }
 }
-
-#[cfg(test)]
-mod tests;

@@ -43,6 +43,3 @@ impl Rule for SvgImageHasName {
         wants_name(alloc, tree, n, &sight)
     }
 }
-
-#[cfg(test)]
-mod tests;

@@ -295,6 +295,3 @@ fn has_stop(tree: &Tree) -> bool
 {
     any_stop(tree.rows())
 }
-
-#[cfg(test)]
-mod tests;

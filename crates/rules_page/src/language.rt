@@ -31,6 +31,3 @@ impl Rule for PageHasLang {
         Ok(Some(finding.verdict_on(alloc, lang)?))
     }
 }
-
-#[cfg(test)]
-mod tests;

@@ -41,6 +41,3 @@ impl Rule for LanguageIsKnown {
         }
     }
 }
-
-#[cfg(test)]
-mod tests;

@@ -85,6 +85,3 @@ impl Rule for LanguageOfPartIsKnown {
         }
     }
 }
-
-#[cfg(test)]
-mod tests;

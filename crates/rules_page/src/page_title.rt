@@ -83,6 +83,3 @@ impl Rule for PageHasTitle {
         Ok(Some(finding.verdict_on(alloc, title.as_ref())?))
     }
 }
-
-#[cfg(test)]
-mod tests;

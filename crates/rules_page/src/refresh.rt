@@ -159,6 +159,3 @@ impl Rule for PageHasNoDelay {
         }
     }
 }
-
-#[cfg(test)]
-mod tests;

@@ -56,6 +56,3 @@ impl Rule for TitleIsDescriptive {
         }
     }
 }
-
-#[cfg(test)]
-mod tests;

@@ -234,6 +234,3 @@ impl Rule for ViewportAllowsZoom {
         }
     }
 }
-
-#[cfg(test)]
-mod tests;

@@ -136,6 +136,3 @@ impl Rule for HeaderHasCells {
         }
     }
 }
-
-#[cfg(test)]
-mod tests;

@@ -159,6 +159,3 @@ impl Rule for HeadersReferToCells {
         }
     }
 }
-
-#[cfg(test)]
-mod tests;

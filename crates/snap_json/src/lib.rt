@@ -24,8 +24,6 @@ mod fields;
 mod limits;
 mod reading;
 mod rows;
-#[cfg(test)]
-mod tests;
 mod writing;
 
 pub use fault::{Field, SnapFault};
