@@ -1,9 +1,9 @@
-use page_sketches::Attrs;
-use page_sketches::Node::{Facts, Html};
+use fixture_pages::Attrs;
+use fixture_pages::Node::{Facts, Html};
 use rule_core::Auto::{CantTell, Failed, Passed};
 use rule_core::Reason::{LaterAttr, Met, UnknownAttr};
 use rule_core::Rule;
-use rule_sketches::{Told, tells};
+use fixture_rules::{Told, tells};
 use rules_aria::AriaAttributeIsDefined;
 use std::test::Fail;
 

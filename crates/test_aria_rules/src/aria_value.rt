@@ -1,9 +1,9 @@
-use page_sketches::Node::{Facts, Html};
-use page_sketches::{Attrs, page};
+use fixture_pages::Node::{Facts, Html};
+use fixture_pages::{Attrs, page};
 use rule_core::Auto::{Failed, Passed};
 use rule_core::Reason::{BadValue, DeadReference, Met};
 use rule_core::Rule;
-use rule_sketches::{Told, tells};
+use fixture_rules::{Told, tells};
 use rules_aria::AriaValueIsValid;
 use snap_tree::NodeId;
 use std::test::Fail;

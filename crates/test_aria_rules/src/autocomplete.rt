@@ -1,7 +1,7 @@
-use page_sketches::Node::{self, Facts, Html, Svg};
+use fixture_pages::Node::{self, Facts, Html, Svg};
 use rule_core::Auto::{Failed, Passed};
 use rule_core::{Reason, Rule};
-use rule_sketches::tells;
+use fixture_rules::tells;
 use rules_aria::AutocompleteIsValid;
 use std::test::Fail;
 

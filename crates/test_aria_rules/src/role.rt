@@ -1,8 +1,8 @@
-use page_sketches::Node::{self, Facts, Html};
+use fixture_pages::Node::{self, Facts, Html};
 use rule_core::Auto::{CantTell, Failed, Passed};
 use rule_core::Reason::{Met, NoKnownRole, OutsideRole};
 use rule_core::Rule;
-use rule_sketches::{Told, tells};
+use fixture_rules::{Told, tells};
 use rules_aria::RoleIsValid;
 use std::test::Fail;
 

@@ -1,4 +1,4 @@
-use page_sketches::{Node, page};
+use fixture_pages::{Node, page};
 use rule_book::Thirty;
 use rule_core::Auto::{self, CantTell, Failed, Passed};
 use rule_core::Reason::{
@@ -6,7 +6,7 @@ use rule_core::Reason::{
     JudgeLandmark, JudgeSkipLink, JudgeTitle, Met, MissingState, NoName, NoZoom, NothingOwned,
 };
 use rule_core::{RuleBook, RuleNo};
-use rule_sketches::is_told;
+use fixture_rules::is_told;
 use snap_tree::NodeId;
 use std::test::Fail;
 

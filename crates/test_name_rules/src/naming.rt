@@ -1,9 +1,9 @@
 use crate::samples::{Case, each_is_told};
-use page_texts::page;
+use fixture_pages::page_in;
 use rule_core::Auto::{Failed, Passed};
 use rule_core::Reason::{Met, NoName};
 use rule_core::Rule;
-use rule_sketches::says;
+use fixture_rules::says;
 use rules_names::{ButtonHasName, FormFieldHasName, HeadingHasName, ImageHasName, LinkHasName};
 use snap_tree::{Text, Tree};
 use std::alloc::Global;
@@ -63,7 +63,7 @@ fn long_names_stand_by_their_digests(rt: HostRuntime) -> Result<(), Fail> {
         for _ in 0..*bytes {
             nodes.push('a')?;
         }
-        let tree = page(rt.alloc(), nodes.as_str())?;
+        let tree = page_in(rt.alloc(), nodes.as_str())?;
         let told = Some((Passed, Met, *evidence));
         assert!(rt; says(rt.alloc(), &HeadingHasName, &tree, 1, told)?);
     }
@@ -121,7 +121,7 @@ static ORDERS: [(&str, &str); 3] = [
 #[test]
 fn headings_follow_the_order_of_the_page(rt: HostRuntime) -> Result<(), Fail> {
     for (nodes, headings) in &ORDERS {
-        let tree = page(rt.alloc(), nodes)?;
+        let tree = page_in(rt.alloc(), nodes)?;
         let passing = passing(rt.alloc(), &HeadingHasName, &tree)?;
         assert_eq!(rt; passing.as_str(), *headings);
     }

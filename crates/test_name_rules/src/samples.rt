@@ -1,8 +1,8 @@
 //! Small pages for the tests of the rules.
 
-use page_texts::page;
+use fixture_pages::page_in;
 use rule_core::Rule;
-use rule_sketches::{Told, says};
+use fixture_rules::{Told, says};
 use std::alloc::Global;
 use std::process::Abort;
 use std::test::Fail;
@@ -18,7 +18,7 @@ pub(crate) fn each_is_told<R: Rule>(
     cases: &[Case],
 ) -> Result<(), Fail> {
     for (text, n, told) in cases {
-        let tree = page(alloc, text)?;
+        let tree = page_in(alloc, text)?;
         assert!(rt; says(alloc, rule, &tree, *n, *told)?, "{text}");
     }
     Ok(())

@@ -1,10 +1,10 @@
-use page_sketches::Node::{self, Html, Stop, Words};
+use fixture_pages::Node::{self, Html, Stop, Words};
 use rule_core::Auto::{CantTell, Failed};
 use rule_core::Reason::{
     JudgeCollapse, JudgeHeadingStart, JudgeLandmark, JudgeSkipLink, NoCollapse, NoHeading,
     NoLandmark, NoSkipLink,
 };
-use rule_sketches::{Told, tells};
+use fixture_rules::{Told, tells};
 use rules_page::{HasCollapse, HasHeadingToStart, HasLandmark, HasSkipLink};
 use std::test::Fail;
 

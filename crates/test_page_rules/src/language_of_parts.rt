@@ -1,7 +1,7 @@
-use page_sketches::Node::{self, Element, Html, Svg, Text, Words};
+use fixture_pages::Node::{self, Element, Html, Svg, Text, Words};
 use rule_core::Auto::{CantTell, Failed, Passed};
 use rule_core::Reason::{Met, ThreeLetter, UnknownLang};
-use rule_sketches::{Told, tells};
+use fixture_rules::{Told, tells};
 use rules_page::LanguageOfPartIsKnown;
 use std::test::Fail;
 

@@ -1,8 +1,8 @@
-use page_sketches::Node::{self, Html};
+use fixture_pages::Node::{self, Html};
 use rule_core::Auto::{Failed, Passed};
 use rule_core::Reason;
 use rule_core::Reason::{Delay, Met};
-use rule_sketches::{Told, tells};
+use fixture_rules::{Told, tells};
 use rules_page::PageHasNoDelay;
 use std::test::Fail;
 

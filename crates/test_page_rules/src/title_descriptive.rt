@@ -1,7 +1,7 @@
-use page_sketches::Node::{self, Html, Words};
+use fixture_pages::Node::{self, Html, Words};
 use rule_core::Auto::CantTell;
 use rule_core::Reason::JudgeTitle;
-use rule_sketches::{Told, tells};
+use fixture_rules::{Told, tells};
 use rules_page::TitleIsDescriptive;
 use std::test::Fail;
 

@@ -1,9 +1,9 @@
-use page_sketches::Node::{self, Facts, Html, Svg};
-use page_sketches::page;
+use fixture_pages::Node::{self, Facts, Html, Svg};
+use fixture_pages::page;
 use rule_core::Auto::{Failed, Passed};
 use rule_core::Reason::{HeadersOutside, Met};
 use rule_core::Rule;
-use rule_sketches::{Told, says};
+use fixture_rules::{Told, says};
 use rules_tables::HeadersReferToCells;
 use std::alloc::Global;
 use std::test::Fail;

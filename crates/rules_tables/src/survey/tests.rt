@@ -1,8 +1,8 @@
 use super::*;
 use crate::tables::below;
 use acc_tree::sight_of;
-use page_sketches::Node::{Element, Html};
-use page_sketches::{built, row};
+use fixture_pages::Node::{Element, Html};
+use fixture_pages::{built, row};
 use snap_tree::{NodeId, Space, Tree};
 use std::test::Fail;
 

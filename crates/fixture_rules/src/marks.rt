@@ -1,0 +1,128 @@
+ghost use Rattle.std.specs.Prelude.{◌≡◌, IfOk, slice_get};
+ghost use Rattle.rule_core.specs.declared.info.Class.TheVariants.{Whole};
+ghost use Rattle.fixture_rules.specs.Marks.{marked, finding_in, composite};
+
+use rule_core::{Class, Finding, Reason, RuleBook, RuleInfo, RuleNo, Verdict};
+use snap_tree::{NodeId, OutOfMemory, Tree};
+use std::alloc::Global;
+use std::marker::Model;
+
+/// A book of which a node's attributes a, b and c say what rules 3, 4 and 5 find there: that it passed,
+/// that it failed, or by any other value that a person has to judge. The value is the evidence. Rule 1
+/// merges them all, rule 9 the third and the first. Contracts see the book as the number of its judgings
+/// so far, which at the greatest `u64` stays.
+#[derive(Drop)]
+pub struct Marks {
+    calls: u64,
+}
+
+impl Model for Marks {
+    ghost use Rattle.std.specs.Prelude.{ℕ};
+
+    ghost Value = { ℕ };
+
+    ghost view = { λ book. book.calls };
+}
+
+impl Marks {
+    /// A book that has judged nothing yet.
+    pub fn new() -> Self
+        ensures { result ≡ 0 }
+    {
+        Marks { calls: 0 }
+    }
+}
+
+fn info_at(infos: &[RuleInfo], place: usize) -> Option<RuleInfo>
+    ensures { result ≡ slice_get infos.now place }
+{
+    infos.get(place).copied()
+}
+
+fn composite(number: u16, id: &[u8; 6], inputs: [u16; 4]) -> RuleInfo
+    ensures { result ≡ composite number id.now inputs }
+{
+    RuleInfo {
+        no: RuleNo(number),
+        id: *id,
+        applies: Class::Whole,
+        expects: Class::Whole,
+        inputs,
+    }
+}
+
+fn finding_in(value: &str) -> Finding
+    ensures { result ≡ finding_in value.now }
+{
+    match value {
+        "passed" => Finding::met(),
+        "failed" => Finding::failed(Reason::NoName),
+        _ => Finding::cant_tell(Reason::JudgeHeading),
+    }
+}
+
+fn marked(alloc: Global, tree: &Tree, name: &str, n: NodeId) -> Result<Option<Verdict>, OutOfMemory>
+    ensures { IfOk result (λ verdict. verdict ≡ marked name.now tree.now n) }
+{
+    let Some(row) = tree.node(n) else {
+        return Ok(None);
+    };
+    match row.attribute(name) {
+        Some(value) => {
+            let verdict = finding_in(value.as_str()).verdict(alloc, value)?;
+            Ok(Some(verdict))
+        }
+        None => Ok(None),
+    }
+}
+
+impl RuleBook for Marks {
+    ghost use Rattle.std.specs.Prelude.{refl};
+    ghost use Rattle.std.proofs.Common.{rules};
+    ghost use Rattle.rule_core.specs.Books.{infos_of, said};
+    ghost use Rattle.rule_core.specs.BookLaws.{said_strange};
+    ghost use Rattle.fixture_rules.specs.Marks.{marks};
+
+    ghost means = { said marks };
+
+    ghost infos = { infos_of marks };
+
+    ghost calls = { λ book. book };
+
+    fn info(&self, place: usize) -> Option<RuleInfo> {
+        let infos = [
+            composite(1, b"merge1", [3, 4, 5, 0]),
+            RuleInfo::atomic(3, b"attr0a", Class::SelfOnly, Class::SelfOnly),
+            RuleInfo::atomic(4, b"attr0b", Class::SelfOnly, Class::SelfOnly),
+            RuleInfo::atomic(5, b"attr0c", Class::SelfOnly, Class::SelfOnly),
+            composite(9, b"merge2", [5, 3, 0, 0]),
+        ];
+        info_at(infos.as_slice(), place)
+    }
+
+    fn judge(
+        &mut self,
+        alloc: Global,
+        tree: &Tree,
+        rule: RuleNo,
+        n: NodeId,
+    ) -> Result<Option<Verdict>, OutOfMemory> {
+        self.calls = counts::next(self.calls);
+        match rule.0 {
+            3 => marked(alloc, tree, "a", n),
+            4 => marked(alloc, tree, "b", n),
+            5 => marked(alloc, tree, "c", n),
+            _ => Ok(None),
+        }
+    }
+
+    fn calls(&self) -> u64 {
+        self.calls
+    }
+
+    ghost orderly = { refl };
+
+    ghost few = { Prim.search rules };
+
+    ghost strange = { said_strange marks };
+}

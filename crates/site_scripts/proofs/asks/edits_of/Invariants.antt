@@ -1,6 +1,0 @@
-use Rattle.std.proofs.Common.{◌≡◌, map, take}
-use Rattle.site_scripts.specs.Asks.{edit_of}
-use Rattle.site_scripts.proofs.asks.edits_of.Given as goal
-
-abbrev pub invariant-loop-alter : goal.invariant-loop-alter
-invariant-loop-alter l = l.edits.items ≡ map edit_of (take l.alter-index l.alters)

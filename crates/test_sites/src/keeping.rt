@@ -1,0 +1,300 @@
+//! What a keeper answers of what it keeps.
+
+ghost use Rattle.std.specs.Prelude.{◌≡◌, ◌∷◌, [], IfOk};
+ghost use Rattle.keep_core.specs.Fits.{Fits, FitsPage};
+
+use crate::doubtful::Doubtful;
+use crate::soundness::is_sound;
+use judge_core::{Judgement, OutRow, Outcomes};
+use keep_core::{
+    Batch, Change, Keeper, MemoryKeeper, Page, PageHead, PagePut, SitePage, is_name,
+    laws_of_changes,
+};
+use fixture_pages::Node::Html;
+use rule_core::Auto::{CantTell, Passed};
+use rule_core::{Reason, RuleNo};
+use fixture_sites::{Unasked, keeper_failing, named, site_at};
+use snap_tree::{Duplicate, List, NodeId, OutOfMemory, Text};
+use std::alloc::Global;
+use std::process::Abort;
+use std::test::Fail;
+use web_address::is_web_address;
+
+// Texts that name, and that don't.
+static NAMES: [(&str, bool); 12] = [
+    ("a", true),
+    ("z9._-", true),
+    (
+        "0123456789012345678901234567890123456789012345678901234567890123",
+        true,
+    ),
+    (
+        "01234567890123456789012345678901234567890123456789012345678901234",
+        false,
+    ),
+    ("", false),
+    ("A", false),
+    ("a b", false),
+    ("a/b", false),
+    ("`", false),
+    ("{", false),
+    (":", false),
+    ("é", false),
+];
+
+#[test]
+fn names_are_of_their_characters(rt: HostRuntime) -> Result<(), Fail> {
+    for (text, wanted) in NAMES.as_slice() {
+        let name = Text::from_str(rt.alloc(), text)?;
+        assert_eq!(rt; is_name(&name), *wanted, "{text}");
+    }
+    Ok(())
+}
+
+// Changes of the site s and its page p.
+#[derive(Clone, Copy, Debug)]
+enum Step {
+    Site,
+    // The page at this revision, with one row of outcomes.
+    Page(u16),
+    // A judgement, with no outcomes.
+    Judgement,
+    Drop,
+}
+
+/// What a keeper answers of a site and a page: the counter, the page's revision, how many pages the site has,
+/// and how many judgements and rows of outcomes the page has.
+pub type Seen = (Option<u64>, Option<u64>, usize, usize, usize);
+
+const NOTHING: Seen = (None, None, 0, 0, 0);
+
+// Changes one after another, and what is seen after each.
+static STEPS: [(Step, Seen); 7] = [
+    (Step::Site, (Some(0), None, 0, 0, 0)),
+    (Step::Page(1), (Some(1), Some(1), 1, 0, 1)),
+    (Step::Judgement, (Some(1), Some(1), 1, 1, 0)),
+    (Step::Judgement, (Some(1), Some(1), 1, 2, 0)),
+    (Step::Page(2), (Some(2), Some(2), 1, 2, 1)),
+    (Step::Site, (Some(0), Some(2), 1, 2, 1)),
+    (Step::Drop, (Some(0), None, 0, 0, 0)),
+];
+
+fn one<T: Drop>(alloc: Global, item: T) -> Result<List<T>, OutOfMemory>
+    ensures { IfOk result (λ items. items ≡ item ∷ []) }
+{
+    let mut items = Vec::new(alloc);
+    items.push(item)?;
+    Ok(List::from_vec(items))
+}
+
+fn page(rt: &impl Abort, alloc: Global, rev: u16) -> Result<Page, Fail>
+    ensures { IfOk result FitsPage }
+{
+    let head = PageHead {
+        page: named(alloc, "p")?,
+        rev: u64::from(rev),
+        hand: Text::from_str(alloc, "Ann")?,
+    };
+    let tree = fixture_pages::page(alloc, &[Html(0, "html", &[])])?;
+    assert!(rt; is_web_address(alloc, tree.address().as_str())?);
+    Ok(Page { head, tree })
+}
+
+fn outcomes(alloc: Global) -> Result<Outcomes, OutOfMemory> {
+    let row = OutRow {
+        rule: RuleNo(16),
+        node: NodeId(1),
+        auto: CantTell,
+        reason: Reason::JudgeHeading,
+        evidence: Text::from_str(alloc, "Hours")?,
+        last: CantTell,
+        hand: Text::new(alloc),
+    };
+    let rows = one(alloc, row)?;
+    Ok(Outcomes { rows })
+}
+
+fn page_put(rt: &impl Abort, alloc: Global, rev: u16) -> Result<PagePut, Fail>
+    ensures { IfOk result (λ put. FitsPage put.page) }
+{
+    let page = page(rt, alloc, rev)?;
+    let outcomes = outcomes(alloc)?;
+    Ok(PagePut { page, outcomes })
+}
+
+fn put_pages(rt: &impl Abort, alloc: Global, rev: u16) -> Result<Change, Fail>
+    ensures { IfOk result Fits }
+{
+    let site = named(alloc, "s")?;
+    let put = page_put(rt, alloc, rev)?;
+    let pages = one(alloc, put)?;
+    Ok(Change::PutPages {
+        site,
+        counter: u64::from(rev),
+        pages,
+    })
+}
+
+fn put_site(alloc: Global) -> Result<Change, Unasked>
+    ensures { IfOk result Fits }
+{
+    let site = site_at(alloc, "s", "ann", 0)?;
+    Ok(Change::PutSite { site })
+}
+
+fn add_judgement(alloc: Global) -> Result<Change, Unasked>
+    ensures { IfOk result Fits }
+{
+    let site = named(alloc, "s")?;
+    let page = named(alloc, "p")?;
+    let judgement = Judgement {
+        rule: RuleNo(16),
+        node: NodeId(1),
+        verdict: Passed,
+        hand: Text::from_str(alloc, "bob")?,
+        note: Text::new(alloc),
+        evidence: Text::from_str(alloc, "Hours")?,
+    };
+    let outcomes = Outcomes {
+        rows: List::from_vec(Vec::new(alloc)),
+    };
+    Ok(Change::AddJudgement {
+        site,
+        page,
+        judgement,
+        outcomes,
+    })
+}
+
+fn drop_page(alloc: Global) -> Result<Change, Unasked>
+    ensures { IfOk result Fits }
+{
+    let site = named(alloc, "s")?;
+    let page = named(alloc, "p")?;
+    Ok(Change::DropPage { site, page })
+}
+
+fn change(rt: &impl Abort, alloc: Global, step: Step) -> Result<Change, Fail>
+    ensures { IfOk result Fits }
+{
+    match step {
+        Step::Site => Ok(put_site(alloc)?),
+        Step::Page(rev) => put_pages(rt, alloc, rev),
+        Step::Judgement => Ok(add_judgement(alloc)?),
+        Step::Drop => Ok(drop_page(alloc)?),
+    }
+}
+
+/// What a keeper answers of a site and a page.
+pub fn look<K: Keeper>(
+    alloc: Global,
+    keeper: &mut K,
+    site: &str,
+    page: &str,
+) -> Result<Seen, Fail> {
+    let site = Text::from_str(alloc, site)?;
+    let page = Text::from_str(alloc, page)?;
+    let counter = keeper.site(alloc, &site)?.map(|site| site.counter);
+    let rev = keeper.load(alloc, &site, &page)?.map(|page| page.head.rev);
+    let pages = keeper.list(alloc, &site)?.len();
+    let judgements = keeper.judgements(alloc, &site, &page)?.len();
+    let rows = keeper.outcomes(alloc, &site, &page)?.rows.len();
+    Ok((counter, rev, pages, judgements, rows))
+}
+
+#[test]
+fn each_change_is_seen(rt: HostRuntime) -> Result<(), Fail> {
+    let alloc = rt.alloc();
+    let mut keeper = keeper_failing(alloc, &[])?;
+    for (step, wanted) in STEPS.as_slice() {
+        let change = change(&rt, alloc, *step)?;
+        keeper.apply(alloc, &Batch { change })?;
+        assert_eq!(rt; look(alloc, &mut keeper, "s", "p")?, *wanted, "{step:?}");
+    }
+    laws_of_changes();
+    Ok(())
+}
+
+// The page's one row of outcomes is no book's.
+#[test]
+fn what_is_not_sound_is_found(rt: HostRuntime) -> Result<(), Fail> {
+    let alloc = rt.alloc();
+    let mut keeper = keeper_failing(alloc, &[])?;
+    let site = Text::from_str(alloc, "s")?;
+    for (step, wanted) in [(Step::Site, true), (Step::Page(1), false)] {
+        let change = change(&rt, alloc, step)?;
+        keeper.apply(alloc, &Batch { change })?;
+        assert_eq!(rt; is_sound(alloc, &mut keeper, &site)?, wanted, "{step:?}");
+    }
+    Ok(())
+}
+
+#[test]
+fn copies_are_equal(rt: HostRuntime) -> Result<(), Fail> {
+    let alloc = rt.alloc();
+    let put = page_put(&rt, alloc, 1)?;
+    let copy = put.copy(alloc)?;
+    assert_eq!(rt; copy.page.head, put.page.head);
+    assert_eq!(rt; copy.page.tree.address(), put.page.tree.address());
+    assert_eq!(rt; copy.page.tree.rows().len(), 1);
+    assert!(rt; copy.page.tree.rows()[0].is_html("html"));
+    assert_eq!(rt; copy.outcomes, put.outcomes);
+    let address = put.page.tree.address().copy(alloc)?;
+    let PagePut { page, outcomes } = put;
+    let shown = SitePage {
+        head: page.head,
+        address,
+        outcomes,
+    };
+    assert_eq!(rt; shown.copy(alloc)?, shown);
+    Ok(())
+}
+
+// Whether each of the six calls fails, in the order of the trait.
+fn failing(alloc: Global, keeper: &mut MemoryKeeper) -> Result<[bool; 6], Fail> {
+    let site = Text::from_str(alloc, "s")?;
+    let page = Text::from_str(alloc, "p")?;
+    let change = put_site(alloc)?;
+    let site_fails = keeper.site(alloc, &site).is_err();
+    let load_fails = keeper.load(alloc, &site, &page).is_err();
+    let list_fails = keeper.list(alloc, &site).is_err();
+    let judgements_fails = keeper.judgements(alloc, &site, &page).is_err();
+    let outcomes_fails = keeper.outcomes(alloc, &site, &page).is_err();
+    let apply_fails = keeper.apply(alloc, &Batch { change }).is_err();
+    Ok([
+        site_fails,
+        load_fails,
+        list_fails,
+        judgements_fails,
+        outcomes_fails,
+        apply_fails,
+    ])
+}
+
+#[test]
+fn the_calls_that_the_list_names_fail(rt: HostRuntime) -> Result<(), Fail> {
+    let alloc = rt.alloc();
+    for named in 1..7 {
+        let mut keeper = keeper_failing(alloc, &[named])?;
+        let fails = failing(alloc, &mut keeper)?;
+        for (place, failed) in fails.iter().enumerate() {
+            assert_eq!(rt; *failed, place as u64 + 1 == named, "{place} of {named}");
+        }
+        let seen = look(alloc, &mut keeper, "s", "p")?;
+        assert_eq!(rt; seen == NOTHING, named == 6, "{named}");
+    }
+    Ok(())
+}
+
+#[test]
+fn a_keeper_may_cease_to_tell(rt: HostRuntime) -> Result<(), Fail> {
+    let alloc = rt.alloc();
+    let mut memory = keeper_failing(alloc, &[2])?;
+    let change = put_site(alloc)?;
+    memory.apply(alloc, &Batch { change })?;
+    let mut keeper = Doubtful::over(memory);
+    let site = Text::from_str(alloc, "s")?;
+    assert!(rt; keeper.site(alloc, &site).is_err());
+    assert_eq!(rt; look(alloc, &mut keeper, "s", "p")?, STEPS[0].1);
+    Ok(())
+}

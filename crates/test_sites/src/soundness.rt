@@ -1,0 +1,94 @@
+//! Whether what is kept of a site is sound, found by looking at it anew.
+
+use judge_core::Judgement;
+use keep_core::{Keeper, Member, MemberRole, PageHead, Site, is_name};
+use named_rows::Named;
+use reaudit::audit_page;
+use fixture_rules::Marks;
+use snap_tree::{Text, tree_fault};
+use std::alloc::Global;
+use std::test::Fail;
+use web_address::is_web_address;
+
+// How many pages a site may have.
+const MOST: usize = 500;
+
+// Whether each name is one, and comes after the one before it in byte order, so that none comes twice.
+fn are_in_order<T: Named>(rows: &[T]) -> bool {
+    let mut earlier = "";
+    for row in rows {
+        let name = row.name();
+        if !is_name(name) || name.as_str() <= earlier {
+            return false;
+        }
+        earlier = name.as_str();
+    }
+    true
+}
+
+fn has_owner(members: &[Member]) -> bool {
+    members
+        .iter()
+        .any(|member| member.role == MemberRole::Owner)
+}
+
+// Whether a page's revision lies from 1 to the counter, and no other page has it.
+fn has_own_revision(heads: &[PageHead], rev: u64, counter: u64) -> bool {
+    let same = heads.iter().filter(|head| head.rev == rev).count();
+    same == 1 && 1 <= rev && rev <= counter
+}
+
+// Whether the rows that are kept of a site and of its pages' heads are sound.
+fn are_sound_rows(name: &Text, site: &Site, heads: &[PageHead]) -> bool {
+    let members = site.members.as_slice();
+    for head in heads {
+        if !has_own_revision(heads, head.rev, site.counter) || !is_name(&head.hand) {
+            return false;
+        }
+    }
+    site.name == *name
+        && is_name(name)
+        && has_owner(members)
+        && are_in_order(members)
+        && are_in_order(heads)
+        && heads.len() <= MOST
+}
+
+fn have_hands(judgements: &[Judgement]) -> bool {
+    judgements.iter().all(|judgement| is_name(&judgement.hand))
+}
+
+// Whether a page is kept under its head, its rows make a tree at a web address, and its outcomes are those
+// that it has when it is audited anew.
+fn is_sound_page<K: Keeper>(
+    alloc: Global,
+    keeper: &mut K,
+    site: &Text,
+    head: &PageHead,
+) -> Result<bool, Fail> {
+    let Some(kept) = keeper.load(alloc, site, &head.page)? else {
+        return Ok(false);
+    };
+    let judgements = keeper.judgements(alloc, site, &head.page)?;
+    let outcomes = keeper.outcomes(alloc, site, &head.page)?;
+    let mut book = Marks::new();
+    let anew = audit_page(alloc, &mut book, &kept.tree, judgements.as_slice())?;
+    let is_at_web = is_web_address(alloc, kept.tree.address().as_str())?;
+    let fault = tree_fault(alloc, kept.tree.rows())?;
+    let have_hands = have_hands(judgements.as_slice());
+    Ok(kept.head == *head && anew == outcomes && is_at_web && fault.is_none() && have_hands)
+}
+
+/// Whether what is kept of a site is sound, by the book of marks. It is, where nothing is.
+pub fn is_sound<K: Keeper>(alloc: Global, keeper: &mut K, name: &Text) -> Result<bool, Fail> {
+    let Some(site) = keeper.site(alloc, name)? else {
+        return Ok(true);
+    };
+    let heads = keeper.list(alloc, name)?;
+    for head in heads.as_slice() {
+        if !is_sound_page(alloc, keeper, name, head)? {
+            return Ok(false);
+        }
+    }
+    Ok(are_sound_rows(name, &site, heads.as_slice()))
+}
