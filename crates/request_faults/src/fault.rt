@@ -3,7 +3,8 @@ ghost use Rattle.request_faults.specs.Faults.{number, status, name};
 
 use crate::part::Part;
 
-/// Why a message makes no request: the first that holds, in this order. The connection goes on after it.
+/// Why a message makes no request: the first that holds, in this order. After it the connection goes on, unless
+/// the message's head closes it: one of version 1.0, or with the field `connection: close`.
 #[derive(Clone, Copy, Debug, PartialEq, Eq)]
 pub enum RequestFault {
     /// No route has the path, or a name in it isn't of the form.

@@ -71,11 +71,11 @@ pub enum Reason {
     NoLandmark,
     /// A person has to judge whether a landmark holds the content that isn't repeated.
     JudgeLandmark,
-    /// There is no included link that leads to an element of the page.
+    /// No included link that the Tab key reaches has a href that is `#` and the id of an element.
     NoSkipLink,
     /// A person has to judge whether a link leads to the content that isn't repeated.
     JudgeSkipLink,
-    /// There is nothing by which a block could be collapsed.
+    /// The Tab key reaches no included `summary`, and no included button that has aria-expanded.
     NoCollapse,
     /// A person has to judge whether the repeated blocks can be collapsed.
     JudgeCollapse,
