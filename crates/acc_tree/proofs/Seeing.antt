@@ -9,7 +9,7 @@ use Rattle.snap_tree.specs.declared.row.Attr.{Attr}
 use Rattle.snap_tree.specs.declared.row.Body.{Body}
 use Rattle.snap_tree.specs.declared.row.Body.TheVariants.{Element, Words}
 use Rattle.snap_tree.specs.declared.row.Row.{Row}
-use Rattle.snap_tree.specs.Rows.{attrs_in, attribute, same_folded, value_of}
+use Rattle.snap_tree.specs.Rows.{attrs_in, attrs_of, attribute, same_folded, value_of}
 use Rattle.snap_tree.specs.Words.{folded}
 use Rattle.acc_tree.specs.declared.attributes.Attribute.{Attribute}
 use Rattle.acc_tree.specs.declared.attributes.Attribute.TheVariants as attribute
@@ -110,17 +110,24 @@ name_among attribute.Value = refl
 name_among (attribute.Aria a) = aria_among a
 
 -- an attribute that is asked for by name is looked at
-named_seen : (name : Attribute) (a : Attr) → same_folded a.name (attribute_name name) ≡ true → is_looked_at a.name ≡ true
+pub named_seen : (name : Attribute) (a : Attr) → same_folded a.name (attribute_name name) ≡ true → is_looked_at a.name ≡ true
 unfolding is_looked_at
 named_seen name a same =
     ap is_among ((bytes_eq-Decides (folded a.name) (folded (attribute_name name))).0 same) ∙ name_among name
 
 -- an attribute whose name begins `aria-` is looked at
-aria_seen : (a : Attr) → is_aria a.name ≡ true → is_looked_at a.name ≡ true
+pub aria_seen : (a : Attr) → is_aria a.name ≡ true → is_looked_at a.name ≡ true
 unfolding is_looked_at
 aria_seen a begins = rw begins refl
 
 -- ---- rows
+
+attrs_in_seen : (body : Body) → attrs_in (seen_body body) ≡ filter (λ a. is_looked_at a.name) (attrs_in body)
+attrs_in_seen (Element space tag attrs) = refl
+attrs_in_seen (Words text) = refl
+
+pub attrs_seen : (row : Row) → attrs_of (seen_row row) ≡ filter (λ a. is_looked_at a.name) (attrs_of row)
+attrs_seen row = attrs_in_seen row.body
 
 value_seen : (asked : Attribute) (body : Body) → value_of (attribute_name asked) (attrs_in (seen_body body)) ≡ value_of (attribute_name asked) (attrs_in body)
 value_seen asked (Element space tag attrs) = ap (option_map (λ a. a.value)) (find-filter (λ a. same_folded a.name (attribute_name asked)) (λ a. is_looked_at a.name) (named_seen asked) attrs)

@@ -34,7 +34,7 @@ pub use frames::under;
 pub use inclusion::{exposed_at, included_at, is_hidden};
 pub use inputs::{InputType, input_type};
 pub use labels::{is_labelable, labels_of};
-pub use laws::laws_of_sights;
+pub use laws::{laws_of_attributes, laws_of_sights};
 pub use numbers::whole_number;
 pub use owning::{OwnedElement, owned, owned_by};
 pub use pages::{decorative, explicit_role, exposed, implicit_role, included, role};

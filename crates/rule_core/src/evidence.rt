@@ -1,4 +1,5 @@
-ghost use Rattle.std.specs.Prelude.{◌≡◌, IfOk};
+ghost use Rattle.std.specs.Prelude.{◌≡◌, ◌≤◌, ◌<◌, ◌^◌, ℕ, List, length, IfOk};
+ghost use Rattle.rule_core.specs.declared.evidence.TheConstants.{LONGEST};
 ghost use Rattle.rule_core.specs.Brief.{digest, digested, brief};
 
 use sha2::{Digest, Sha256};
@@ -38,6 +39,22 @@ pub fn brief(alloc: Global, text: &Text) -> Result<Text, OutOfMemory>
         digested(alloc, text)
     }
 }
+
+/// The limit on evidence, as a number of bytes. `brief` names the limit, so this clause alone says how much
+/// it is.
+pub fn laws_of_limits()
+    ensures evidence { LONGEST ≡ 4096 }
+{}
+
+/// Laws of evidence. It does nothing: the clauses are what it is for.
+///
+/// A text of at most 4,096 bytes stands as it is, and what stands for a text that a machine can hold has at
+/// most 4,096 bytes.
+#[tactic(auto, using(crate::proofs::Shortness::brief_itself, crate::proofs::Shortness::brief_short))]
+pub fn laws_of_evidence()
+    ensures itself { (text : List ℕ) → length text ≤ 4096 → brief text ≡ text }
+    ensures short { (text : List ℕ) → length text < 2 ^ 64 → length (brief text) ≤ 4096 }
+{}
 
 #[cfg(test)]
 mod tests;

@@ -12,7 +12,7 @@ mod rule;
 mod verdict;
 
 pub use book::RuleBook;
-pub use evidence::{brief, digest};
+pub use evidence::{brief, digest, laws_of_evidence, laws_of_limits};
 pub use finding::Finding;
 pub use info::{Class, RuleInfo, RuleNo};
 pub use reason::{Reason, laws_of_words};

@@ -8,6 +8,9 @@ ghost use Rattle.snap_tree.specs.Well.{IsWell, AreApart};
 ghost use Rattle.snap_tree.specs.Rows.{own_fault};
 ghost use Rattle.snap_tree.specs.WellRow.{IsWellRow};
 ghost use Rattle.snap_tree.specs.Naming.{AreNamed};
+ghost use Rattle.snap_tree.specs.declared.build.TheConstants.{MOST_NODES, MOST_DEPTH};
+ghost use Rattle.snap_tree.specs.declared.limits.TheConstants.{MOST_ATTRS, MOST_BYTES};
+ghost use Rattle.snap_tree.specs.declared.weight.TheConstants.{MOST_WEIGHT};
 ghost use Rattle.snap_tree.specs.SpotLaws.{AbsentHasNoSpot, SpotHasRow, NamesFirstAbove, ClimbsAbove, WalksAbove, GrowBeside};
 
 /// Laws of the trees that rows make. It does nothing: the clauses are what it is for.
@@ -42,4 +45,15 @@ pub fn laws_of_spots()
     ensures climbs { (t : Trees) (n : NodeId) → IsWell t → ClimbsAbove t n }
     ensures walks { (t : Trees) (n : NodeId) → IsWell t → WalksAbove t n }
     ensures beside { (rows others : List Row) → GrowBeside rows others }
+{}
+
+/// The limits of a page, as numbers: nodes, depth, attributes of an element, bytes of a text, a tag, or an
+/// attribute's name or value, and the weight of its references. Definitions name the limits, so these
+/// clauses alone say how much each is.
+pub fn laws_of_limits()
+    ensures nodes { MOST_NODES ≡ 10000 }
+    ensures depth { MOST_DEPTH ≡ 128 }
+    ensures attributes { MOST_ATTRS ≡ 64 }
+    ensures bytes { MOST_BYTES ≡ 65536 }
+    ensures weight { MOST_WEIGHT ≡ 100000 }
 {}

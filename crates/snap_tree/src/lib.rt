@@ -31,7 +31,7 @@ pub use build::{MOST_DEPTH, MOST_NODES};
 pub use copies::{Duplicate, copies_of};
 pub use fault::{BuildFault, TreeFault};
 pub use kids::Kids;
-pub use laws::{laws_of_growth, laws_of_spots};
+pub use laws::{laws_of_growth, laws_of_limits, laws_of_spots};
 pub use limits::{MOST_ATTRS, MOST_BYTES, own_fault};
 pub use list::List;
 pub use memory::OutOfMemory;
