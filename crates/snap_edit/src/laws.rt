@@ -1,6 +1,7 @@
 ghost use Rattle.std.specs.Prelude.{◌≡◌, ℕ, List, [], Ok};
 ghost use Rattle.snap_tree.specs.declared.row.NodeId.{NodeId};
 ghost use Rattle.snap_tree.specs.Trees.{Trees};
+ghost use Rattle.snap_edit.specs.declared.edit.TheConstants.{MOST_EDITS};
 ghost use Rattle.snap_edit.specs.declared.edit.Edit.TheVariants.{DropAttr, Remove};
 ghost use Rattle.snap_edit.specs.Edits.{edited_all};
 ghost use Rattle.snap_edit.specs.Laws.{GoesInParts, DropUndoesSet, IsHeavyAtMost, FactsBreakNothing};
@@ -19,4 +20,10 @@ pub fn laws_of_edits()
     ensures dropped { (n : NodeId) (name : List ℕ) → IsHeavyAtMost (DropAttr n name) }
     ensures removed { (n : NodeId) → IsHeavyAtMost (Remove n) }
     ensures facts { FactsBreakNothing }
+{}
+
+/// The limit on a list of edits, as a number. Definitions name the limit, so this clause alone says how much
+/// it is.
+pub fn laws_of_limits()
+    ensures edits { MOST_EDITS ≡ 200 }
 {}

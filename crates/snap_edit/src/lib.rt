@@ -19,4 +19,4 @@ mod taken;
 pub use edit::{Edit, MOST_EDITS};
 pub use edits::apply;
 pub use fault::{EditFault, EditKind};
-pub use laws::laws_of_edits;
+pub use laws::{laws_of_edits, laws_of_limits};

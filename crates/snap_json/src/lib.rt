@@ -28,7 +28,7 @@ mod writing;
 
 pub use fault::{Field, SnapFault};
 pub use fields::{facts_of, lent_text, number_of, text_of};
-pub use limits::{MOST_ADDRESS_BYTES, MOST_SNAPSHOT_BYTES};
+pub use limits::{MOST_ADDRESS_BYTES, MOST_SNAPSHOT_BYTES, laws_of_limits};
 pub use reading::{json_of, raw_of, read_kept, read_raw, read_snapshot};
 pub use rows::rows_of;
 pub use writing::write_snapshot;
