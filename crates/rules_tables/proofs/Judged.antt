@@ -56,12 +56,12 @@ judged : (t : Trees) (n : NodeId) (passes : Row → Bool) (says : Above → Row 
     → ((above : Above) (row : Row) (table : Trees) → is_some (says above row table) ≡ target above row) → ((above : Above) (row : Row) → target above row ≡ true → in_table above ≡ true)
     → ((above : Above) (row : Row) → passes row ≡ true → target above row ≡ true → is_cell row ≡ true) → (o : Option Sight) → sight_of t n ≡ o
     → is_some (option_and_then (λ (s : Sight). option_and_then (says s.above s.row) (below_table t s.above)) (option_and_then (if_row passes) o))
-    ≡ option_map_or (λ (s : Sight). target s.above s.row) (option_and_then (if_row passes) o) false
+    ≡ option_map_or (λ (s : Sight). passes s.row && target s.above s.row) o false
 judged t n passes says target apart told tabled cells None e = refl
 judged t n passes says target apart told tabled cells (Some s) e = by_test (passes s.row) refl
   where
     by_test : (b : Bool) → passes s.row ≡ b → is_some (option_and_then (λ (s : Sight). option_and_then (says s.above s.row) (below_table t s.above)) (cond b (Some s) None))
-        ≡ option_map_or (λ (s : Sight). target s.above s.row) (cond b (Some s) None) false
+        ≡ (b && target s.above s.row)
     by_test true p = judged_at t says target told tabled s (λ h. stands n nothing_above t apart s e (cells s.above s.row p h))
     by_test false p = refl
 

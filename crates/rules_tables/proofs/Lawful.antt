@@ -52,7 +52,7 @@ all_both f (x ∷ xs) h k = (f x h.0 k.0, all_both f xs h.1 k.1)
 
 -- ---- spans
 
-some_columns : (o : Option ℕ) → 0 < columns o
+pub some_columns : (o : Option ℕ) → 0 < columns o
 some_columns None = omega arith
 some_columns (Some n) = grind (arith, nat_tests)
 

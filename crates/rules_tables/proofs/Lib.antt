@@ -1,12 +1,14 @@
 pub mod Seeing
 pub mod Covering
 pub mod Freeing
+pub mod Lawful
+pub mod Leading
 pub mod Placing
 pub mod Counting
-pub mod Deciding
+pub mod Celled
 pub mod Tagging
 pub mod Nearest
 pub mod Referring
-pub mod Lawful
 pub mod RoleOfCell
+pub mod Deciding
 pub mod Judged

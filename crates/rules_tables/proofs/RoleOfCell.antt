@@ -1,5 +1,5 @@
 -- The role of a cell depends on the nearest table alone.
-use Rattle.std.proofs.Common.{◌≡◌, ℕ, List, codes, true, false, cond, ◌||◌, Some, option_and_then, refl, sym, ap, ◌∙◌, ⊎_elim}
+use Rattle.std.proofs.Common.{◌≡◌, ℕ, List, codes, Bool, Option, None, true, false, cond, ◌||◌, Some, option_and_then, refl, sym, ap, ◌∙◌, ⊎_elim}
 use Rattle.std.proofs.lemmas.Bool.{false≢true, or_cases}
 use Rattle.std.proofs.lemmas.Slice.Eq.{bytes_eq-Decides}
 use Rattle.std.specs.Option.{option_or, option_map_or}
@@ -10,15 +10,18 @@ use Rattle.snap_tree.specs.declared.row.Row.{Row}
 use Rattle.snap_tree.specs.declared.row.Space.TheVariants.{Html, Svg, Other}
 use Rattle.snap_tree.specs.Rows.{is_html, is_html_body, same_folded}
 use Rattle.snap_tree.specs.Words.{folded}
+use Rattle.aria_tables.specs.declared.role.Role.{Role}
 use Rattle.aria_tables.specs.declared.role.Role.TheVariants as role
 use Rattle.acc_tree.specs.declared.above.Above.{Above}
 use Rattle.acc_tree.specs.declared.above.TableAbove.{TableAbove}
 use Rattle.acc_tree.specs.declared.tags.Tag.{Tag}
 use Rattle.acc_tree.specs.declared.tags.Tag.TheVariants as tag
-use Rattle.acc_tree.specs.Roles.{is_grid, explicit, tag_role, role_at}
+use Rattle.acc_tree.specs.Roles.{is_grid, explicit, heads_rows, tag_role, role_at}
 use Rattle.acc_tree.specs.Tags.{known_tag, tag_word, html_tag}
+use Rattle.rules_tables.specs.Assigned.{is_data_role}
 use Rattle.rules_tables.specs.RoleLaws.{DependsOnTable, KeepsTable}
-use Rattle.rules_tables.specs.TableRows.{is_row_group}
+use Rattle.rules_tables.specs.Survey.{is_data_by, is_data}
+use Rattle.rules_tables.specs.TableRows.{is_row_group, is_cell}
 use Rattle.rules_tables.proofs.Nearest.{under_is}
 use Rattle.rules_tables.proofs.Tagging.{same_known, tag_of}
 
@@ -75,3 +78,37 @@ pub depends_on_table : (a b : Above) (cell : Row) → DependsOnTable a b cell
 depends_on_table a b cell is e =
     ⊎_elim (λ (x : is_html (codes "td") cell ≡ true). by_tag a b cell tag.Td (known_body (codes "td") cell.body x ∙ td_known) (td_role a b cell e))
     (λ (x : is_html (codes "th") cell ≡ true). by_tag a b cell tag.Th (known_body (codes "th") cell.body x ∙ th_known) (th_role a b cell)) (or_cases (is_html (codes "td") cell) (is_html (codes "th") cell) is)
+
+-- ---- data cells
+
+td_data : (grid : Bool) → is_data_role (Some (cond grid role.Gridcell role.Cell)) ≡ true
+td_data true = refl
+td_data false = refl
+
+th_no_data : (heads : Bool) → is_data_role (Some (cond heads role.Rowheader role.Columnheader)) ≡ false
+th_no_data true = refl
+th_no_data false = refl
+
+td_is_data : (above : Above) (cell : Row) → is_data_role (tag_role above cell tag.Td) ≡ true
+unfolding tag_role
+td_is_data above cell = td_data (option_map_or (λ (t : TableAbove). is_grid t.role) above.table false)
+
+th_is_none : (above : Above) (cell : Row) → is_data_role (tag_role above cell tag.Th) ≡ false
+unfolding tag_role
+th_is_none above cell = th_no_data (heads_rows cell)
+
+by_words : (above : Above) (cell : Row) (o : Option Role) → is_html (codes "td") cell ≡ is_data_role (option_and_then (tag_role above cell) (html_tag cell))
+    → is_data_by cell o ≡ is_data_role (option_or o (option_and_then (tag_role above cell) (html_tag cell)))
+by_words above cell None h = h
+by_words above cell (Some r) h = refl
+
+implicit_data : (above : Above) (cell : Row) → is_cell cell ≡ true → is_html (codes "td") cell ≡ is_data_role (option_and_then (tag_role above cell) (html_tag cell))
+implicit_data above cell is =
+    ⊎_elim (λ (x : is_html (codes "td") cell ≡ true). x ∙ sym (ap (λ o. is_data_role (option_and_then (tag_role above cell) o)) (known_body (codes "td") cell.body x ∙ td_known) ∙ td_is_data above cell))
+    (λ (x : is_html (codes "th") cell ≡ true). other_body (codes "th") (codes "td") refl cell.body x
+    ∙ sym (ap (λ o. is_data_role (option_and_then (tag_role above cell) o)) (known_body (codes "th") cell.body x ∙ th_known) ∙ th_is_none above cell))
+    (or_cases (is_html (codes "td") cell) (is_html (codes "th") cell) is)
+
+-- of a cell the explicit role and the tag tell whether it is a data cell, whatever is above it
+pub data_is : (above : Above) (cell : Row) → is_cell cell ≡ true → is_data cell ≡ is_data_role (role_at above cell)
+data_is above cell is = by_words above cell (explicit cell) (implicit_data above cell is)

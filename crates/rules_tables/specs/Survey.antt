@@ -1,19 +1,22 @@
 -- What a pass over the cells of a table keeps: for each column the row from which on it is free, and what
 -- was asked of the cells.
-use Rattle.std.specs.Prelude.{◌||◌, ◌+◌, ◌-◌, ◌/◌, ◌^◌, nat_lt, ℕ, zero, suc, min, max, List, [], ◌∷◌, ◌++◌, length, drop, slice_index, slice_set, Bool, true, false, if◌then◌else◌, Option, Some, None}
-use Rattle.std.specs.Option.{option_or}
+use Rattle.std.specs.Prelude.{◌&&◌, ◌||◌, not, codes, ◌+◌, ◌-◌, ◌/◌, ◌^◌, nat_lt, ℕ, zero, suc, min, max, List, [], ◌∷◌, ◌++◌, length, drop, slice_index, slice_set, Bool, true, false, if◌then◌else◌, Option, Some, None}
+use Rattle.std.specs.Option.{is_some, option_or}
+use Rattle.std.specs.List.{list_any}
+use Rattle.aria_tables.specs.declared.role.Role.{Role}
 use Rattle.snap_tree.specs.declared.row.Row.{Row}
-use Rattle.snap_tree.specs.Rows.{has_number}
+use Rattle.snap_tree.specs.Rows.{has_number, is_html}
 use Rattle.snap_tree.specs.Trees.{Trees, empty, tree}
-use Rattle.acc_tree.specs.declared.above.Above.{Above}
-use Rattle.acc_tree.specs.Seen.{seen_row}
+use Rattle.acc_tree.specs.declared.attributes.Attribute.TheVariants as attribute
+use Rattle.acc_tree.specs.Roles.{explicit}
+use Rattle.acc_tree.specs.Seen.{seen_row, is_blank_at}
 use Rattle.rules_tables.specs.declared.assigned.Direction.{Direction}
 use Rattle.rules_tables.specs.declared.grid.Area.{Area}
 use Rattle.rules_tables.specs.declared.survey.Question.{Question as LentQuestion}
 use Rattle.rules_tables.specs.declared.survey.Survey.{Survey}
 use Rattle.rules_tables.specs.declared.survey.TheConstants.{MOST_SLOTS}
-use Rattle.rules_tables.specs.Assigned.{direction_of, is_assigned}
-use Rattle.rules_tables.specs.Grid.{area_at}
+use Rattle.rules_tables.specs.Assigned.{direction_of, is_led_to, is_data_role, is_meant}
+use Rattle.rules_tables.specs.Grid.{Placed, area_at}
 use Rattle.rules_tables.specs.TableRows.{TableRow, is_row_group, is_table_row, row_count, table_rows}
 
 -- ---- columns
@@ -52,48 +55,73 @@ most_columns rows = MOST_SLOTS / max rows 1
 
 -- ---- cells
 
--- the header that is asked for, its place where that is known, and the greatest width of a grid that isn't large
+-- the header that is asked for, where its cells lie, and the greatest width of a grid that isn't large
 pub record Question : Type 0 where
-  pub above : Above
   pub header : Row
   pub direction : Direction
-  pub known : Option Area
   pub most : ℕ
 
 -- what is asked of the cells of a table for a header of it
-abbrev pub question : Above → Row → Option Area → Trees → Question
-question above header known table =
-    record { above = above; header = header; direction = direction_of header; known = known; most = most_columns (all_row_count table) }
+abbrev pub question : Row → Trees → Question
+question header table = record { header = header; direction = direction_of header; most = most_columns (all_row_count table) }
 
 abbrev pub seen_question : LentQuestion → Question
-seen_question q = record { above = q.above; header = seen_row q.header.now; direction = q.direction; known = q.known; most = q.most }
+seen_question q = record { header = seen_row q.header.now; direction = q.direction; most = q.most }
+
+-- a cell without an explicit role is a data cell where it is a `td`, which has the role cell or gridcell
+abbrev pub is_data_by : Row → Option Role → Bool
+is_data_by cell None = is_html (codes "td") cell
+is_data_by cell (Some r) = is_data_role (Some r)
+
+abbrev pub is_data : Row → Bool
+is_data cell = is_data_by cell (explicit cell)
+
+-- the cell is assigned to a header; what is above it isn't needed
+abbrev pub is_its : Row → Direction → Option Area → Placed → Bool
+is_its header d place p = not (has_number header.id p.cell) && (is_meant header d place p && is_data p.cell)
+
+-- the cell is assigned to a header wherever the header leads to it
+abbrev pub is_open : Row → Row → Bool
+is_open header cell = not (has_number header.id cell) && (is_blank_at attribute.Headers cell && is_data cell)
+
+-- the cell is open, and reaches below its own row
+abbrev pub is_tall : Question → Row → Area → Bool
+is_tall q cell a = nat_lt 1 (a.bottom - a.top) && is_open q.header cell
 
 -- what has been noted
 pub record Noted : Type 0 where
   pub columns : List ℕ
   pub column : ℕ
   pub cells : ℕ
+  pub tall : List Area
   pub place : Option Area
   pub wide : Bool
   pub found : Bool
 
 abbrev pub noted : Survey → Noted
-noted s = record { columns = s.columns.items; column = s.column; cells = s.cells; place = s.place; wide = s.wide; found = s.found }
+noted s = record { columns = s.columns.items; column = s.column; cells = s.cells; tall = s.tall.items; place = s.place; wide = s.wide; found = s.found }
 
 abbrev pub nothing_noted : Noted
-nothing_noted = record { columns = []; column = 0; cells = 0; place = None; wide = false; found = false }
+nothing_noted = record { columns = []; column = 0; cells = 0; tall = []; place = None; wide = false; found = false }
 
 -- a count that stands still at the end of its type
 abbrev pub counted : ℕ → ℕ
 counted n = min (n + 1) (2 ^ 64 - 1)
+
+-- a cell at its place is assigned to the header; or it is the header, and leads to a tall cell before it
+abbrev pub finds : Question → Noted → Row → Area → Bool
+finds q s cell a =
+    if has_number q.header.id cell then not (is_some s.place) && list_any (is_led_to q.direction (Some a)) s.tall
+    else is_its q.header q.direction s.place (record { cell = cell; area = a })
 
 -- a cell at its place
 abbrev pub placed_at : Question → Noted → Row → Area → Noted
 placed_at q s cell a = record s {
   columns = raised_all s.columns a.left (a.right - a.left) a.bottom;
   column = a.right;
+  tall = if is_tall q cell a then s.tall ++ a ∷ [] else s.tall;
   place = option_or s.place (if has_number q.header.id cell then Some a else None);
-  found = s.found || is_assigned q.above q.header q.direction (option_or q.known s.place) (record { cell = cell; area = a });
+  found = s.found || finds q s cell a;
 }
 
 -- an area, unless it reaches past the limit
@@ -126,8 +154,3 @@ after_rows q n s (row ∷ rows) = after_rows q (n + 1) (after_row q n row.end s 
 -- what a pass over a table notes
 abbrev pub surveyed : Question → Trees → Noted
 surveyed q table = after_rows q 0 nothing_noted (table_rows 0 table)
-
--- whether a cell is found once the header's place is known
-abbrev pub found_again : Above → Row → Option Area → Trees → Bool
-found_again above header None table = false
-found_again above header (Some place) table = (surveyed (question above header (Some place) table) table).found

@@ -1,15 +1,16 @@
-ghost use Rattle.std.specs.Prelude.{◌≡◌};
+ghost use Rattle.std.specs.Prelude.{◌≡◌, Some};
 ghost use Rattle.std.specs.List.{list_any};
 ghost use Rattle.std.specs.Str.{bytes_eq};
 ghost use Rattle.snap_tree.specs.Words.{words};
 ghost use Rattle.acc_tree.specs.Seen.{seen_row};
 ghost use Rattle.rules_tables.specs.Assigned.{heads_columns, by_scope, by_role, direction_of};
 ghost use Rattle.rules_tables.specs.Assigned.{goes_down, goes_right, is_below, is_right, is_led_to};
-ghost use Rattle.rules_tables.specs.Assigned.{is_named, is_data_role, is_meant, is_assigned};
+ghost use Rattle.rules_tables.specs.Assigned.{is_named, is_data_role, is_meant};
+ghost use Rattle.rules_tables.specs.Survey.{is_data, is_open, is_its};
 ghost use Rattle.acc_tree.specs.Roles.{heads_rows};
 
 use crate::grid::Area;
-use acc_tree::{Above, Attribute, explicit_at, is_blank_at, is_word_at, role_at, text_at};
+use acc_tree::{Attribute, explicit_at, is_blank_at, is_word_at, text_at};
 use aria_tables::Role;
 use snap_tree::{Row, next_word};
 
@@ -135,20 +136,45 @@ fn is_data_role(role: Option<Role>) -> bool
     matches!(role, Some(Role::Cell | Role::Gridcell))
 }
 
-/// Whether a cell is assigned to a header, given where both are placed. What is above the header tells the
-/// role of the cell.
+// Whether a cell has the role cell or gridcell: where it has no explicit role a `td` has one of these, be
+// the table a grid or not, and a `th` has neither.
+#[tactic(auto, using(crate::proofs::Seeing::html_seen))]
+fn is_data(cell: &Row) -> bool
+    ensures { result ≡ is_data (seen_row cell.now) }
+{
+    match explicit_at(cell) {
+        Some(role) => is_data_role(Some(role)),
+        None => cell.is_html("td"),
+    }
+}
+
+/// Whether a cell is open to a header that leads to it: it is another cell, of role cell or gridcell, whose
+/// `headers` is blank.
+pub(crate) fn is_open(header: &Row, cell: &Row) -> bool
+    ensures { result ≡ is_open (seen_row header.now) (seen_row cell.now) }
+{
+    header.id.0 != cell.id.0 && is_blank_at(cell, Attribute::Headers) && is_data(cell)
+}
+
+/// Whether a header at this place leads to some of the areas.
+pub(crate) fn leads_to_any(direction: Direction, place: Area, areas: &[Area]) -> bool
+    ensures { result ≡ list_any (is_led_to direction (Some place)) areas.now }
+{
+    areas
+        .iter()
+        .any(|area| is_led_to(direction, Some(place), *area))
+}
+
+/// Whether a cell is assigned to a header, given where both are placed.
 pub(crate) fn is_assigned(
-    above: &Above,
     header: &Row,
     direction: Direction,
     place: Option<Area>,
     cell: &Row,
     area: Area,
 ) -> bool
-    ensures { result ≡ is_assigned above.now (seen_row header.now) direction place
+    ensures { result ≡ is_its (seen_row header.now) direction place
         (record { cell = seen_row cell.now; area = area }) }
 {
-    header.id.0 != cell.id.0
-        && is_meant(header, direction, place, cell, area)
-        && is_data_role(role_at(above, cell))
+    header.id.0 != cell.id.0 && is_meant(header, direction, place, cell, area) && is_data(cell)
 }

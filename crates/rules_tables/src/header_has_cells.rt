@@ -1,11 +1,10 @@
-ghost use Rattle.std.specs.Prelude.{◌≡◌, ◌++◌, codes, decimal, None, IfOk};
+ghost use Rattle.std.specs.Prelude.{◌≡◌, ◌++◌, codes, decimal, IfOk};
 ghost use Rattle.acc_tree.specs.Seen.{seen_row, seen};
 ghost use Rattle.rules_tables.specs.HeaderHasCells.{is_header_role, is_header_target, header_finding, cells_text};
 ghost use Rattle.rules_tables.specs.HeaderHasCells.{header_verdict, header_has_cells, header_has_cells_info};
-ghost use Rattle.rules_tables.specs.Survey.{question, seen_question, noted, surveyed, found_again};
+ghost use Rattle.rules_tables.specs.Survey.{question, seen_question, noted, surveyed};
 ghost use Rattle.rules_tables.specs.TableRows.{table_rows};
 
-use crate::grid::Area;
 use crate::survey::{Question, Survey};
 use crate::tables::{below_table, in_table};
 use acc_tree::{Above, included_at, role_at};
@@ -35,47 +34,16 @@ fn is_target(above: &Above, row: &Row) -> bool
     is_header_role(role_at(above, row)) && in_table(above) && included_at(above, row)
 }
 
-// Whether a second pass finds a cell, with the header's place known from the first cell on.
-fn found_again(
-    alloc: Global,
-    above: &Above,
-    header: &Row,
-    place: Option<Area>,
-    table: &Branches<'_>,
-) -> Result<bool, OutOfMemory>
-    ensures { IfOk result (λ found.
-        found ≡ found_again above.now (seen_row header.now) place (seen table.now)) }
+fn finding(above: &Above, header: &Row, survey: &Survey, table: &Branches<'_>) -> Finding
+    requires { noted survey.now ≡ surveyed (question (seen_row header.now) (seen table.now)) (seen table.now) }
+    ensures { result ≡ header_finding above.now (seen_row header.now) (table_rows 0 (seen table.now)) }
 {
-    let Some(place) = place else {
-        return Ok(false);
-    };
-    let question = Question::new(above, header, Some(place), table);
-    let survey = Survey::of(alloc, &question, table)?;
-    Ok(survey.found)
-}
-
-fn finding(
-    alloc: Global,
-    above: &Above,
-    header: &Row,
-    first: &Survey,
-    table: &Branches<'_>,
-) -> Result<Finding, OutOfMemory>
-    requires { noted first.now
-        ≡ surveyed (question above.now (seen_row header.now) None (seen table.now)) (seen table.now) }
-    ensures { IfOk result (λ finding.
-        finding ≡ header_finding above.now (seen_row header.now) (table_rows 0 (seen table.now))) }
-{
-    if first.wide {
-        return Ok(Finding::cant_tell(Reason::LargeGrid));
-    }
-    if first.found {
-        return Ok(Finding::met());
-    }
-    if found_again(alloc, above, header, first.place, table)? {
-        Ok(Finding::met())
+    if survey.wide {
+        Finding::cant_tell(Reason::LargeGrid)
+    } else if survey.found {
+        Finding::met()
     } else {
-        Ok(Finding::failed(Reason::NoCells))
+        Finding::failed(Reason::NoCells)
     }
 }
 
@@ -110,10 +78,10 @@ fn verdict(
     if !is_target(above, header) {
         return Ok(None);
     }
-    let question = Question::new(above, header, None, table);
-    let first = Survey::of(alloc, &question, table)?;
-    let finding = finding(alloc, above, header, &first, table)?;
-    let text = evidence(alloc, &question, &first, table)?;
+    let question = Question::new(header, table);
+    let survey = Survey::of(alloc, &question, table)?;
+    let finding = finding(above, header, &survey, table);
+    let text = evidence(alloc, &question, &survey, table)?;
     Ok(Some(finding.verdict(alloc, &text)?))
 }
 

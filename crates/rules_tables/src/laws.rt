@@ -1,9 +1,11 @@
-ghost use Rattle.std.specs.Prelude.{ℕ, List};
+ghost use Rattle.std.specs.Prelude.{◌≡◌, ℕ, List};
 ghost use Rattle.std.specs.List.{AllByRecursion};
 ghost use Rattle.snap_tree.specs.declared.row.NodeId.{NodeId};
 ghost use Rattle.snap_tree.specs.declared.row.Row.{Row};
 ghost use Rattle.snap_tree.specs.Trees.{Trees, Document};
 ghost use Rattle.acc_tree.specs.declared.above.Above.{Above};
+ghost use Rattle.rules_tables.specs.declared.spans.TheConstants.{MOST_COLUMNS, MOST_ROWS};
+ghost use Rattle.rules_tables.specs.declared.survey.TheConstants.{MOST_SLOTS};
 ghost use Rattle.rules_tables.specs.Grid.{Placed, first_free, grid};
 ghost use Rattle.rules_tables.specs.GridLaws.{IsFirstFree, AllBeginApart, AreRuns, LiesWithin, IsWidth};
 ghost use Rattle.rules_tables.specs.RoleLaws.{DependsOnTable, KeepsTable};
@@ -44,4 +46,13 @@ pub fn laws_of_roles()
 pub fn laws_of_targets()
     ensures headers { (page : Document) (n : NodeId) → JudgesHeaders page n }
     ensures references { (page : Document) (n : NodeId) → JudgesReferences page n }
+{}
+
+/// The numbers of the limits. It does nothing: the clauses are what it is for.
+///
+/// A cell spans at most 1,000 columns and 65,534 rows, and a grid of more than 100,000 slots isn't searched.
+pub fn laws_of_limits()
+    ensures columns { MOST_COLUMNS ≡ 1000 }
+    ensures rows { MOST_ROWS ≡ 65534 }
+    ensures slots { MOST_SLOTS ≡ 100000 }
 {}

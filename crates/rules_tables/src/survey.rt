@@ -1,14 +1,13 @@
 ghost use Rattle.std.specs.Prelude.{◌≡◌, ◌+◌, ◌≤◌, IfOk, OnOk};
 ghost use Rattle.acc_tree.specs.Seen.{seen_row, seen};
 ghost use Rattle.rules_tables.specs.TableRows.{cells_in, row_count, group_rows, table_rows};
-ghost use Rattle.rules_tables.specs.Survey.{most_columns};
+ghost use Rattle.rules_tables.specs.Survey.{most_columns, seen_question, is_tall};
 
-use crate::assigned::{Direction, direction_of, is_assigned};
+use crate::assigned::{Direction, direction_of, is_assigned, is_open, leads_to_any};
 use crate::grid::{Area, cover, next_area};
 use crate::table_rows::{
     all_row_count, is_cell, is_row_group, is_table_row, neighbours, row_count,
 };
-use acc_tree::Above;
 use snap_tree::{Branch, Branches, OutOfMemory, Row};
 use std::alloc::Global;
 
@@ -25,36 +24,32 @@ fn most_columns(rows: usize) -> usize
 /// What is asked of the cells of a table.
 #[derive(Drop)]
 pub(crate) struct Question<'a> {
-    /// What is above the header.
-    pub(crate) above: Above,
-    pub(crate) header: &'a Row,
-    pub(crate) direction: Direction,
-    /// The header's place, where it is known before.
-    pub(crate) known: Option<Area>,
+    header: &'a Row,
+    direction: Direction,
     /// The greatest width of a grid that isn't large.
-    pub(crate) most: usize,
+    most: usize,
 }
 
 impl<'a> Question<'a> {
     ghost use Rattle.rules_tables.specs.Survey.{question, seen_question};
 
-    /// What is asked of the cells of a table for a header of it, whose place may be known.
-    pub(crate) fn new(
-        above: &Above,
-        header: &'a Row,
-        known: Option<Area>,
-        table: &Branches<'_>,
-    ) -> Self
-        ensures { seen_question result ≡ question above.now (seen_row header.now) known (seen table.now) }
+    /// What is asked of the cells of a table for a header of it.
+    pub(crate) fn new(header: &'a Row, table: &Branches<'_>) -> Self
+        ensures { seen_question result ≡ question (seen_row header.now) (seen table.now) }
     {
         Question {
-            above: *above,
             header,
             direction: direction_of(header),
-            known,
             most: most_columns(all_row_count(table)),
         }
     }
+}
+
+// Whether a cell is open, and reaches below its own row.
+fn is_tall(question: &Question<'_>, cell: &Row, area: Area) -> bool
+    ensures { result ≡ is_tall (seen_question question.now) (seen_row cell.now) area }
+{
+    1 < area.bottom.saturating_sub(area.top) && is_open(question.header, cell)
 }
 
 /// What a pass over the cells of a table has noted.
@@ -65,16 +60,19 @@ pub(crate) struct Survey {
     // The end of the cell before in the row.
     column: usize,
     pub(crate) cells: usize,
-    /// The header's place.
-    pub(crate) place: Option<Area>,
+    // The areas of the open cells that reach below their own row: of the cells that come before the header,
+    // it may lead to these alone.
+    tall: Vec<Area>,
+    // The header's place.
+    place: Option<Area>,
     /// The grid is wider than the limit. Then cells are only counted.
     pub(crate) wide: bool,
-    /// A cell is assigned to the header, as far as the header's place was known.
+    /// Some of the cells is assigned to the header.
     pub(crate) found: bool,
 }
 
 impl Survey {
-    ghost use Rattle.rules_tables.specs.Survey.{seen_question, noted, nothing_noted, placed_at, fitted};
+    ghost use Rattle.rules_tables.specs.Survey.{seen_question, noted, nothing_noted, finds, placed_at, fitted};
     ghost use Rattle.rules_tables.specs.Survey.{after_cell, after_row, after_rows, surveyed};
 
     /// Nothing is noted yet.
@@ -85,9 +83,21 @@ impl Survey {
             columns: Vec::new(alloc),
             column: 0,
             cells: 0,
+            tall: Vec::new(alloc),
             place: None,
             wide: false,
             found: false,
+        }
+    }
+
+    // Whether a cell is assigned to the header, or is the header and leads to a cell before it.
+    fn finds(&self, question: &Question<'_>, cell: &Row, area: Area) -> bool
+        ensures { result ≡ finds (seen_question question.now) (noted self.now) (seen_row cell.now) area }
+    {
+        if question.header.id.0 == cell.id.0 {
+            self.place.is_none() && leads_to_any(question.direction, area, self.tall.as_slice())
+        } else {
+            is_assigned(question.header, question.direction, self.place, cell, area)
         }
     }
 
@@ -95,18 +105,12 @@ impl Survey {
         ensures { OnOk result (noted self.new
             ≡ placed_at (seen_question question.now) (noted self.old) (seen_row cell.now) area) }
     {
-        let place = question.known.or(self.place);
+        self.found = self.found || self.finds(question, cell, area);
         cover(&mut self.columns, area)?;
         self.column = area.right;
-        self.found = self.found
-            || is_assigned(
-                &question.above,
-                question.header,
-                question.direction,
-                place,
-                cell,
-                area,
-            );
+        if is_tall(question, cell, area) {
+            self.tall.push(area)?;
+        }
         if question.header.id.0 == cell.id.0 {
             self.place = self.place.or(Some(area));
         }

@@ -11,7 +11,7 @@ use std::test::Fail;
 const HTML: Node<'static> = Html(0, "html", &[]);
 
 // A page with each of the nodes that count.
-static FULL: [Node<'static>; 12] = [
+static FULL: [Node<'static>; 13] = [
     HTML,
     Stop(1, "a", &[("href", "#start")]),
     Words(2, "Skip"),
@@ -24,6 +24,7 @@ static FULL: [Node<'static>; 12] = [
     Stop(4, "button", &[("aria-expanded", ""), ("title", "Menu")]),
     Stop(1, "a", &[("href", "#stop")]),
     Words(11, "Away"),
+    Stop(1, "summary", &[("title", "More")]),
 ];
 
 // A page on which the Tab key stops, with nothing that counts: each is hidden, or isn't reached.
@@ -46,7 +47,7 @@ fn what_counts_is_left_to_a_person(rt: HostRuntime) -> Result<(), Fail> {
     let heading: Told = Some((CantTell, JudgeHeadingStart, "One\nTwo"));
     let landmark: Told = Some((CantTell, JudgeLandmark, "main Start"));
     let skip_link: Told = Some((CantTell, JudgeSkipLink, "#start Skip"));
-    let collapse: Told = Some((CantTell, JudgeCollapse, "Menu"));
+    let collapse: Told = Some((CantTell, JudgeCollapse, "Menu\nMore"));
     assert!(rt; tells(alloc, &HasHeadingToStart, &FULL, 1, heading)?);
     assert!(rt; tells(alloc, &HasLandmark, &FULL, 1, landmark)?);
     assert!(rt; tells(alloc, &HasSkipLink, &FULL, 1, skip_link)?);

@@ -112,7 +112,7 @@ static TARGETS: [Case; 13] = [
     ),
 ];
 
-static DIRECTIONS: [Case; 24] = [
+static DIRECTIONS: [Case; 29] = [
     (&[TABLE, LINE, HEAD], 3, NO_OTHER),
     // Right of the header, and below it.
     (&[TABLE, LINE, Html(2, "th", &[ROW]), CELL], 3, TWO),
@@ -252,6 +252,76 @@ static DIRECTIONS: [Case; 24] = [
             Html(2, "td", &[("rowspan", "2")]),
             LINE,
             Html(5, "th", &[COL]),
+        ],
+        6,
+        NONE_OF_THREE,
+    ),
+    // One that begins three rows above it reaches the fourth row, or ends before it.
+    (
+        &[
+            TABLE,
+            LINE,
+            CELL,
+            Html(2, "td", &[("rowspan", "4")]),
+            Html(1, "tr", &[]),
+            Html(5, "td", &[]),
+            Html(1, "tr", &[]),
+            Html(7, "td", &[]),
+            Html(1, "tr", &[]),
+            Html(9, "th", &[ROW]),
+        ],
+        10,
+        Some((Passed, Met, "cells 5")),
+    ),
+    (
+        &[
+            TABLE,
+            LINE,
+            CELL,
+            Html(2, "td", &[("rowspan", "3")]),
+            Html(1, "tr", &[]),
+            Html(5, "td", &[]),
+            Html(1, "tr", &[]),
+            Html(7, "td", &[]),
+            Html(1, "tr", &[]),
+            Html(9, "th", &[ROW]),
+        ],
+        10,
+        Some((Failed, NoCells, "cells 5")),
+    ),
+    // It lies left of the header, is a header, or has `headers`.
+    (
+        &[
+            TABLE,
+            LINE,
+            Html(2, "td", &[("rowspan", "2")]),
+            CELL,
+            LINE,
+            Html(5, "th", &[ROW]),
+        ],
+        6,
+        NONE_OF_THREE,
+    ),
+    (
+        &[
+            TABLE,
+            LINE,
+            CELL,
+            Html(2, "th", &[("rowspan", "2")]),
+            LINE,
+            Html(5, "th", &[ROW]),
+        ],
+        6,
+        NONE_OF_THREE,
+    ),
+    (
+        &[
+            TABLE,
+            LINE,
+            CELL,
+            Html(2, "td", &[("rowspan", "2"), ("headers", "a")]),
+            LINE,
+            Html(5, "th", &[ROW]),
         ],
         6,
         NONE_OF_THREE,

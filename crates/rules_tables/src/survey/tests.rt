@@ -116,7 +116,7 @@ static SPANS: [(&[Part], &[Place]); 14] = [
     (&[Line, Cell("", "5")], &[(0, 1, 0, 1)]),
 ];
 
-static PLACES: [(&[Part], &[Place]); 12] = [
+static PLACES: [(&[Part], &[Place]); 14] = [
     (
         &[Line, ONE, ONE, Line, ONE, ONE],
         &[(0, 1, 0, 1), (0, 1, 1, 2), (1, 2, 0, 1), (1, 2, 1, 2)],
@@ -185,6 +185,56 @@ static PLACES: [(&[Part], &[Place]); 12] = [
     (
         &[Line, Cell("", "3"), ONE, Line, Line, ONE],
         &[(0, 3, 0, 1), (0, 1, 1, 2), (2, 3, 1, 2)],
+    ),
+    // Over four rows, and over five of six.
+    (
+        &[
+            Line,
+            Cell("", "4"),
+            ONE,
+            Line,
+            ONE,
+            Line,
+            ONE,
+            Line,
+            ONE,
+            Line,
+            ONE,
+            ONE,
+        ],
+        &[
+            (0, 4, 0, 1),
+            (0, 1, 1, 2),
+            (1, 2, 1, 2),
+            (2, 3, 1, 2),
+            (3, 4, 1, 2),
+            (4, 5, 0, 1),
+            (4, 5, 1, 2),
+        ],
+    ),
+    (
+        &[
+            Line,
+            Cell("2", "5"),
+            Line,
+            ONE,
+            Line,
+            ONE,
+            Line,
+            ONE,
+            Line,
+            ONE,
+            Line,
+            ONE,
+        ],
+        &[
+            (0, 5, 0, 2),
+            (1, 2, 2, 3),
+            (2, 3, 2, 3),
+            (3, 4, 2, 3),
+            (4, 5, 2, 3),
+            (5, 6, 0, 1),
+        ],
     ),
     // A row whose columns are all covered.
     (
@@ -403,7 +453,7 @@ fn place_of(alloc: Global, tree: &Tree, n: u32) -> Result<(Option<Area>, usize),
     let Some(table) = below(tree, NodeId(1)) else {
         return Ok((None, 0));
     };
-    let question = Question::new(&sight.above, sight.row, None, &table);
+    let question = Question::new(sight.row, &table);
     let survey = Survey::of(alloc, &question, &table)?;
     Ok((survey.place, survey.cells))
 }
