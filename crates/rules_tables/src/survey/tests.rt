@@ -1,9 +1,7 @@
 use super::*;
 use crate::tables::below;
 use acc_tree::sight_of;
-use fixture_pages::Node::{Element, Html};
-use fixture_pages::{built, row};
-use snap_tree::{NodeId, Space, Tree};
+use snap_tree::{Attr, Body, Facts, List, NodeId, Raw, Space, Text, Tree};
 use std::test::Fail;
 
 /// A part of a table. A cell has a colspan and a rowspan, which are left out where they are empty.
@@ -354,6 +352,46 @@ static GROUPS: [(&[Part], &[Place]); 15] = [
     (&[Group("thead"), Group("tbody")], &[]),
 ];
 
+// The attributes of a cell's spans, of which an empty one is left out.
+fn spans_of(alloc: Global, columns: &str, rows: &str) -> Result<Vec<Attr>, Fail> {
+    let mut attrs = Vec::new(alloc);
+    for (name, value) in [("COLSPAN", columns), ("rowspan", rows)] {
+        if !value.is_empty() {
+            attrs.push(Attr {
+                name: Text::from_str(alloc, name)?,
+                value: Text::from_str(alloc, value)?,
+            })?;
+        }
+    }
+    Ok(attrs)
+}
+
+// An element that isn't rendered, below the node of that number; 0 is none.
+fn element(
+    alloc: Global,
+    id: u32,
+    parent: u32,
+    space: Space,
+    tag: &str,
+    attrs: Vec<Attr>,
+) -> Result<Row, Fail> {
+    Ok(Row {
+        id: NodeId(id),
+        parent: (parent != 0).then_some(NodeId(parent)),
+        body: Body::Element {
+            space,
+            tag: Text::from_str(alloc, tag)?,
+            attrs: List::from_vec(attrs),
+        },
+        facts: Facts {
+            rendered: false,
+            visible: false,
+            focusable: false,
+            tabbable: false,
+        },
+    })
+}
+
 /// A page whose first node is a table, with the numbers of the table's cells.
 #[derive(Drop)]
 struct Sketch {
@@ -367,7 +405,7 @@ struct Sketch {
 impl Sketch {
     fn new(alloc: Global) -> Result<Self, Fail> {
         let mut rows = Vec::new(alloc);
-        rows.push(row(alloc, 1, Html(0, "table", &[]))?)?;
+        rows.push(element(alloc, 1, 0, Space::Html, "table", Vec::new(alloc))?)?;
         Ok(Sketch {
             rows,
             last: 1,
@@ -393,18 +431,8 @@ impl Sketch {
     ) -> Result<u32, Fail> {
         self.last = self.last.saturating_add(1);
         let id = self.last;
-        let row = match (columns.is_empty(), rows.is_empty()) {
-            (true, true) => row(alloc, id, Element(parent, space, tag, &[], ""))?,
-            (true, false) => row(
-                alloc,
-                id,
-                Element(parent, space, tag, &[("rowspan", rows)], ""),
-            )?,
-            (false, _) => {
-                let spans = [("COLSPAN", columns), ("rowspan", rows)];
-                row(alloc, id, Element(parent, space, tag, &spans, ""))?
-            }
-        };
+        let spans = spans_of(alloc, columns, rows)?;
+        let row = element(alloc, id, parent, space, tag, spans)?;
         self.rows.push(row)?;
         Ok(id)
     }
@@ -465,7 +493,13 @@ fn places(alloc: Global, parts: &[Part], places: &[Place]) -> Result<bool, Fail>
         sketch.part(alloc, *part)?;
     }
     let Sketch { rows, cells, .. } = sketch;
-    let tree = built(alloc, rows)?;
+    let tree = Tree::build(
+        alloc,
+        Raw {
+            address: Text::from_str(alloc, "https://example.org/")?,
+            rows: List::from_vec(rows),
+        },
+    )?;
     let mut agree = cells.len() == places.len();
     for (n, place) in cells.as_slice().iter().zip(places.iter()) {
         let (top, bottom, left, right) = *place;
