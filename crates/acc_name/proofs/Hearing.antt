@@ -1,18 +1,29 @@
 -- What trees say is put together from the left.
-use Rattle.std.proofs.Common.{◌≡◌, ℕ, List, [], ◌∷◌, ◌++◌, ◌+◌, ◌<◌, ◌≤◌, length, take, get_or, map, Option, Some, None, unwrap_or, refl, sym, ◌∙◌, ap, append_assoc}
+use Rattle.std.proofs.Common.{◌≡◌, ℕ, List, [], ◌∷◌, ◌++◌, ◌+◌, ◌<◌, ◌≤◌, ◌&&◌, ◌||◌, Bool, true, false, if◌then◌else◌, length, take, get_or, map, Option, Some, None, IfSome, IsUtf8, option_map, unwrap_or, refl, sym, ◌∙◌, ap, subst, append_assoc}
+use Rattle.std.proofs.Math.Bool.{and_assoc, and-true, or-true}
 use Rattle.std.proofs.lemmas.List.{append-nil, map-append, take_all, take_more}
 use Rattle.std.specs.Option.{option_or}
+use Rattle.aria_tables.specs.declared.role.Role.{Role}
+use Rattle.snap_tree.specs.declared.row.Body.{Body}
+use Rattle.snap_tree.specs.declared.row.Body.TheVariants.{Element, Words}
+use Rattle.snap_tree.specs.declared.row.NodeId.{NodeId}
 use Rattle.snap_tree.specs.declared.row.Row.{Row}
-use Rattle.snap_tree.specs.Trees.{Trees, tree}
-use Rattle.snap_tree.specs.Words.{spaced}
+use Rattle.snap_tree.specs.Trees.{Trees, empty, tree}
+use Rattle.snap_tree.specs.Words.{blank, spaced}
 use Rattle.acc_tree.specs.declared.above.Above.{Above}
 use Rattle.acc_tree.specs.Frames.{under}
 use Rattle.acc_tree.specs.Roles.{role_at}
-use Rattle.acc_name.specs.declared.hosts.CaptionKind.{CaptionKind}
+use Rattle.acc_tree.specs.Tags.{html_tag}
+use Rattle.acc_name.specs.declared.heard.Aside.{Aside}
+use Rattle.acc_name.specs.declared.heard.Caption.{Caption}
+use Rattle.acc_name.specs.declared.named.How.{How}
 use Rattle.acc_name.specs.declared.named.How.TheVariants as how
-use Rattle.acc_name.specs.declared.named.Name.{Name}
-use Rattle.acc_name.specs.Hosts.{caption_of}
-use Rattle.acc_name.specs.Names.{Asked, Heard, nothing_heard, joined, and_then, alone, heard, said}
+use Rattle.acc_name.specs.declared.told.Told.{Told}
+use Rattle.acc_name.specs.declared.told.Wanted.{Wanted}
+use Rattle.acc_name.specs.Hosts.{caption_of, is_captioning}
+use Rattle.acc_name.specs.Names.{Asked, Heard, joined, heard, said, is_silent, no_name, by_body, value_of, control_text, is_select, is_chosen, placed}
+use Rattle.acc_name.specs.Voices.{text_in, weighed, caption_text, IsWeighed, asked_for, shown}
+use Rattle.acc_name.proofs.Blanks.{blank_nothing, blank_placed}
 
 -- ---- texts with a space between
 
@@ -74,26 +85,144 @@ joined-all says xs i now past so_far =
 
 -- ---- what trees say
 
-or-assoc : (a b c : Option (List ℕ)) → option_or (option_or a b) c ≡ option_or a (option_or b c)
+or-assoc : {A : Type 0} (a b c : Option A) → option_or (option_or a b) c ≡ option_or a (option_or b c)
 or-assoc None b c = refl
 or-assoc (Some a) b c = refl
 
-or-none : (a : Option (List ℕ)) → option_or a None ≡ a
+or-none : {A : Type 0} (a : Option A) → option_or a None ≡ a
 or-none None = refl
 or-none (Some a) = refl
 
-pub and_then-assoc : (a b c : Heard) → and_then (and_then a b) c ≡ and_then a (and_then b c)
-and_then-assoc a b c =
-    rw (append_assoc a.content b.content c.content, joined-assoc a.chosen b.chosen c.chosen, or-assoc a.caption b.caption c.caption) refl
+weighed-or : (a b : Option (List ℕ)) → option_map weighed (option_or a b) ≡ option_or (option_map weighed a) (option_map weighed b)
+weighed-or None b = refl
+weighed-or (Some a) b = refl
 
-pub and_then-nothing : (a : Heard) → and_then a nothing_heard ≡ a
-and_then-nothing a = rw (append-nil a.content, joined-none a.chosen, or-none a.caption) refl
+pub weighed_back : (text : Option (List ℕ)) → option_map caption_text (option_map weighed text) ≡ text
+weighed_back None = refl
+weighed_back (Some text) = refl
+
+pub weighed_some : (caption : Option Caption) (text : Option (List ℕ)) → caption ≡ option_map weighed text → IfSome caption IsWeighed
+weighed_some caption text is = subst (λ (c : Option Caption). IfSome c IsWeighed) (sym is) (by_text text)
+  where
+    by_text : (t : Option (List ℕ)) → IfSome (option_map weighed t) IsWeighed
+    by_text None = tt
+    by_text (Some t) = refl
+
+-- what a node says is the same if the chosen options are told only where they are asked for: it asks for
+-- them itself if it is a select
+value_asked : (h : How) (role : Option Role) (row : Row) (asks : Bool) (chosen : Option (List ℕ))
+    → value_of h role row (asked_for (asks || is_select (html_tag row)) chosen) ≡ value_of h role row chosen
+value_asked how.Own role row asks chosen = refl
+value_asked how.Referred role row asks chosen = refl
+value_asked how.Inner role row asks chosen = by_select (is_select (html_tag row)) refl
+  where
+    by_select : (b : Bool) → is_select (html_tag row) ≡ b → control_text role row (asked_for (asks || is_select (html_tag row)) chosen) ≡ control_text role row chosen
+    by_select true e = ap (λ b. control_text role row (asked_for b chosen)) (ap (λ b. asks || b) e ∙ or-true asks)
+    by_select false e = rw e refl
+
+said_asked : (node : NodeId) (hidden : Bool) (told : Told) (h : How) (role : Option Role) (row : Row) (asks : Bool) (inner : Heard)
+    → said node hidden told h role row (shown inner.content (asked_for (asks || is_select (html_tag row)) inner.chosen) inner.caption) ≡ said node hidden told h role row inner
+said_asked node hidden told h role row asks inner = by_body_of row.body
+  where
+    by_body_of : (body : Body)
+        → (if is_silent node hidden h row then no_name else by_body told h role row (shown inner.content (asked_for (asks || is_select (html_tag row)) inner.chosen) inner.caption) body)
+        ≡ (if is_silent node hidden h row then no_name else by_body told h role row inner body)
+    by_body_of (Element space tag attrs) = rw (value_asked h role row asks inner.chosen) refl
+    by_body_of (Words text) = refl
+
+-- what a node says, of what is held of those below it
+pub said_held : (node : NodeId) (hidden : Bool) (told : Told) (h : How) (role : Option Role) (row : Row) (asks : Bool)
+    (content : List ℕ) (chosen : Option (List ℕ)) (caption : Option Caption) (inner : Heard)
+    → content ≡ inner.content → chosen ≡ asked_for (asks || is_select (html_tag row)) inner.chosen → caption ≡ option_map weighed inner.caption
+    → said node hidden told h role row (shown content chosen (option_map caption_text caption)) ≡ said node hidden told h role row inner
+said_held node hidden told h role row asks content chosen caption inner content_is chosen_is caption_is =
+    ap (λ c. said node hidden told h role row (shown c chosen (option_map caption_text caption))) content_is
+    ∙ ap (λ c. said node hidden told h role row (shown inner.content c (option_map caption_text caption))) chosen_is
+    ∙ ap (λ c. said node hidden told h role row (shown inner.content (asked_for (asks || is_select (html_tag row)) inner.chosen) c))
+    (ap (option_map caption_text) caption_is ∙ weighed_back inner.caption)
+    ∙ said_asked node hidden told h role row asks inner
+
+-- what was said before some trees, with what they say, is what all of them say
+pub record Remains (asked : Asked) (above : Above) (wanted : Wanted) (start written : List ℕ) (so_far : Aside) (rest all : Trees) : Type 0 where
+  pub content : written ++ (heard asked above wanted.caption rest).content ≡ start ++ (heard asked above wanted.caption all).content
+  pub chosen : joined (text_in so_far.chosen) (asked_for wanted.chosen (heard asked above wanted.caption rest).chosen) ≡ asked_for wanted.chosen (heard asked above wanted.caption all).chosen
+  pub caption : option_or so_far.caption (option_map weighed (heard asked above wanted.caption rest).caption) ≡ option_map weighed (heard asked above wanted.caption all).caption
+  pub blank : (so_far.is_blank && blank (heard asked above wanted.caption rest).content) ≡ blank (heard asked above wanted.caption all).content
+
+chosen-step : (asks select : Bool) (first own below later all now : Option (List ℕ))
+    → joined first (asked_for asks (joined (joined own below) later)) ≡ asked_for asks all
+    → now ≡ asked_for asks (joined first (joined own (asked_for (asks || select) below)))
+    → joined now (asked_for asks later) ≡ asked_for asks all
+chosen-step true select first own below later all now is next = ap (λ t. joined t later) next ∙ joined-assoc first (joined own below) later ∙ is
+chosen-step false select first own below later all now is next = ap (λ t. joined t None) next
 
 -- one tree more
-pub heard-step : (asked : Asked) (above : Above) (kind : Option CaptionKind) (first : Heard) (row : Row) (kids later : Trees) (inner : Heard) (name : Name)
-    → inner ≡ heard asked (under above row) (caption_of row) kids
-    → name ≡ said asked.node asked.hidden (asked.told (record { row = row; below = kids; above = above })) how.Inner (role_at above row) row inner
-    → and_then (and_then first (alone kind row name.text inner.chosen)) (heard asked above kind later) ≡ and_then first (heard asked above kind (tree row kids later))
-heard-step asked above kind first row kids later inner name is says =
-    and_then-assoc first (alone kind row name.text inner.chosen) (heard asked above kind later)
-    ∙ rw says (rw is refl)
+pub remains-step : (asked : Asked) (above : Above) (wanted : Wanted) (start before now text : List ℕ) (so_far next : Aside) (row : Row) (kids later all : Trees) (below : Option (List ℕ))
+    → Remains asked above wanted start before so_far (tree row kids later) all
+    → text ≡ (said asked.node asked.hidden (asked.told (record { row = row; below = kids; above = above })) how.Inner (role_at above row) row (heard asked (under above row) (caption_of row) kids)).text
+    → IsUtf8 text
+    → below ≡ asked_for (wanted.chosen || is_select (html_tag row)) (heard asked (under above row) (caption_of row) kids).chosen
+    → now ≡ before ++ placed row text
+    → text_in next.chosen ≡ asked_for wanted.chosen (joined (text_in so_far.chosen) (joined (if is_chosen row then Some text else None) below))
+    → next.caption ≡ option_or so_far.caption (option_map weighed (if is_captioning wanted.caption row then Some text else None))
+    → next.is_blank ≡ (so_far.is_blank && blank text)
+    → Remains asked above wanted start now next later all
+remains-step asked above wanted start before now text so_far next row kids later all below is text_is utf8 below_is now_is chosen_is caption_is blank_is =
+    let inner = heard asked (under above row) (caption_of row) kids in
+    let rest = heard asked above wanted.caption later in
+    let content_here : (heard asked above wanted.caption (tree row kids later)).content ≡ placed row text ++ rest.content = ap (λ t. placed row t ++ rest.content) (sym text_is) in
+    let own : Option (List ℕ) = if is_chosen row then Some text else None in
+    let chosen_here : (heard asked above wanted.caption (tree row kids later)).chosen ≡ joined (joined own inner.chosen) rest.chosen =
+    ap (λ t. joined (joined (if is_chosen row then Some t else None) inner.chosen) rest.chosen) (sym text_is) in
+    let captioning : Option (List ℕ) = if is_captioning wanted.caption row then Some text else None in
+    let caption_here : (heard asked above wanted.caption (tree row kids later)).caption ≡ option_or captioning rest.caption =
+    ap (λ t. option_or (if is_captioning wanted.caption row then Some t else None) rest.caption) (sym text_is) in
+    record {
+      content =
+          ap (λ t. t ++ rest.content) now_is ∙ append_assoc before (placed row text) rest.content
+          ∙ sym (ap (λ t. before ++ t) content_here) ∙ is.content;
+      chosen = chosen-step wanted.chosen (is_select (html_tag row)) (text_in so_far.chosen) own inner.chosen rest.chosen (heard asked above wanted.caption all).chosen (text_in next.chosen)
+          (sym (ap (λ t. joined (text_in so_far.chosen) (asked_for wanted.chosen t)) chosen_here) ∙ is.chosen)
+          (chosen_is ∙ ap (λ t. asked_for wanted.chosen (joined (text_in so_far.chosen) (joined own t))) below_is);
+      caption =
+          ap (λ t. option_or t (option_map weighed rest.caption)) caption_is
+          ∙ or-assoc so_far.caption (option_map weighed captioning) (option_map weighed rest.caption)
+          ∙ sym (ap (option_or so_far.caption) (weighed-or captioning rest.caption))
+          ∙ sym (ap (λ t. option_or so_far.caption (option_map weighed t)) caption_here) ∙ is.caption;
+      blank =
+          ap (λ t. t && blank rest.content) blank_is ∙ and_assoc so_far.is_blank (blank text) (blank rest.content)
+          ∙ sym (ap (λ t. so_far.is_blank && t) (blank_placed row text rest.content utf8))
+          ∙ sym (ap (λ t. so_far.is_blank && blank t) content_here) ∙ is.blank;
+    }
+
+-- nothing is said before the first tree
+pub remains-start : (asked : Asked) (above : Above) (wanted : Wanted) (start : List ℕ) (so_far : Aside) (all : Trees)
+    → so_far.chosen ≡ None → so_far.caption ≡ None → so_far.is_blank ≡ true → Remains asked above wanted start start so_far all all
+remains-start asked above wanted start so_far all chosen caption is_blank = record {
+  content = refl;
+  chosen = ap (λ t. joined (text_in t) (asked_for wanted.chosen (heard asked above wanted.caption all).chosen)) chosen;
+  caption = ap (λ t. option_or t (option_map weighed (heard asked above wanted.caption all).caption)) caption;
+  blank = ap (λ t. t && blank (heard asked above wanted.caption all).content) is_blank;
+}
+
+-- no tree is left
+pub record ToldAll (all : Heard) (asks : Bool) (start written : List ℕ) (so_far : Aside) : Type 0 where
+  pub content : written ≡ start ++ all.content
+  pub chosen : text_in so_far.chosen ≡ asked_for asks all.chosen
+  pub caption : so_far.caption ≡ option_map weighed all.caption
+  pub blank : so_far.is_blank ≡ blank all.content
+
+asked-none : (asks : Bool) → asked_for asks None ≡ None
+asked-none true = refl
+asked-none false = refl
+
+pub remains-end : (asked : Asked) (above : Above) (wanted : Wanted) (start content : List ℕ) (so_far : Aside) (rest all : Trees)
+    → rest ≡ empty → Remains asked above wanted start content so_far rest all → ToldAll (heard asked above wanted.caption all) wanted.chosen start content so_far
+remains-end asked above wanted start content so_far rest all none is =
+    let at = subst (λ (t : Trees). Remains asked above wanted start content so_far t all) none is in
+    record {
+      content = sym (append-nil content) ∙ at.content;
+      chosen = sym (joined-none (text_in so_far.chosen)) ∙ sym (ap (joined (text_in so_far.chosen)) (asked-none wanted.chosen)) ∙ at.chosen;
+      caption = sym (or-none so_far.caption) ∙ at.caption;
+      blank = sym (and-true so_far.is_blank) ∙ sym (ap (λ t. so_far.is_blank && t) blank_nothing) ∙ at.blank;
+    }

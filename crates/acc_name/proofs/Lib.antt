@@ -1,3 +1,6 @@
+pub mod Blanks
+pub mod Choosing
+pub mod Marks
 pub mod Hearing
 pub mod Deciding
 pub mod Alone

@@ -1,23 +1,61 @@
 -- What is held of names in the making.
-use Rattle.std.specs.Prelude.{ℕ, List, Option, option_map, String}
+use Rattle.std.specs.Prelude.{◌≡◌, ℕ, List, [], ◌∷◌, Bool, if◌then◌else◌, ◌||◌, Option, Some, None, option_map, String}
 use Rattle.std.specs.String.{string_bytes}
 use Rattle.std.specs.declared.alloc.Global.{Global}
+use Rattle.aria_tables.specs.declared.role.Role.{Role}
 use Rattle.snap_tree.specs.Trees.{Trees}
 use Rattle.snap_tree.specs.declared.row.Row.{Row}
+use Rattle.snap_tree.specs.Words.{blank}
 use Rattle.acc_tree.specs.declared.above.Above.{Above}
 use Rattle.acc_tree.specs.Seen.{seen_row, seen}
 use Rattle.acc_tree.specs.Sights.{Sight}
-use Rattle.acc_name.specs.declared.heard.Voice.{Voice}
+use Rattle.acc_tree.specs.Tags.{html_tag}
+use Rattle.acc_name.specs.declared.named.How.TheVariants as how
+use Rattle.acc_name.specs.declared.named.Name.{Name}
+use Rattle.acc_name.specs.declared.clauses.Said.{Said}
+use Rattle.acc_name.specs.declared.heard.Aside.{Aside}
+use Rattle.acc_name.specs.declared.heard.Caption.{Caption}
+use Rattle.acc_name.specs.declared.heard.Inner.{Inner}
 use Rattle.acc_name.specs.declared.told.Scope.{Scope}
 use Rattle.acc_name.specs.declared.told.Told.{Told}
-use Rattle.acc_name.specs.Names.{Asked, Heard}
+use Rattle.acc_name.specs.declared.told.Wanted.{Wanted}
+use Rattle.acc_name.specs.Hosts.{caption_of}
+use Rattle.acc_name.specs.Names.{Asked, Heard, is_select, stands_apart, said}
 
 -- the bytes of a string that may be there
 abbrev pub text_in : Option (String Global) → Option (List ℕ)
 text_in text = option_map string_bytes text
 
-abbrev pub shown : Voice → Heard
-shown voice = record { content = string_bytes voice.content; chosen = text_in voice.chosen; caption = voice.caption }
+-- a caption with whether it is blank
+abbrev pub weighed : List ℕ → Caption
+weighed text = record { text = text; is_blank = blank text }
+
+abbrev pub caption_text : Caption → List ℕ
+caption_text caption = caption.text
+
+abbrev pub IsWeighed : Caption → Type 0
+IsWeighed caption = caption.is_blank ≡ blank caption.text
+
+-- what is asked of the trees below a node
+abbrev pub wanted_below : Wanted → Row → Wanted
+wanted_below wanted row = record { caption = caption_of row; chosen = wanted.chosen || is_select (html_tag row) }
+
+-- what is told of a text that may be there, where it is asked for
+abbrev pub asked_for : Bool → Option (List ℕ) → Option (List ℕ)
+asked_for asks text = if asks then text else None
+
+-- the first name that isn't blank, if there is one
+abbrev pub first_of : List Name → Option Name
+first_of [] = None
+first_of (said ∷ later) = if blank said.text then first_of later else Some said
+
+-- a content with what is said beside it
+abbrev pub shown : List ℕ → Option (List ℕ) → Option (List ℕ) → Heard
+shown content chosen caption = record { content = content; chosen = chosen; caption = caption }
+
+-- the space beside the text of a node that stands apart
+abbrev pub gap : Row → List ℕ
+gap row = if stands_apart row.body then 32 ∷ [] else []
 
 abbrev pub asked_of : Scope → (Sight → Told) → Asked
 asked_of scope told = record { node = scope.node; hidden = scope.hidden; told = told }
@@ -25,3 +63,16 @@ asked_of scope told = record { node = scope.node; hidden = scope.hidden; told = 
 -- what is seen of a row with the trees below it and what is above it
 abbrev pub seen_at : Row → Trees → Above → Sight
 seen_at row below above = record { row = seen_row row; below = seen below; above = above }
+
+-- what those below a node say, with this content
+abbrev pub told_within : Inner → List ℕ → Heard
+told_within inner content = shown content (text_in inner.chosen.now) (option_map caption_text inner.caption)
+
+-- which clause gave a name, and whether it is blank
+abbrev pub said_by : Name → Said
+said_by name = record { source = name.source; is_blank = blank name.text }
+
+-- what a node says within a name, where this is said below it
+abbrev pub says_within : Scope → Told → Option Role → Row → Aside → List ℕ → List ℕ
+says_within scope told role row inner content =
+    (said scope.node scope.hidden told how.Inner role row (shown content (text_in inner.chosen) (option_map caption_text inner.caption))).text

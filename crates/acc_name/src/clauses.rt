@@ -1,21 +1,30 @@
-ghost use Rattle.std.specs.Prelude.{◌≡◌, [], ◌∷◌, ◌&&◌, not, IfOk};
+ghost use Rattle.std.specs.Prelude.{◌≡◌, [], ◌∷◌, ◌++◌, ◌&&◌, not, take, drop, option_map, IfOk, OnOk, IfSome, IsCharBoundary, false, unwrap_or};
+ghost use Rattle.std.specs.String.{string_bytes};
 ghost use Rattle.aria_tables.specs.declared.attr.AriaAttr.TheVariants as aria;
+ghost use Rattle.snap_tree.specs.Words.{blank};
 ghost use Rattle.acc_tree.specs.declared.attributes.Attribute.TheVariants as attribute;
 ghost use Rattle.acc_tree.specs.Seen.{seen_row, text_at};
 ghost use Rattle.acc_name.specs.declared.named.NameSource.TheVariants as source;
 ghost use Rattle.acc_name.specs.Hosts.{host_of, host_text};
-ghost use Rattle.acc_name.specs.Names.{no_name, says, first_said, is_inner, is_shown, is_silent, content_of, placeholder_of, by_clauses, said};
-ghost use Rattle.acc_name.specs.Voices.{shown};
+ghost use Rattle.acc_name.specs.Names.{no_name, says, is_inner, is_shown, is_silent, placeholder_of, value_of, by_clauses, said};
+ghost use Rattle.acc_name.specs.Voices.{text_in, caption_text, told_within, IsWeighed, first_of, said_by};
 
-use crate::heard::Voice;
-use crate::hosts::host_of;
+use crate::heard::{Caption, Inner};
+use crate::hosts::{Host, host_of};
 use crate::named::{How, Name, NameSource};
 use crate::told::{Scope, Told};
-use crate::values::{content_of, copied_at, host_text, placeholder_of, value_of};
+use crate::values::{asks_content, copied_at, native_text, placeholder_of, value_of};
 use acc_tree::{Attribute, is_hidden};
 use aria_tables::{AriaAttr, Role};
 use snap_tree::{Body, NodeId, OutOfMemory, Row, Text, blank};
 use std::alloc::Global;
+
+/// Which clause gave a text, and whether the text is blank.
+#[derive(Clone, Copy, Debug)]
+pub(crate) struct Said {
+    pub(crate) source: NameSource,
+    pub(crate) is_blank: bool,
+}
 
 /// No clause gives a text.
 pub(crate) fn no_name(alloc: Global) -> Name
@@ -27,94 +36,162 @@ pub(crate) fn no_name(alloc: Global) -> Name
     }
 }
 
+// The text that an attribute gives by a clause, unless it is blank.
+fn unless_blank(source: NameSource, text: Text) -> Option<Name>
+    ensures { result ≡ first_of (says source text ∷ []) }
+{
+    if blank(&text) {
+        None
+    } else {
+        Some(Name { text, source })
+    }
+}
+
 // The title, and then the placeholder.
-fn by_hints(alloc: Global, row: &Row) -> Result<Name, OutOfMemory>
-    ensures { IfOk result (λ name. name ≡ first_said (
+fn by_hints(alloc: Global, row: &Row) -> Result<Option<Name>, OutOfMemory>
+    ensures { IfOk result (λ name. name ≡ first_of (
         says source.Title (text_at attribute.Title (seen_row row.now))
         ∷ says source.Placeholder (placeholder_of (seen_row row.now))
         ∷ [])) }
 {
     let title = copied_at(alloc, row, Attribute::Title)?;
     if !blank(&title) {
-        return Ok(Name {
+        return Ok(Some(Name {
             text: title,
             source: NameSource::Title,
-        });
+        }));
     }
     let placeholder = placeholder_of(alloc, row)?;
-    if !blank(&placeholder) {
-        return Ok(Name {
-            text: placeholder,
-            source: NameSource::Placeholder,
-        });
-    }
-    Ok(no_name(alloc))
+    Ok(unless_blank(NameSource::Placeholder, placeholder))
 }
 
-// The text of the element's kind, the children's texts, and what comes after them.
-fn by_host(
+// The text of the element's kind.
+#[tactic(auto, using(crate::proofs::Blanks::blank_nothing))]
+fn by_kind(
     alloc: Global,
-    how: How,
-    role: Option<Role>,
+    host: Host,
     row: &Row,
-    inner: &Voice,
-) -> Result<Name, OutOfMemory>
-    ensures { IfOk result (λ name. name ≡ first_said (
-        says source.HostText (host_text (host_of (seen_row row.now)) (seen_row row.now) (shown inner.now).caption)
-        ∷ says source.Content (content_of how role (shown inner.now).content)
-        ∷ says source.Title (text_at attribute.Title (seen_row row.now))
-        ∷ says source.Placeholder (placeholder_of (seen_row row.now))
-        ∷ [])) }
+    caption: Option<Caption>,
+) -> Result<Option<Name>, OutOfMemory>
+    requires { IfSome caption IsWeighed }
+    ensures { IfOk result (λ name. name ≡ first_of (says source.HostText (host_text host (seen_row row.now) (option_map caption_text caption)) ∷ [])) }
 {
-    let own = host_text(alloc, host_of(row), row, inner)?;
-    if !blank(&own) {
-        return Ok(Name {
-            text: own,
-            source: NameSource::HostText,
-        });
+    let Host::Captioned(_) = host else {
+        return Ok(unless_blank(NameSource::HostText, native_text(alloc, host, row)?));
+    };
+    match caption {
+        Some(Caption { text, is_blank }) => {
+            if is_blank {
+                return Ok(None);
+            }
+            Ok(Some(Name {
+                text,
+                source: NameSource::HostText,
+            }))
+        }
+        None => Ok(None),
     }
-    let content = content_of(alloc, how, role, inner)?;
-    if !blank(&content) {
-        return Ok(Name {
-            text: content,
-            source: NameSource::Content,
-        });
-    }
-    by_hints(alloc, row)
 }
 
-// The attribute aria-label, the labels, and what comes after them.
+// The attribute aria-label, the labels, and then the text of the element's kind.
 fn by_label(
     alloc: Global,
     labels: Text,
-    how: How,
-    role: Option<Role>,
     row: &Row,
-    inner: &Voice,
-) -> Result<Name, OutOfMemory>
-    ensures { IfOk result (λ name. name ≡ first_said (
+    caption: Option<Caption>,
+) -> Result<Option<Name>, OutOfMemory>
+    requires { IfSome caption IsWeighed }
+    ensures { IfOk result (λ name. name ≡ first_of (
         says source.AriaLabel (text_at (attribute.Aria aria.Label) (seen_row row.now))
         ∷ says source.HostLabel labels
-        ∷ says source.HostText (host_text (host_of (seen_row row.now)) (seen_row row.now) (shown inner.now).caption)
-        ∷ says source.Content (content_of how role (shown inner.now).content)
-        ∷ says source.Title (text_at attribute.Title (seen_row row.now))
-        ∷ says source.Placeholder (placeholder_of (seen_row row.now))
+        ∷ says source.HostText (host_text (host_of (seen_row row.now)) (seen_row row.now) (option_map caption_text caption))
         ∷ [])) }
 {
     let label = copied_at(alloc, row, Attribute::Aria(AriaAttr::Label))?;
     if !blank(&label) {
-        return Ok(Name {
+        return Ok(Some(Name {
             text: label,
             source: NameSource::AriaLabel,
-        });
+        }));
     }
     if !blank(&labels) {
-        return Ok(Name {
+        return Ok(Some(Name {
             text: labels,
             source: NameSource::HostLabel,
-        });
+        }));
     }
-    by_host(alloc, how, role, row, inner)
+    by_kind(alloc, host_of(row), row, caption)
+}
+
+// The clauses that come before the children's texts.
+fn before_content(
+    alloc: Global,
+    told: Told,
+    how: How,
+    role: Option<Role>,
+    row: &Row,
+    chosen: &Option<String>,
+    caption: Option<Caption>,
+) -> Result<Option<Name>, OutOfMemory>
+    requires { IfSome caption IsWeighed }
+    ensures { IfOk result (λ name. name ≡ first_of (
+        says source.LabelledBy told.labelled_by
+        ∷ says source.HostText (value_of how role (seen_row row.now) (text_in chosen.now))
+        ∷ says source.AriaLabel (text_at (attribute.Aria aria.Label) (seen_row row.now))
+        ∷ says source.HostLabel told.labels
+        ∷ says source.HostText (host_text (host_of (seen_row row.now)) (seen_row row.now) (option_map caption_text caption))
+        ∷ [])) }
+{
+    let Told {
+        labelled_by,
+        labels,
+    } = told;
+    if !blank(&labelled_by) {
+        return Ok(Some(Name {
+            text: labelled_by,
+            source: NameSource::LabelledBy,
+        }));
+    }
+    let value = value_of(alloc, how, role, row, chosen)?;
+    if !blank(&value) {
+        return Ok(Some(Name {
+            text: value,
+            source: NameSource::HostText,
+        }));
+    }
+    by_label(alloc, labels, row, caption)
+}
+
+// Puts a text in the place of what the children say.
+fn replaced(
+    content: &mut String,
+    mark: usize,
+    source: NameSource,
+    text: &str,
+    is_blank: bool,
+) -> Result<Said, OutOfMemory>
+    requires boundary { IsCharBoundary (string_bytes content.old) mark }
+    requires blank { is_blank ≡ blank text.now }
+    ensures text { OnOk result (string_bytes content.new ≡ take mark (string_bytes content.old) ++ text.now) }
+    ensures decides { IfOk result (λ s. s ≡ said_by (says source text.now)) }
+{
+    content.truncate(mark);
+    content.push_str(text)?;
+    Ok(Said { source, is_blank })
+}
+
+// Puts a name that isn't blank in the place of what the children say, and nothing where there is none.
+#[tactic(auto, using(crate::proofs::Blanks::blank_nothing))]
+fn replaced_by(content: &mut String, mark: usize, name: Option<Name>) -> Result<Said, OutOfMemory>
+    requires boundary { IsCharBoundary (string_bytes content.old) mark }
+    requires speaks { IfSome name (λ name. blank name.text ≡ false) }
+    ensures text { OnOk result (string_bytes content.new ≡ take mark (string_bytes content.old) ++ (unwrap_or name no_name).text) }
+    ensures decides { IfOk result (λ s. s ≡ said_by (unwrap_or name no_name)) }
+{
+    match name {
+        Some(name) => replaced(content, mark, name.source, name.text.as_str(), false),
+        None => replaced(content, mark, NameSource::Nothing, "", true),
+    }
 }
 
 fn by_clauses(
@@ -123,28 +200,34 @@ fn by_clauses(
     how: How,
     role: Option<Role>,
     row: &Row,
-    inner: &Voice,
-) -> Result<Name, OutOfMemory>
-    ensures { IfOk result (λ name. name ≡ by_clauses told how role (seen_row row.now) (shown inner.now)) }
+    inner: Inner<'_>,
+    mark: usize,
+    content: &mut String,
+) -> Result<Said, OutOfMemory>
+    requires boundary { IsCharBoundary (string_bytes content.old) mark }
+    requires weighed { IfSome inner.caption IsWeighed }
+    requires blank { inner.is_blank ≡ blank (drop mark (string_bytes content.old)) }
+    ensures text { OnOk result (string_bytes content.new ≡ take mark (string_bytes content.old) ++ (by_clauses told how role (seen_row row.now) (told_within inner.entry (drop mark (string_bytes content.old)))).text) }
+    ensures decides { IfOk result (λ s. s ≡ said_by (by_clauses told how role (seen_row row.now) (told_within inner.entry (drop mark (string_bytes content.old))))) }
 {
-    let Told {
-        labelled_by,
-        labels,
-    } = told;
-    if !blank(&labelled_by) {
-        return Ok(Name {
-            text: labelled_by,
-            source: NameSource::LabelledBy,
+    let Inner {
+        chosen,
+        caption,
+        is_blank,
+    } = inner;
+    let earlier = before_content(alloc, told, how, role, row, chosen, caption)?;
+    if earlier.is_some() {
+        return replaced_by(content, mark, earlier);
+    }
+    let counts = asks_content(how, role) & !is_blank;
+    if counts {
+        return Ok(Said {
+            source: NameSource::Content,
+            is_blank,
         });
     }
-    let value = value_of(alloc, how, role, row, inner)?;
-    if !blank(&value) {
-        return Ok(Name {
-            text: value,
-            source: NameSource::HostText,
-        });
-    }
-    by_label(alloc, labels, how, role, row, inner)
+    let hint = by_hints(alloc, row)?;
+    replaced_by(content, mark, hint)
 }
 
 fn is_inner(how: How) -> bool
@@ -168,26 +251,33 @@ fn is_silent(node: NodeId, hidden: bool, how: How, row: &Row) -> bool
     is_inner(how) & (row.id.0 == node.0) | !hidden & !is_shown(row)
 }
 
-/// What a node says, given what references say of it, its role, and what those below it say.
-pub(crate) fn said(
+/// Makes what a node says of what those below it say, which stands from the mark on, given what references
+/// say of the node and its role.
+pub(crate) fn say(
     alloc: Global,
     scope: Scope,
     told: Told,
     how: How,
     role: Option<Role>,
     row: &Row,
-    inner: &Voice,
-) -> Result<Name, OutOfMemory>
-    ensures { IfOk result (λ name. name ≡ said scope.node scope.hidden told how role (seen_row row.now) (shown inner.now)) }
+    inner: Inner<'_>,
+    mark: usize,
+    content: &mut String,
+) -> Result<Said, OutOfMemory>
+    requires boundary { IsCharBoundary (string_bytes content.old) mark }
+    requires weighed { IfSome inner.caption IsWeighed }
+    requires blank { inner.is_blank ≡ blank (drop mark (string_bytes content.old)) }
+    ensures text { OnOk result (string_bytes content.new ≡ take mark (string_bytes content.old) ++ (said scope.node scope.hidden told how role (seen_row row.now) (told_within inner.entry (drop mark (string_bytes content.old)))).text) }
+    ensures decides { IfOk result (λ s. s ≡ said_by (said scope.node scope.hidden told how role (seen_row row.now) (told_within inner.entry (drop mark (string_bytes content.old))))) }
 {
     if is_silent(scope.node, scope.hidden, how, row) {
-        return Ok(no_name(alloc));
+        return replaced_by(content, mark, None);
     }
     match &row.body {
-        Body::Element { .. } => by_clauses(alloc, told, how, role, row, inner),
-        Body::Words { text } => Ok(Name {
-            text: text.copy(alloc)?,
-            source: NameSource::Content,
-        }),
+        Body::Element { .. } => by_clauses(alloc, told, how, role, row, inner, mark, content),
+        Body::Words { text } => {
+            let is_blank = blank(text);
+            replaced(content, mark, NameSource::Content, text.as_str(), is_blank)
+        }
     }
 }

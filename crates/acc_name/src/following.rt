@@ -7,7 +7,6 @@ ghost use Rattle.acc_tree.specs.Seen.{seen_row, seen};
 ghost use Rattle.acc_name.specs.Names.{joined, referred, all_referred, told_of, told_by};
 ghost use Rattle.acc_name.specs.Voices.{text_in};
 
-use crate::heard::joined;
 use crate::named::How;
 use crate::references::{References, Untold};
 use crate::room::Room;
@@ -23,7 +22,7 @@ use std::alloc::Global;
 // itself.
 fn referred(
     alloc: Global,
-    room: Room,
+    room: &mut Room,
     tree: &Tree,
     node: NodeId,
     m: NodeId,
@@ -48,10 +47,33 @@ fn text_of(alloc: Global, joined: Option<String>) -> Text
     }
 }
 
+// A text of its own, or one after another with a space between.
+fn with_text(
+    alloc: Global,
+    so_far: Option<String>,
+    text: &str,
+) -> Result<Option<String>, OutOfMemory>
+    ensures { IfOk result (λ t. text_in t ≡ joined (text_in so_far) (Some text.now)) }
+{
+    let Some(mut joined) = so_far else {
+        return Ok(Some(String::from_str(alloc, text)?));
+    };
+    joined.push_str(" ")?;
+    joined.push_str(text)?;
+    Ok(Some(joined))
+}
+
+fn len_of(text: &Option<String>) -> usize {
+    match text {
+        Some(text) => text.len(),
+        None => 0,
+    }
+}
+
 // What some elements say where they are referred to, and then a further one, with a space between.
 fn with_referred(
     alloc: Global,
-    room: Room,
+    room: &mut Room,
     tree: &Tree,
     node: NodeId,
     so_far: Option<String>,
@@ -59,14 +81,18 @@ fn with_referred(
 ) -> Result<Option<String>, OutOfMemory>
     ensures { IfOk result (λ t. text_in t ≡ joined (text_in so_far) (Some (referred (seen tree.now.trees) node m))) }
 {
+    let held = len_of(&so_far);
+    room.hold(held)?;
     let text = referred(alloc, room, tree, node, m)?;
-    joined(so_far, Some(String::from_str(alloc, text.as_str())?))
+    room.fits(text.len())?;
+    room.release(held);
+    with_text(alloc, so_far, text.as_str())
 }
 
 // What the elements say that the words of a text find.
 fn all_named(
     alloc: Global,
-    room: Room,
+    room: &mut Room,
     tree: &Tree,
     node: NodeId,
     text: &str,
@@ -85,7 +111,7 @@ fn all_named(
 // What the elements say that aria-labelledby finds.
 fn labelled_by(
     alloc: Global,
-    room: Room,
+    room: &mut Room,
     tree: &Tree,
     node: NodeId,
     row: &Row,
@@ -99,7 +125,7 @@ fn labelled_by(
 // What the labels of a node say.
 fn labels(
     alloc: Global,
-    room: Room,
+    room: &mut Room,
     tree: &Tree,
     node: NodeId,
     row: &Row,
@@ -117,16 +143,21 @@ fn labels(
 /// What references say of a row, in the name of a node.
 pub(crate) fn told_of(
     alloc: Global,
-    room: Room,
+    room: &mut Room,
     tree: &Tree,
     node: NodeId,
     row: &Row,
 ) -> Result<Told, OutOfMemory>
     ensures { IfOk result (λ told. told ≡ told_of (seen tree.now.trees) node (seen_row row.now)) }
 {
+    let labelled_by = labelled_by(alloc, room, tree, node, row)?;
+    let held = labelled_by.len();
+    room.hold(held)?;
+    let labels = labels(alloc, room, tree, node, row)?;
+    room.release(held);
     Ok(Told {
-        labelled_by: labelled_by(alloc, room, tree, node, row)?,
-        labels: labels(alloc, room, tree, node, row)?,
+        labelled_by,
+        labels,
     })
 }
 
@@ -143,7 +174,7 @@ impl References for OnPage<'_> {
     fn told(
         &self,
         alloc: Global,
-        room: Room,
+        room: &mut Room,
         row: &Row,
         _below: &Branches<'_>,
         _above: &Above,

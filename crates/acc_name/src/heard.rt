@@ -1,33 +1,50 @@
-ghost use Rattle.std.specs.Prelude.{◌≡◌, ◌++◌, Some, None, if◌then◌else◌, IfOk, OnOk};
+ghost use Rattle.std.specs.Prelude.{◌≡◌, ◌++◌, ◌&&◌, ℕ, List, [], Some, None, true, if◌then◌else◌, option_map, IfOk, OnOk};
 ghost use Rattle.std.specs.Option.{option_or};
 ghost use Rattle.std.specs.String.{string_bytes};
+ghost use Rattle.snap_tree.specs.Words.{blank};
 ghost use Rattle.acc_tree.specs.Seen.{seen_row};
 ghost use Rattle.acc_name.specs.Hosts.{is_captioning};
-ghost use Rattle.acc_name.specs.Names.{stands_apart, placed, is_chosen, nothing_heard, joined, and_then, alone};
-ghost use Rattle.acc_name.specs.Voices.{shown, text_in};
+ghost use Rattle.acc_name.specs.Names.{stands_apart, placed, is_chosen, joined};
+ghost use Rattle.acc_name.specs.Voices.{text_in, weighed, asked_for, gap};
 
 use crate::hosts::{CaptionKind, is_captioning};
-use crate::named::Name;
 use crate::tags::{is_inline, is_option};
+use crate::told::Wanted;
 use acc_tree::{Attribute, has, html_tag, known_tag};
 use snap_tree::{Body, OutOfMemory, Row, Text};
 use std::alloc::Global;
 
-/// What trees say to the node above them.
+/// The text of a root that captions the node above.
 #[derive(Drop)]
-pub(crate) struct Voice {
-    /// The content of all.
-    pub(crate) content: String,
-    /// What the chosen options among them say, with a space between; None where there is none.
+pub(crate) struct Caption {
+    pub(crate) text: Text,
+    pub(crate) is_blank: bool,
+}
+
+/// What trees say to the node above them, beside their content.
+#[derive(Drop)]
+pub(crate) struct Aside {
+    /// What the chosen options among them say, with a space between; None where there is none, or where
+    /// no `select` above says it.
     pub(crate) chosen: Option<String>,
     /// What the first root says that captions the node above.
-    pub(crate) caption: Option<Text>,
+    pub(crate) caption: Option<Caption>,
+    /// Whether their content is blank.
+    pub(crate) is_blank: bool,
+}
+
+/// What those below a node say to it beside their content.
+#[derive(Drop)]
+pub(crate) struct Inner<'a> {
+    pub(crate) chosen: &'a Option<String>,
+    pub(crate) caption: Option<Caption>,
+    pub(crate) is_blank: bool,
 }
 
 // Whether the text of a node stands apart from the texts around it: that of an element does, unless its
 // tag is one that stands within a line.
 fn stands_apart(row: &Row) -> bool
-    ensures { result ≡ stands_apart row.now.body }
+    ensures { result ≡ stands_apart (seen_row row.now).body }
 {
     match &row.body {
         Body::Element { tag, .. } => !is_inline(known_tag(tag.as_str())),
@@ -42,24 +59,21 @@ fn is_chosen(row: &Row) -> bool
     is_option(html_tag(row)) && has(row, Attribute::Selected)
 }
 
-fn add_placed(content: &mut String, row: &Row, text: &Text) -> Result<(), OutOfMemory>
-    ensures { OnOk result (string_bytes content.new ≡ string_bytes content.old ++ placed row.now text.now) }
+/// Writes the space that stands beside the text of a node that stands apart.
+pub(crate) fn part(content: &mut String, row: &Row) -> Result<(), OutOfMemory>
+    ensures { OnOk result (string_bytes content.new ≡ string_bytes content.old ++ gap (seen_row row.now)) }
 {
-    if !stands_apart(row) {
-        content.push_str(text.as_str())?;
-        return Ok(());
+    if stands_apart(row) {
+        content.push_str(" ")?;
     }
-    content.push_str(" ")?;
-    content.push_str(text.as_str())?;
-    content.push_str(" ")?;
     Ok(())
 }
 
-fn choice(alloc: Global, row: &Row, text: &Text) -> Result<Option<String>, OutOfMemory>
+fn choice(alloc: Global, row: &Row, text: &str) -> Result<Option<String>, OutOfMemory>
     ensures { IfOk result (λ t. text_in t ≡ (if is_chosen (seen_row row.now) then Some text.now else None)) }
 {
     if is_chosen(row) {
-        Ok(Some(String::from_str(alloc, text.as_str())?))
+        Ok(Some(String::from_str(alloc, text)?))
     } else {
         Ok(None)
     }
@@ -83,16 +97,43 @@ pub(crate) fn joined(
     Ok(Some(text))
 }
 
-fn caption(first: Option<Text>, kind: Option<CaptionKind>, row: &Row, text: Text) -> Option<Text>
-    ensures { result ≡ option_or first (if is_captioning kind (seen_row row.now) then Some text else None) }
+// What the chosen options say up to a node and below it, where that is asked for.
+fn choices(
+    alloc: Global,
+    asks: bool,
+    row: &Row,
+    text: &str,
+    earlier: Option<String>,
+    below: Option<String>,
+) -> Result<Option<String>, OutOfMemory>
+    ensures { IfOk result (λ t. text_in t ≡ asked_for asks (joined (text_in earlier) (joined (if is_chosen (seen_row row.now) then Some text.now else None) (text_in below)))) }
+{
+    if !asks {
+        return Ok(None);
+    }
+    let own = choice(alloc, row, text)?;
+    joined(earlier, joined(own, below)?)
+}
+
+fn captioned(
+    alloc: Global,
+    first: Option<Caption>,
+    kind: Option<CaptionKind>,
+    row: &Row,
+    text: &str,
+    is_blank: bool,
+) -> Result<Option<Caption>, OutOfMemory>
+    requires { is_blank ≡ blank text.now }
+    ensures { IfOk result (λ t. t ≡ option_or first (option_map weighed (if is_captioning kind (seen_row row.now) then Some text.now else None))) }
 {
     if first.is_some() {
-        return first;
+        return Ok(first);
     }
     if is_captioning(kind, row) {
-        Some(text)
+        let text = Text::from_str(alloc, text)?;
+        Ok(Some(Caption { text, is_blank }))
     } else {
-        None
+        Ok(None)
     }
 }
 
@@ -103,54 +144,59 @@ fn len_of(text: &Option<String>) -> usize {
     }
 }
 
-impl Voice {
+impl Aside {
     /// Nothing is said.
-    pub(crate) fn nothing(alloc: Global) -> Self
-        ensures { shown result ≡ nothing_heard }
+    pub(crate) const fn nothing() -> Self
+        ensures chosen { result.chosen ≡ None }
+        ensures caption { result.caption ≡ None }
+        ensures blank { result.is_blank ≡ true }
     {
-        Voice {
-            content: String::new(alloc),
+        Aside {
             chosen: None,
             caption: None,
+            is_blank: true,
         }
+    }
+
+    /// How many bytes of text the chosen options say.
+    pub(crate) fn chosen_len(&self) -> usize {
+        len_of(&self.chosen)
     }
 
     /// How many bytes of text it holds.
     pub(crate) fn len(&self) -> usize {
         let caption = match &self.caption {
-            Some(text) => text.len(),
+            Some(caption) => caption.text.len(),
             None => 0,
         };
-        self.content
-            .len()
-            .saturating_add(len_of(&self.chosen))
-            .saturating_add(caption)
+        self.chosen_len().saturating_add(caption)
     }
 
-    /// What is said with a further tree, given what its root says and what the trees below that say.
+    /// What is said with a further tree, given the text of its root, whether that is blank, and what the
+    /// chosen options say below it.
     pub(crate) fn and_then(
         self,
         alloc: Global,
-        kind: Option<CaptionKind>,
+        wanted: Wanted,
         row: &Row,
-        said: Name,
-        inner: Voice,
+        text: &str,
+        is_blank: bool,
+        below: Option<String>,
     ) -> Result<Self, OutOfMemory>
-        ensures { IfOk result (λ voice. shown voice ≡ and_then (shown self) (alone kind (seen_row row.now) said.text (shown inner).chosen)) }
+        requires { is_blank ≡ blank text.now }
+        ensures chosen { IfOk result (λ aside. text_in aside.chosen ≡ asked_for wanted.chosen (joined (text_in self.chosen) (joined (if is_chosen (seen_row row.now) then Some text.now else None) (text_in below)))) }
+        ensures caption { IfOk result (λ aside. aside.caption ≡ option_or self.caption (option_map weighed (if is_captioning wanted.caption (seen_row row.now) then Some text.now else None))) }
+        ensures blank { IfOk result (λ aside. aside.is_blank ≡ (self.is_blank && blank text.now)) }
     {
-        let Voice {
-            mut content,
+        let Aside {
             chosen: earlier,
             caption: first,
+            is_blank: blank_before,
         } = self;
-        let Name { text, .. } = said;
-        let Voice { chosen, .. } = inner;
-        add_placed(&mut content, row, &text)?;
-        let choice = joined(choice(alloc, row, &text)?, chosen)?;
-        Ok(Voice {
-            content,
-            chosen: joined(earlier, choice)?,
-            caption: caption(first, kind, row, text),
+        Ok(Aside {
+            chosen: choices(alloc, wanted.chosen, row, text, earlier, below)?,
+            caption: captioned(alloc, first, wanted.caption, row, text, is_blank)?,
+            is_blank: blank_before & is_blank,
         })
     }
 }

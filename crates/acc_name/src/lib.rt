@@ -23,4 +23,4 @@ mod values;
 pub use laws::laws_of_names;
 pub use named::{Name, NameSource};
 pub use naming::name;
-pub use room::MOST_NAME_BYTES;
+pub use room::{MOST_NAME_BYTES, MOST_NESTED_BYTES};

@@ -5,9 +5,9 @@ ghost use Rattle.acc_name.specs.declared.named.How.TheVariants as how;
 ghost use Rattle.acc_name.specs.Hosts.{caption_of};
 ghost use Rattle.acc_name.specs.Names.{asks_content, nothing_heard, said, told_of, own_text, named, name_of};
 
-use crate::clauses::{no_name, said};
+use crate::clauses::{no_name, say};
 use crate::following::{OnPage, told_of};
-use crate::heard::Voice;
+use crate::heard::Inner;
 use crate::hosts::{caption_in, host_of};
 use crate::named::{How, Name, NameSource};
 use crate::room::Room;
@@ -45,7 +45,7 @@ fn asking(alloc: Global, tree: &Tree, n: NodeId) -> Result<Name, OutOfMemory>
         alloc,
         &OnPage { tree, node: n },
         scope,
-        Room::whole(),
+        &mut Room::whole(),
         How::Own,
         sight,
     )
@@ -65,16 +65,28 @@ fn alone(
         node,
         hidden: false,
     };
-    let told = told_of(alloc, Room::whole(), tree, node, row)?;
-    said(
+    let told = told_of(alloc, &mut Room::whole(), tree, node, row)?;
+    let mut content = String::new(alloc);
+    let nothing = Inner {
+        chosen: &None,
+        caption: None,
+        is_blank: true,
+    };
+    let said = say(
         alloc,
         scope,
         told,
         How::Own,
         role,
         row,
-        &Voice::nothing(alloc),
-    )
+        nothing,
+        0,
+        &mut content,
+    )?;
+    Ok(Name {
+        text: Text::from_string(content),
+        source: said.source,
+    })
 }
 
 // Whether a node asks those below it for its own name: it is named from content, or a child captions it.
@@ -102,7 +114,8 @@ fn own_text(alloc: Global, tree: &Tree, n: NodeId) -> Result<Name, OutOfMemory>
 /// The accessible name of a node, and the clause that gave it.
 ///
 /// A number that the tree doesn't hold has no name. It wants memory too where more than
-/// [`MOST_NAME_BYTES`](crate::MOST_NAME_BYTES) bytes of text would be held at once.
+/// [`MOST_NAME_BYTES`](crate::MOST_NAME_BYTES) bytes of text would be held at once, or where the `select`
+/// elements within others say more than [`MOST_NESTED_BYTES`](crate::MOST_NESTED_BYTES) bytes.
 pub fn name(alloc: Global, tree: &Tree, n: NodeId) -> Result<Name, OutOfMemory>
     ensures { IfOk result (λ name. name ≡ name_of (seen tree.now.trees) n) }
 {

@@ -20,7 +20,7 @@ pub(crate) trait References {
     fn told(
         &self,
         alloc: Global,
-        room: Room,
+        room: &mut Room,
         row: &Row,
         below: &Branches<'_>,
         above: &Above,
@@ -38,7 +38,7 @@ impl References for Untold {
     fn told(
         &self,
         alloc: Global,
-        _room: Room,
+        _room: &mut Room,
         _row: &Row,
         _below: &Branches<'_>,
         _above: &Above,

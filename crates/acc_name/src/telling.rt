@@ -1,56 +1,135 @@
-ghost use Rattle.std.specs.Prelude.{◌≡◌, IfOk};
-ghost use Rattle.acc_tree.specs.Seen.{seen};
+ghost use Rattle.std.specs.Prelude.{◌≡◌, ◌++◌, ◌&&◌, take, drop, option_map, Some, None, if◌then◌else◌, IfOk, OnOk, IfSome, IsUtf8, IsCharBoundary};
+ghost use Rattle.std.specs.Option.{option_or};
+ghost use Rattle.std.specs.String.{string_bytes};
+ghost use Rattle.snap_tree.specs.Words.{blank};
+ghost use Rattle.acc_tree.specs.Seen.{seen_row, seen};
 ghost use Rattle.acc_tree.specs.Sights.{seen_sight};
-ghost use Rattle.acc_name.specs.Names.{heard, spoken};
-ghost use Rattle.acc_name.specs.Voices.{shown, asked_of};
+ghost use Rattle.acc_name.specs.declared.named.How.TheVariants as how;
+ghost use Rattle.acc_name.specs.Hosts.{is_captioning};
+ghost use Rattle.acc_name.specs.Names.{heard, spoken, joined, is_chosen};
+ghost use Rattle.acc_name.specs.Voices.{asked_of, text_in, weighed, asked_for, gap, IsWeighed, says_within};
 
-use crate::clauses::said;
-use crate::heard::Voice;
-use crate::hosts::{CaptionKind, caption_in, host_of};
+use crate::clauses::say;
+use crate::heard::{Aside, Inner, part};
 use crate::named::{How, Name};
 use crate::references::References;
 use crate::room::Room;
-use crate::told::Scope;
-use acc_tree::{Above, Sight, role_at, under};
-use snap_tree::{Branches, OutOfMemory};
+use crate::tags::is_select;
+use crate::told::{Scope, Told, Wanted};
+use acc_tree::{Above, Sight, html_tag, role_at, under};
+use aria_tables::Role;
+use snap_tree::{Branches, OutOfMemory, Row, Text};
 use std::alloc::Global;
 
-// What trees say within a name, given what is above them and which of their roots caption the node there.
-// Each subtree is heard once.
+// Makes what a root says of what stands from the mark on, which those below it say, and puts it with what
+// was said before it.
+fn settle(
+    alloc: Global,
+    scope: Scope,
+    wanted: Wanted,
+    told: Told,
+    role: Option<Role>,
+    row: &Row,
+    inner: Aside,
+    so_far: Aside,
+    mark: usize,
+    content: &mut String,
+) -> Result<Aside, OutOfMemory>
+    requires boundary { IsCharBoundary (string_bytes content.old) mark }
+    requires weighed { IfSome inner.caption IsWeighed }
+    requires blank { inner.is_blank ≡ blank (drop mark (string_bytes content.old)) }
+    ensures content { OnOk result (string_bytes content.new ≡ take mark (string_bytes content.old) ++ says_within scope told role (seen_row row.now) inner (drop mark (string_bytes content.old)) ++ gap (seen_row row.now)) }
+    ensures utf8 { OnOk result (IsUtf8 (says_within scope told role (seen_row row.now) inner (drop mark (string_bytes content.old)))) }
+    ensures chosen { IfOk result (λ aside. text_in aside.chosen ≡ asked_for wanted.chosen (joined (text_in so_far.chosen) (joined (if is_chosen (seen_row row.now) then Some (says_within scope told role (seen_row row.now) inner (drop mark (string_bytes content.old))) else None) (text_in inner.chosen)))) }
+    ensures caption { IfOk result (λ aside. aside.caption ≡ option_or so_far.caption (option_map weighed (if is_captioning wanted.caption (seen_row row.now) then Some (says_within scope told role (seen_row row.now) inner (drop mark (string_bytes content.old))) else None))) }
+    ensures blank { IfOk result (λ aside. aside.is_blank ≡ (so_far.is_blank && blank (says_within scope told role (seen_row row.now) inner (drop mark (string_bytes content.old))))) }
+{
+    let Aside {
+        chosen,
+        caption,
+        is_blank,
+    } = inner;
+    let below = Inner {
+        chosen: &chosen,
+        caption,
+        is_blank,
+    };
+    let said = say(
+        alloc,
+        scope,
+        told,
+        How::Inner,
+        role,
+        row,
+        below,
+        mark,
+        content,
+    )?;
+    let (_, text) = content.as_str().split_at(mark);
+    let aside = so_far.and_then(alloc, wanted, row, text, said.is_blank, chosen)?;
+    part(content, row)?;
+    Ok(aside)
+}
+
+// Counts what the chosen options say below a `select` that stands within another.
+fn nest(room: &mut Room, wanted: Wanted, row: &Row, inner: &Aside) -> Result<(), OutOfMemory> {
+    if wanted.chosen & is_select(html_tag(row)) {
+        room.nest(inner.chosen_len())
+    } else {
+        Ok(())
+    }
+}
+
+// Writes what trees say within a name, given what is above them, and answers what they say beside it.
+// Each subtree is heard once, and what it says is written once.
 fn hear<R: References>(
     alloc: Global,
     references: &R,
     scope: Scope,
-    room: Room,
+    room: &mut Room,
     above: &Above,
-    kind: Option<CaptionKind>,
+    wanted: Wanted,
     trees: Branches<'_>,
-) -> Result<Voice, OutOfMemory>
-    ensures { IfOk result (λ voice. shown voice ≡ heard (asked_of scope (R.tells references.now)) above.now kind (seen trees.entry)) }
+    content: &mut String,
+) -> Result<Aside, OutOfMemory>
+    ensures content { OnOk result (string_bytes content.new ≡ string_bytes content.old ++ (heard (asked_of scope (R.tells references.now)) above.now wanted.caption (seen trees.entry)).content) }
+    ensures chosen { IfOk result (λ aside. text_in aside.chosen ≡ asked_for wanted.chosen (heard (asked_of scope (R.tells references.now)) above.now wanted.caption (seen trees.entry)).chosen) }
+    ensures caption { IfOk result (λ aside. aside.caption ≡ option_map weighed (heard (asked_of scope (R.tells references.now)) above.now wanted.caption (seen trees.entry)).caption) }
+    ensures blank { IfOk result (λ aside. aside.is_blank ≡ blank (heard (asked_of scope (R.tells references.now)) above.now wanted.caption (seen trees.entry)).content) }
 {
-    let mut so_far = Voice::nothing(alloc);
+    let mut so_far = Aside::nothing();
     let mut rest = trees;
     while let Some(branch) = rest.first() {
-        let left = room.beside(so_far.len())?;
         let row = branch.row;
-        let told = references.told(alloc, left, row, &branch.kids, above)?;
+        let before = content.len().saturating_add(so_far.len());
+        room.hold(before)?;
+        let told = references.told(alloc, room, row, &branch.kids, above)?;
+        room.release(before);
+        part(content, row)?;
+        let mark = content.as_str().len();
         let beneath = under(above, row);
-        let captioned = caption_in(host_of(row));
+        let held = so_far.len().saturating_add(told.len());
+        room.hold(held)?;
         let inner = hear(
             alloc,
             references,
             scope,
-            left,
+            room,
             &beneath,
-            captioned,
+            wanted.below(row),
             branch.kids,
+            content,
         )?;
+        room.fits(content.len().saturating_add(inner.len()))?;
+        room.release(held);
+        nest(room, wanted, row, &inner)?;
         let role = role_at(above, row);
-        let name = said(alloc, scope, told, How::Inner, role, row, &inner)?;
-        so_far = so_far.and_then(alloc, kind, row, name, inner)?;
+        so_far = settle(
+            alloc, scope, wanted, told, role, row, inner, so_far, mark, content,
+        )?;
         rest = branch.after;
     }
-    room.beside(so_far.len())?;
+    room.fits(content.len().saturating_add(so_far.len()))?;
     Ok(so_far)
 }
 
@@ -59,7 +138,7 @@ pub(crate) fn spoken<R: References>(
     alloc: Global,
     references: &R,
     scope: Scope,
-    room: Room,
+    room: &mut Room,
     how: How,
     sight: Sight<'_>,
 ) -> Result<Name, OutOfMemory>
@@ -68,7 +147,34 @@ pub(crate) fn spoken<R: References>(
     let Sight { row, below, above } = sight;
     let told = references.told(alloc, room, row, &below, &above)?;
     let beneath = under(&above, row);
-    let captioned = caption_in(host_of(row));
-    let inner = hear(alloc, references, scope, room, &beneath, captioned, below)?;
-    said(alloc, scope, told, how, role_at(&above, row), row, &inner)
+    let mut content = String::new(alloc);
+    let held = told.len();
+    room.hold(held)?;
+    let inner = hear(
+        alloc,
+        references,
+        scope,
+        room,
+        &beneath,
+        Wanted::nothing().below(row),
+        below,
+        &mut content,
+    )?;
+    room.release(held);
+    let Aside {
+        chosen,
+        caption,
+        is_blank,
+    } = inner;
+    let inner = Inner {
+        chosen: &chosen,
+        caption,
+        is_blank,
+    };
+    let role = role_at(&above, row);
+    let said = say(alloc, scope, told, how, role, row, inner, 0, &mut content)?;
+    Ok(Name {
+        text: Text::from_string(content),
+        source: said.source,
+    })
 }

@@ -1,4 +1,11 @@
-use snap_tree::{NodeId, Text};
+ghost use Rattle.std.specs.Prelude.{◌≡◌, false, None};
+ghost use Rattle.acc_tree.specs.Seen.{seen_row};
+ghost use Rattle.acc_name.specs.Voices.{wanted_below};
+
+use crate::hosts::{CaptionKind, caption_in, host_of};
+use crate::tags::is_select;
+use acc_tree::html_tag;
+use snap_tree::{NodeId, Row, Text};
 
 /// What references say of a node.
 #[derive(Drop)]
@@ -9,9 +16,48 @@ pub(crate) struct Told {
     pub(crate) labels: Text,
 }
 
+impl Told {
+    /// How many bytes of text it holds.
+    pub(crate) fn len(&self) -> usize {
+        self.labelled_by.len().saturating_add(self.labels.len())
+    }
+}
+
 /// The node whose name is asked, and whether hidden nodes count.
 #[derive(Clone, Copy, Debug)]
 pub(crate) struct Scope {
     pub(crate) node: NodeId,
     pub(crate) hidden: bool,
+}
+
+/// What is asked of trees beside their content.
+#[derive(Clone, Copy, Debug)]
+pub(crate) struct Wanted {
+    /// The roots that caption the node above.
+    pub(crate) caption: Option<CaptionKind>,
+    /// Whether a `select` above says what the chosen options say.
+    pub(crate) chosen: bool,
+}
+
+impl Wanted {
+    /// What a node asks of those below it, given what is asked of itself.
+    pub(crate) fn below(self, row: &Row) -> Self
+        ensures { result ≡ wanted_below self (seen_row row.now) }
+    {
+        Wanted {
+            caption: caption_in(host_of(row)),
+            chosen: self.chosen | is_select(html_tag(row)),
+        }
+    }
+
+    /// Nothing.
+    pub(crate) const fn nothing() -> Self
+        ensures caption { result.caption ≡ None }
+        ensures chosen { result.chosen ≡ false }
+    {
+        Wanted {
+            caption: None,
+            chosen: false,
+        }
+    }
 }

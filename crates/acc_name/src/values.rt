@@ -1,10 +1,9 @@
-ghost use Rattle.std.specs.Prelude.{◌≡◌, [], IfOk, unwrap_or};
+ghost use Rattle.std.specs.Prelude.{◌≡◌, [], None, IfOk, unwrap_or};
 ghost use Rattle.acc_tree.specs.Seen.{seen_row, text_at};
 ghost use Rattle.acc_name.specs.Hosts.{host_text};
-ghost use Rattle.acc_name.specs.Names.{is_entry, is_range, range_text, control_text, value_of, is_named, asks_content, content_of, placeholder_of};
-ghost use Rattle.acc_name.specs.Voices.{text_in, shown};
+ghost use Rattle.acc_name.specs.Names.{is_entry, is_range, range_text, control_text, value_of, is_named, asks_content, placeholder_of};
+ghost use Rattle.acc_name.specs.Voices.{text_in};
 
-use crate::heard::Voice;
 use crate::hosts::{Host, value_or};
 use crate::named::How;
 use crate::tags::{has_placeholder, is_input, is_select};
@@ -49,10 +48,10 @@ fn range_text(alloc: Global, row: &Row) -> Result<Text, OutOfMemory>
 }
 
 /// What the chosen options below a node say; the empty text where there is none.
-fn chosen_text(alloc: Global, inner: &Voice) -> Result<Text, OutOfMemory>
-    ensures { IfOk result (λ t. t ≡ unwrap_or (shown inner.now).chosen []) }
+fn chosen_text(alloc: Global, chosen: &Option<String>) -> Result<Text, OutOfMemory>
+    ensures { IfOk result (λ t. t ≡ unwrap_or (text_in chosen.now) []) }
 {
-    match &inner.chosen {
+    match chosen {
         Some(text) => Ok(Text::from_str(alloc, text.as_str())?),
         None => Ok(Text::new(alloc)),
     }
@@ -62,15 +61,15 @@ fn control_text(
     alloc: Global,
     role: Option<Role>,
     row: &Row,
-    inner: &Voice,
+    chosen: &Option<String>,
 ) -> Result<Text, OutOfMemory>
-    ensures { IfOk result (λ t. t ≡ control_text role (seen_row row.now) (shown inner.now).chosen) }
+    ensures { IfOk result (λ t. t ≡ control_text role (seen_row row.now) (text_in chosen.now)) }
 {
     let tag = html_tag(row);
     if is_input(tag) & is_entry(role) {
         copied_at(alloc, row, Attribute::Value)
     } else if is_select(tag) {
-        chosen_text(alloc, inner)
+        chosen_text(alloc, chosen)
     } else if is_range(role) {
         range_text(alloc, row)
     } else {
@@ -84,24 +83,20 @@ pub(crate) fn value_of(
     how: How,
     role: Option<Role>,
     row: &Row,
-    inner: &Voice,
+    chosen: &Option<String>,
 ) -> Result<Text, OutOfMemory>
-    ensures { IfOk result (λ t. t ≡ value_of how role (seen_row row.now) (shown inner.now).chosen) }
+    ensures { IfOk result (λ t. t ≡ value_of how role (seen_row row.now) (text_in chosen.now)) }
 {
     match how {
         How::Own | How::Referred => Ok(Text::new(alloc)),
-        How::Inner => control_text(alloc, role, row, inner),
+        How::Inner => control_text(alloc, role, row, chosen),
     }
 }
 
-/// The text of an element's own kind, such as `alt`; the empty text where it has none.
-pub(crate) fn host_text(
-    alloc: Global,
-    host: Host,
-    row: &Row,
-    inner: &Voice,
-) -> Result<Text, OutOfMemory>
-    ensures { IfOk result (λ t. t ≡ host_text host (seen_row row.now) (shown inner.now).caption) }
+/// The text of an element's own kind that its attributes give, such as `alt`; the empty text where they
+/// give none.
+pub(crate) fn native_text(alloc: Global, host: Host, row: &Row) -> Result<Text, OutOfMemory>
+    ensures { IfOk result (λ t. t ≡ host_text host (seen_row row.now) None) }
 {
     match host {
         Host::Alternative => copied_at(alloc, row, Attribute::Alt),
@@ -109,11 +104,7 @@ pub(crate) fn host_text(
         Host::Reset => Text::from_str(alloc, value_or(row, "Reset")),
         Host::Plain => copied_at(alloc, row, Attribute::Value),
         Host::Group => copied_at(alloc, row, Attribute::Label),
-        Host::Captioned(_) => match &inner.caption {
-            Some(text) => text.copy(alloc),
-            None => Ok(Text::new(alloc)),
-        },
-        Host::Nothing => Ok(Text::new(alloc)),
+        Host::Captioned(_) | Host::Nothing => Ok(Text::new(alloc)),
     }
 }
 
@@ -127,22 +118,6 @@ pub(crate) fn asks_content(how: How, role: Option<Role>) -> bool
             None => false,
         },
         How::Referred | How::Inner => true,
-    }
-}
-
-/// What the children say, where that can name the node; else the empty text.
-pub(crate) fn content_of(
-    alloc: Global,
-    how: How,
-    role: Option<Role>,
-    inner: &Voice,
-) -> Result<Text, OutOfMemory>
-    ensures { IfOk result (λ t. t ≡ content_of how role (shown inner.now).content) }
-{
-    if asks_content(how, role) {
-        Ok(Text::from_str(alloc, inner.content.as_str())?)
-    } else {
-        Ok(Text::new(alloc))
     }
 }
 
