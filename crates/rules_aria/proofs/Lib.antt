@@ -1,3 +1,4 @@
 pub mod Beginning
 pub mod Joining
 pub mod Stopping
+pub mod Judged

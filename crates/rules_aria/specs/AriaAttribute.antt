@@ -1,5 +1,5 @@
 -- Which ARIA attributes are defined.
-use Rattle.std.specs.Prelude.{◌&&◌, not, List, [], ◌∷◌, codes, Bool, if◌then◌else◌, Option, Some, None}
+use Rattle.std.specs.Prelude.{◌&&◌, not, List, [], ◌∷◌, codes, Bool, if◌then◌else◌, Option, Some, None, true, false}
 use Rattle.std.specs.Option.{is_none}
 use Rattle.std.specs.List.{list_any}
 use Rattle.snap_tree.specs.declared.row.NodeId.{NodeId}
@@ -17,6 +17,7 @@ use Rattle.rule_core.specs.Infos.{atomic}
 use Rattle.rule_core.specs.Findings.{met, failed, cant_tell, verdict_of}
 use Rattle.rules_aria.specs.AriaLines.{aria_lines}
 use Rattle.rule_sights.specs.Nodes.{said_alone}
+use Rattle.acc_tree.specs.declared.above.Above.{Above}
 
 -- in neither list: not known, and not of a later edition
 abbrev pub is_unknown : Attr → Bool
@@ -38,6 +39,14 @@ attribute_verdict row = by_attributes (aria_attrs row)
 -- ARIA attribute is defined in WAI-ARIA
 abbrev pub aria_attribute_is_defined : Document → NodeId → Option Verdict
 aria_attribute_is_defined = said_alone attribute_verdict
+
+abbrev pub has_some : List Attr → Bool
+has_some [] = false
+has_some (a ∷ attrs) = true
+
+-- the targets of the rule
+abbrev pub aria_attribute_is_defined_target : Above → Row → Bool
+aria_attribute_is_defined_target above row = has_some (aria_attrs row)
 
 abbrev pub aria_attribute_is_defined_info : RuleInfo
 aria_attribute_is_defined_info = atomic 19 (codes "5f99a7") SelfOnly SelfOnly

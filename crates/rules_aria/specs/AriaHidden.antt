@@ -1,5 +1,5 @@
 -- What stands inside an element with aria-hidden.
-use Rattle.std.specs.Prelude.{ℕ, List, [], ◌∷◌, map, filter, codes, decimal, if◌then◌else◌, Option, Some, None}
+use Rattle.std.specs.Prelude.{◌&&◌, Bool, ℕ, List, [], ◌∷◌, map, filter, codes, decimal, if◌then◌else◌, Option, Some, None}
 use Rattle.std.specs.List.{join_with_byte}
 use Rattle.snap_tree.specs.declared.row.NodeId.{NodeId}
 use Rattle.snap_tree.specs.declared.row.Row.{Row}
@@ -17,6 +17,7 @@ use Rattle.rule_core.specs.declared.verdict.Verdict.{Verdict}
 use Rattle.rule_core.specs.Infos.{atomic}
 use Rattle.rule_core.specs.Findings.{met, failed, verdict_of}
 use Rattle.rule_sights.specs.Nodes.{said_below}
+use Rattle.acc_tree.specs.declared.above.Above.{Above}
 
 -- the node and those below it at which the Tab key stops, in document order
 abbrev pub stops_among : List Row → List NodeId
@@ -41,6 +42,10 @@ hidden_verdict s = if is_hidden s.row then Some (verdict_of (hidden_finding (sto
 -- element with aria-hidden has no content in sequential focus navigation
 abbrev pub hidden_holds_no_focus : Document → NodeId → Option Verdict
 hidden_holds_no_focus = said_below (has (attribute.Aria aria.Hidden)) hidden_verdict
+
+-- the targets of the rule
+abbrev pub hidden_holds_no_focus_target : Above → Row → Bool
+hidden_holds_no_focus_target above row = has (attribute.Aria aria.Hidden) row && is_hidden row
 
 abbrev pub hidden_holds_no_focus_info : RuleInfo
 hidden_holds_no_focus_info = atomic 23 (codes "6cfa84") SelfOnly Sub

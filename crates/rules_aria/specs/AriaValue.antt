@@ -55,5 +55,9 @@ value_verdict finds above row =
 abbrev pub aria_value_is_valid : Document → NodeId → Option Verdict
 aria_value_is_valid page = said_where has_filled (value_verdict (found (seen page.trees))) page
 
+-- the targets of the rule
+abbrev pub aria_value_is_valid_target : Above → Row → Bool
+aria_value_is_valid_target above row = has_filled row && exposed above row
+
 abbrev pub aria_value_is_valid_info : RuleInfo
 aria_value_is_valid_info = atomic 20 (codes "6a7281") SelfOnly Sub

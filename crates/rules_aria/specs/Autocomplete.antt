@@ -26,6 +26,7 @@ use Rattle.rule_core.specs.Infos.{atomic}
 use Rattle.rule_core.specs.Findings.{met, failed, verdict_of}
 use Rattle.rule_sights.specs.Nodes.{said_where}
 use Rattle.rules_aria.specs.Token.{begins}
+use Rattle.std.specs.Option.{option_map_or}
 
 -- ---- the tokens, in their order
 
@@ -146,6 +147,10 @@ autocomplete_verdict above row =
 -- autocomplete attribute has valid value
 abbrev pub autocomplete_is_valid : Document → NodeId → Option Verdict
 autocomplete_is_valid = said_where (has attribute.Autocomplete) autocomplete_verdict
+
+-- the targets of the rule
+abbrev pub autocomplete_is_valid_target : Above → Row → Bool
+autocomplete_is_valid_target above row = option_map_or (is_autocomplete_target above row) (attr attribute.Autocomplete row) false
 
 abbrev pub autocomplete_is_valid_info : RuleInfo
 autocomplete_is_valid_info = atomic 17 (codes "73f2c2") SelfOnly SelfOnly

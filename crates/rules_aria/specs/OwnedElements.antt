@@ -1,5 +1,5 @@
 -- What an element of an explicit role owns.
-use Rattle.std.specs.Prelude.{◌&&◌, ◌==◌, not, ℕ, List, [], ◌∷◌, map, codes, length, Bool, if◌then◌else◌, Option, Some, None, option_and_then}
+use Rattle.std.specs.Prelude.{false, ◌&&◌, ◌==◌, not, ℕ, List, [], ◌∷◌, map, codes, length, Bool, if◌then◌else◌, Option, Some, None, option_and_then}
 use Rattle.std.specs.List.{list_all, join_with_byte}
 use Rattle.snap_tree.specs.declared.row.NodeId.{NodeId}
 use Rattle.snap_tree.specs.declared.row.Row.{Row}
@@ -24,6 +24,7 @@ use Rattle.rule_core.specs.declared.verdict.Verdict.{Verdict}
 use Rattle.rule_core.specs.Infos.{atomic}
 use Rattle.rule_core.specs.Findings.{met, failed, cant_tell, verdict_of}
 use Rattle.rule_sights.specs.Nodes.{said_below}
+use Rattle.std.specs.Option.{option_map_or}
 
 abbrev pub are_allowed : List Role → List OwnedElement → Bool
 are_allowed allowed elements = list_all (λ o. is_one_of allowed o.role) elements
@@ -53,6 +54,10 @@ owned_verdict s =
 -- ARIA required owned elements
 abbrev pub owns_required_elements : Document → NodeId → Option Verdict
 owns_required_elements = said_below (has attribute.RoleAttr) owned_verdict
+
+-- the targets of the rule
+abbrev pub owns_required_elements_target : Above → Row → Bool
+owns_required_elements_target above row = has attribute.RoleAttr row && option_map_or (is_owner_target above row) (explicit row) false
 
 abbrev pub owns_required_elements_info : RuleInfo
 owns_required_elements_info = atomic 22 (codes "bc4a75") SelfOnly Sub

@@ -64,5 +64,9 @@ states_verdict above row =
 abbrev pub has_required_states : Document → NodeId → Option Verdict
 has_required_states = said_where (has attribute.RoleAttr) states_verdict
 
+-- the targets of the rule
+abbrev pub has_required_states_target : Above → Row → Bool
+has_required_states_target above row = has attribute.RoleAttr row && option_map_or (is_states_target above row) (explicit row) false
+
 abbrev pub has_required_states_info : RuleInfo
 has_required_states_info = atomic 21 (codes "4e8ab6") SelfOnly SelfOnly

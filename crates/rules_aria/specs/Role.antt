@@ -1,6 +1,6 @@
 -- What the attribute `role` may say.
-use Rattle.std.specs.Prelude.{◌&&◌, ◌||◌, not, ℕ, List, codes, Bool, if◌then◌else◌, Option, Some, None, option_and_then}
-use Rattle.std.specs.Option.{is_some}
+use Rattle.std.specs.Prelude.{false, ◌&&◌, ◌||◌, not, ℕ, List, codes, Bool, if◌then◌else◌, Option, Some, None, option_and_then}
+use Rattle.std.specs.Option.{option_map_or, is_some}
 use Rattle.std.specs.List.{list_any}
 use Rattle.snap_tree.specs.declared.row.NodeId.{NodeId}
 use Rattle.snap_tree.specs.declared.row.Row.{Row}
@@ -48,6 +48,10 @@ role_verdict above row =
 -- role attribute has valid value
 abbrev pub role_is_valid : Document → NodeId → Option Verdict
 role_is_valid = said_where (has attribute.RoleAttr) role_verdict
+
+-- the targets of the rule
+abbrev pub role_is_valid_target : Above → Row → Bool
+role_is_valid_target above row = option_map_or (is_role_target above row) (attr attribute.RoleAttr row) false
 
 abbrev pub role_is_valid_info : RuleInfo
 role_is_valid_info = atomic 18 (codes "674b10") SelfOnly SelfOnly

@@ -17,6 +17,7 @@ use Rattle.rule_core.specs.Findings.{passed}
 use Rattle.rule_core.specs.Infos.{atomic}
 use Rattle.rules_names.specs.Elements.{is_html_element, is_img}
 use Rattle.rules_names.specs.Named.{named_verdict, name_finding, said_of_roles}
+use Rattle.rule_sights.specs.Targets.{is_as}
 
 -- an HTML element in the accessibility tree: one of role img then, since no other of these is included
 abbrev pub is_included_image : Above → Row → Bool
@@ -39,6 +40,10 @@ image_verdict role name = Some (named_verdict (image_finding role name) role nam
 -- image has non-empty accessible name: the targets are of role img, none or presentation
 abbrev pub image_has_name : Document → NodeId → Option Verdict
 image_has_name = said_of_roles (role.Img ∷ role.NoneRole ∷ role.Presentation ∷ []) is_image_target image_verdict
+
+-- the targets of the rule
+abbrev pub image_has_name_target : Above → Row → Bool
+image_has_name_target above row = is_as (role.Img ∷ role.NoneRole ∷ role.Presentation ∷ []) above row && is_image_target above row
 
 abbrev pub image_has_name_info : RuleInfo
 image_has_name_info = atomic 10 (codes "23a2a8") SelfOnly Sub

@@ -22,5 +22,9 @@ is_image_button_target above row = is_image_input row && included above row
 abbrev pub image_button_has_name : Document → NodeId → Option Verdict
 image_button_has_name = said_of_rows (has attribute.TypeAttr) is_image_button_target wants_name
 
+-- the targets of the rule
+abbrev pub image_button_has_name_target : Above → Row → Bool
+image_button_has_name_target above row = has attribute.TypeAttr row && is_image_button_target above row
+
 abbrev pub image_button_has_name_info : RuleInfo
 image_button_has_name_info = atomic 11 (codes "59796f") SelfOnly Sub

@@ -29,5 +29,9 @@ is_svg_image_target above row = is_svg_element row && (is_image_role (explicit r
 abbrev pub svg_image_has_name : Document → NodeId → Option Verdict
 svg_image_has_name = said_of_rows (has attribute.RoleAttr) is_svg_image_target wants_name
 
+-- the targets of the rule
+abbrev pub svg_image_has_name_target : Above → Row → Bool
+svg_image_has_name_target above row = has attribute.RoleAttr row && is_svg_image_target above row
+
 abbrev pub svg_image_has_name_info : RuleInfo
 svg_image_has_name_info = atomic 15 (codes "7d6734") SelfOnly Sub

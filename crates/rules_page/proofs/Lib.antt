@@ -3,3 +3,4 @@ pub mod Saturating
 pub mod Cutting
 pub mod Fragments
 pub mod Stopping
+pub mod Judged

@@ -30,7 +30,7 @@ use Rattle.rule_core.specs.Findings.{cant_tell, failed, verdict_of}
 use Rattle.rule_core.specs.Infos.{atomic}
 use Rattle.rules_page.specs.declared.bypass.Bypass.{Bypass}
 use Rattle.rules_page.specs.declared.bypass.Bypass.TheVariants as bypass
-use Rattle.rules_page.specs.Pages.{said_of_root}
+use Rattle.rules_page.specs.Pages.{is_page_root, said_of_root}
 
 -- ---- the nodes that count, each with its line; `t` is the whole page
 
@@ -154,11 +154,19 @@ trees_verdict b t = if has_stop (rows_of t) then Some (lines_verdict b (lines b 
 abbrev pub bypassed_by : Bypass → Document → NodeId → Option Verdict
 bypassed_by b page = said_of_root (λ root. trees_verdict b (seen page.trees)) page
 
+-- the root of this page, in which the Tab key stops somewhere
+abbrev pub bypassed_target : Trees → Row → Bool
+bypassed_target t row = is_page_root row && has_stop (rows_of t)
+
 -- ---- the four rules
 
 -- document has heading for non-repeated content
 abbrev pub has_heading : Document → NodeId → Option Verdict
 has_heading = bypassed_by bypass.Heading
+
+-- the targets of the rule, where this is the whole page
+abbrev pub has_heading_target : Trees → Above → Row → Bool
+has_heading_target t above row = bypassed_target t row
 
 abbrev pub has_heading_info : RuleInfo
 has_heading_info = atomic 26 (codes "047fe0") Whole Whole
@@ -167,6 +175,10 @@ has_heading_info = atomic 26 (codes "047fe0") Whole Whole
 abbrev pub has_landmark : Document → NodeId → Option Verdict
 has_landmark = bypassed_by bypass.Landmark
 
+-- the targets of the rule, where this is the whole page
+abbrev pub has_landmark_target : Trees → Above → Row → Bool
+has_landmark_target t above row = bypassed_target t row
+
 abbrev pub has_landmark_info : RuleInfo
 has_landmark_info = atomic 27 (codes "b40fd1") Whole Whole
 
@@ -174,12 +186,20 @@ has_landmark_info = atomic 27 (codes "b40fd1") Whole Whole
 abbrev pub has_skip_link : Document → NodeId → Option Verdict
 has_skip_link = bypassed_by bypass.SkipLink
 
+-- the targets of the rule, where this is the whole page
+abbrev pub has_skip_link_target : Trees → Above → Row → Bool
+has_skip_link_target t above row = bypassed_target t row
+
 abbrev pub has_skip_link_info : RuleInfo
 has_skip_link_info = atomic 28 (codes "ye5d6e") Whole Whole
 
 -- block of repeated content is collapsible
 abbrev pub has_collapse : Document → NodeId → Option Verdict
 has_collapse = bypassed_by bypass.Collapse
+
+-- the targets of the rule, where this is the whole page
+abbrev pub has_collapse_target : Trees → Above → Row → Bool
+has_collapse_target t above row = bypassed_target t row
 
 abbrev pub has_collapse_info : RuleInfo
 has_collapse_info = atomic 29 (codes "3e12e1") Whole Whole

@@ -1,7 +1,7 @@
 -- Whether the languages of parts of a page are known.
 use Rattle.std.specs.Prelude.{◌&&◌, not, ℕ, List, codes, Bool, false, if◌then◌else◌, Option, Some, None, option_and_then}
 use Rattle.std.specs.List.{list_any}
-use Rattle.std.specs.Option.{is_some}
+use Rattle.std.specs.Option.{option_map_or, is_some}
 use Rattle.snap_tree.specs.declared.row.Body.{Body}
 use Rattle.snap_tree.specs.declared.row.Body.TheVariants.{Element, Words}
 use Rattle.snap_tree.specs.declared.row.NodeId.{NodeId}
@@ -49,6 +49,10 @@ part_verdict s =
 -- element with lang attribute has valid language tag
 abbrev pub language_of_part_is_known : Document → NodeId → Option Verdict
 language_of_part_is_known = said_below (has attribute.Lang) part_verdict
+
+-- the targets of the rule
+abbrev pub language_of_part_is_known_target : Sight → Bool
+language_of_part_is_known_target s = option_map_or (is_part_target s) (attr attribute.Lang s.row) false
 
 abbrev pub language_of_part_is_known_info : RuleInfo
 language_of_part_is_known_info = atomic 5 (codes "de46e4") Sub Sub

@@ -1,5 +1,5 @@
 -- The title of a page, and what is expected of it.
-use Rattle.std.specs.Prelude.{ℕ, List, [], ◌++◌, if◌then◌else◌, codes, Option, Some, None, option_map}
+use Rattle.std.specs.Prelude.{◌&&◌, Bool, ℕ, List, [], ◌++◌, if◌then◌else◌, codes, Option, Some, None, option_map}
 use Rattle.std.specs.Option.{option_or}
 use Rattle.snap_tree.specs.declared.row.NodeId.{NodeId}
 use Rattle.snap_tree.specs.declared.row.Body.{Body}
@@ -15,8 +15,10 @@ use Rattle.rule_core.specs.declared.finding.Finding.{Finding}
 use Rattle.rule_core.specs.declared.verdict.Verdict.{Verdict}
 use Rattle.rule_core.specs.Infos.{atomic}
 use Rattle.rule_core.specs.Findings.{verdict_on}
-use Rattle.rules_page.specs.Pages.{said_of_root}
+use Rattle.rules_page.specs.Pages.{is_page_root, said_of_root}
 use Rattle.rules_page.specs.Filled.{filled}
+use Rattle.acc_tree.specs.declared.above.Above.{Above}
+use Rattle.snap_tree.specs.declared.row.Row.{Row}
 
 -- what is below the first HTML `title` in document order
 abbrev pub first_title : Trees → Option Trees
@@ -47,6 +49,10 @@ title_verdict title = verdict_on (title_finding title) title
 -- HTML page has non-empty title: the target is the root of a page, the evidence is the page title
 abbrev pub page_has_title : Document → NodeId → Option Verdict
 page_has_title page = said_of_root (λ root. Some (title_verdict (page_title (seen page.trees)))) page
+
+-- the targets of the rule
+abbrev pub page_has_title_target : Above → Row → Bool
+page_has_title_target above row = is_page_root row
 
 abbrev pub page_has_title_info : RuleInfo
 page_has_title_info = atomic 1 (codes "2779a5") SelfOnly Title

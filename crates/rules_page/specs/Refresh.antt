@@ -19,6 +19,7 @@ use Rattle.rule_core.specs.Findings.{met, failed, verdict_of}
 use Rattle.rule_core.specs.Infos.{atomic}
 use Rattle.rule_sights.specs.Nodes.{said_alone}
 use Rattle.rules_page.specs.Digits.{number_at_start}
+use Rattle.acc_tree.specs.declared.above.Above.{Above}
 
 -- ---- the content
 
@@ -81,6 +82,10 @@ refresh_verdict rows row =
 -- content
 abbrev pub page_has_no_delay : Document → NodeId → Option Verdict
 page_has_no_delay page = said_alone (refresh_verdict (rows_of (seen page.trees))) page
+
+-- the targets of the rule, among the rows of the page
+abbrev pub page_has_no_delay_target : List Row → Above → Row → Bool
+page_has_no_delay_target rows above row = is_number row.id (first_refresh rows) && refreshes row
 
 abbrev pub page_has_no_delay_info : RuleInfo
 page_has_no_delay_info = atomic 7 (codes "bc659a") Metas SelfOnly

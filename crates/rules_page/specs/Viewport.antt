@@ -21,6 +21,7 @@ use Rattle.rule_sights.specs.Nodes.{said_alone}
 use Rattle.rules_page.specs.declared.viewport.Limit.{Limit}
 use Rattle.rules_page.specs.declared.viewport.Limit.TheVariants as limit
 use Rattle.rules_page.specs.Digits.{digit, GREATEST}
+use Rattle.acc_tree.specs.declared.above.Above.{Above}
 
 -- ---- cutting at a byte
 
@@ -130,6 +131,14 @@ viewport_verdict row = if is_viewport row then option_and_then content_verdict (
 -- meta viewport allows for zoom: the evidence is the content
 abbrev pub viewport_allows_zoom : Document → NodeId → Option Verdict
 viewport_allows_zoom = said_alone viewport_verdict
+
+-- the content has one of the two keys
+abbrev pub has_limits : List ℕ → Bool
+has_limits content = is_some (content_limits limit.UserScalable content) || is_some (content_limits limit.MaximumScale content)
+
+-- the targets of the rule
+abbrev pub viewport_allows_zoom_target : Above → Row → Bool
+viewport_allows_zoom_target above row = is_viewport row && option_map_or has_limits (attr attribute.Content row) false
 
 abbrev pub viewport_allows_zoom_info : RuleInfo
 viewport_allows_zoom_info = atomic 6 (codes "b4f0c3") SelfOnly SelfOnly

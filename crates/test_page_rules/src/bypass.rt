@@ -38,6 +38,13 @@ static BARE: [Node<'static>; 7] = [
     Html(1, "button", &[("aria-expanded", "true")]),
 ];
 
+// A page on which the Tab key stops, with one landmark alone.
+static LANDMARK: [Node<'static>; 3] = [
+    HTML,
+    Html(1, "main", &[("title", "Start")]),
+    Stop(2, "button", &[]),
+];
+
 // A page on which the Tab key stops nowhere.
 static STILL: [Node<'static>; 3] = [HTML, Html(1, "h1", &[]), Words(2, "One")];
 
@@ -94,6 +101,16 @@ fn a_page_with_nothing_that_counts_fails(rt: HostRuntime) -> Result<(), Fail> {
             Some((Failed, NoCollapse, ""))
         )?
     );
+    Ok(())
+}
+
+#[test]
+fn a_landmark_alone_is_no_heading(rt: HostRuntime) -> Result<(), Fail> {
+    let alloc = rt.alloc();
+    let no_heading: Told = Some((Failed, NoHeading, ""));
+    let landmark: Told = Some((CantTell, JudgeLandmark, "main Start"));
+    assert!(rt; tells(alloc, &HasHeadingToStart, &LANDMARK, 1, no_heading)?);
+    assert!(rt; tells(alloc, &HasLandmark, &LANDMARK, 1, landmark)?);
     Ok(())
 }
 

@@ -1,0 +1,143 @@
+-- Each rule on a page as a whole has a verdict exactly where the node is a target.
+use Rattle.std.proofs.Common.{◌≡◌, ◌&&◌, ◌||◌, not, ℕ, List, [], ◌∷◌, Bool, true, false, cond, Option, Some, None, option_map, option_and_then, refl, ap, ◌∙◌}
+use Rattle.std.specs.Option.{is_some, option_map_or}
+use Rattle.snap_tree.specs.declared.row.NodeId.{NodeId}
+use Rattle.snap_tree.specs.declared.row.Row.{Row}
+use Rattle.snap_tree.specs.Trees.{Trees, Document, rows_of}
+use Rattle.snap_tree.specs.Words.{blank}
+use Rattle.acc_tree.specs.declared.above.Above.{Above}
+use Rattle.acc_tree.specs.declared.attributes.Attribute.TheVariants as attribute
+use Rattle.acc_tree.specs.Frames.{nothing_above}
+use Rattle.acc_tree.specs.Seen.{seen, attr, has}
+use Rattle.acc_tree.specs.Sights.{Sight, sight_of}
+use Rattle.rule_core.specs.declared.verdict.Verdict.{Verdict}
+use Rattle.rule_core.specs.Findings.{verdict_of}
+use Rattle.rule_sights.specs.Targets.{is_target, JudgesRows, JudgesSights}
+use Rattle.rule_sights.proofs.Judging.{verdict_if, verdict_of_some, there_and, judged_below, judged_alone}
+use Rattle.rules_page.specs.declared.bypass.Bypass.{Bypass}
+use Rattle.rules_page.specs.declared.bypass.Bypass.TheVariants as bypass
+use Rattle.rules_page.specs.declared.viewport.Limit.TheVariants as limit
+use Rattle.rules_page.specs.Bypass.{bypassed_by, bypassed_target, has_stop, lines, lines_verdict, trees_verdict, has_heading, has_heading_target, has_landmark, has_landmark_target, has_skip_link, has_skip_link_target, has_collapse, has_collapse_target}
+use Rattle.rules_page.specs.Language.{lang_verdict, page_has_lang, page_has_lang_target}
+use Rattle.rules_page.specs.LanguageKnown.{unless_blank, language_verdict, language_is_known, language_is_known_target}
+use Rattle.rules_page.specs.LanguageOfParts.{is_part_target, part_verdict, language_of_part_is_known, language_of_part_is_known_target}
+use Rattle.rules_page.specs.Languages.{tag_verdict}
+use Rattle.rules_page.specs.Pages.{is_page_root, if_root, said_of_root}
+use Rattle.rules_page.specs.PageTitle.{page_title, title_verdict, page_has_title, page_has_title_target}
+use Rattle.rules_page.specs.Refresh.{is_number, asks_to_refresh, first_refresh, refresh_time, refresh_verdict, refreshes, seconds, time_verdict, page_has_no_delay, page_has_no_delay_target}
+use Rattle.rules_page.specs.TitleDescriptive.{asks_a_person, title_is_descriptive, title_is_descriptive_target}
+use Rattle.rules_page.specs.Viewport.{content_limits, content_verdict, has_limits, is_viewport, viewport_verdict, zoom_verdict, viewport_allows_zoom, viewport_allows_zoom_target}
+
+-- ---- the root of a page
+
+root_chosen : (b : Bool) (row : Row) (says : Row → Option Verdict) → is_some (option_and_then says (cond b (Some row) None)) ≡ b && is_some (says row)
+root_chosen true row says = refl
+root_chosen false row says = refl
+
+root_at : (says : Row → Option Verdict) (target : Row → Bool) → ((row : Row) → is_page_root row && is_some (says row) ≡ target row) → (o : Option Sight)
+    → is_some (option_and_then says (option_and_then if_root (option_map (λ s. s.row) o))) ≡ option_map_or (λ s. target s.row) o false
+root_at says target told None = refl
+root_at says target told (Some s) = root_chosen (is_page_root s.row) s.row says ∙ told s.row
+
+judged_root : (says : Row → Option Verdict) (target : Row → Bool) → ((row : Row) → is_page_root row && is_some (says row) ≡ target row)
+    → (page : Document) (n : NodeId) → JudgesRows (said_of_root says) (λ above row. target row) page n
+judged_root says target told page n = root_at says target told (sight_of (seen page.trees) n)
+
+and_true : (b : Bool) → b && true ≡ b
+and_true true = refl
+and_true false = refl
+
+-- ---- title and language
+
+pub titles : (page : Document) (n : NodeId) → JudgesRows page_has_title page_has_title_target page n
+titles page n = judged_root (λ root. Some (title_verdict (page_title (seen page.trees)))) is_page_root (λ row. and_true (is_page_root row)) page n
+
+unless : (b : Bool) (v : Verdict) → is_some (cond b None (Some v)) ≡ not b
+unless true v = refl
+unless false v = refl
+
+title_told : (address : List ℕ) (title : Option (List ℕ)) → is_some (option_and_then (asks_a_person address) title) ≡ option_map_or (λ text. not (blank text)) title false
+title_told address None = refl
+title_told address (Some text) = unless (blank text) _
+
+pub descriptive : (page : Document) (n : NodeId) → JudgesRows title_is_descriptive (title_is_descriptive_target (page_title (seen page.trees))) page n
+descriptive page n =
+    judged_root (λ root. option_and_then (asks_a_person page.address) (page_title (seen page.trees))) (λ row. is_page_root row && option_map_or (λ text. not (blank text)) (page_title (seen page.trees)) false)
+    (λ row. ap (λ b. is_page_root row && b) (title_told page.address (page_title (seen page.trees)))) page n
+
+pub languages : (page : Document) (n : NodeId) → JudgesRows page_has_lang page_has_lang_target page n
+languages page n = judged_root (λ root. Some (lang_verdict (attr attribute.Lang root))) is_page_root (λ row. and_true (is_page_root row)) page n
+
+lang_told : (lang : Option (List ℕ)) → is_some (option_and_then unless_blank lang) ≡ option_map_or (λ text. not (blank text)) lang false
+lang_told None = refl
+lang_told (Some text) = unless (blank text) (tag_verdict text)
+
+pub known : (page : Document) (n : NodeId) → JudgesRows language_is_known language_is_known_target page n
+known page n =
+    judged_root language_verdict (λ row. is_page_root row && option_map_or (λ lang. not (blank lang)) (attr attribute.Lang row) false)
+    (λ row. ap (λ b. is_page_root row && b) (lang_told (attr attribute.Lang row))) page n
+
+part_told : (s : Sight) → has attribute.Lang s.row && is_some (part_verdict s) ≡ language_of_part_is_known_target s
+part_told s =
+    ap (λ b. has attribute.Lang s.row && b) (verdict_of_some (attr attribute.Lang s.row) (is_part_target s) tag_verdict)
+    ∙ there_and (attr attribute.Lang s.row) (is_part_target s)
+
+pub parts : (page : Document) (n : NodeId) → JudgesSights language_of_part_is_known language_of_part_is_known_target page n
+parts page n = judged_below (has attribute.Lang) part_verdict language_of_part_is_known_target part_told page n
+
+-- ---- zooming and refreshing
+
+zoom_told : (content : List ℕ) (a b : Option Bool) → is_some (zoom_verdict content a b) ≡ is_some a || is_some b
+zoom_told content None None = refl
+zoom_told content None (Some b) = refl
+zoom_told content (Some a) None = refl
+zoom_told content (Some a) (Some b) = refl
+
+content_told : (content : Option (List ℕ)) → is_some (option_and_then content_verdict content) ≡ option_map_or has_limits content false
+content_told None = refl
+content_told (Some text) = zoom_told text (content_limits limit.UserScalable text) (content_limits limit.MaximumScale text)
+
+said_if : (b : Bool) (o : Option Verdict) → is_some (cond b o None) ≡ b && is_some o
+said_if true o = refl
+said_if false o = refl
+
+pub viewports : (page : Document) (n : NodeId) → JudgesRows viewport_allows_zoom viewport_allows_zoom_target page n
+viewports page n =
+    judged_alone viewport_verdict (λ row. is_viewport row && option_map_or has_limits (attr attribute.Content row) false)
+    (λ row. said_if (is_viewport row) (option_and_then content_verdict (attr attribute.Content row)) ∙ ap (λ b. is_viewport row && b) (content_told (attr attribute.Content row))) page n
+
+-- a time is read of a content, which is there
+time_told : (asks : Bool) (content : Option (List ℕ)) → is_some (option_and_then (time_verdict content) (cond asks (option_and_then seconds content) None)) ≡ is_some (cond asks (option_and_then seconds content) None)
+time_told false content = refl
+time_told true None = refl
+time_told true (Some text) = by_time (seconds text)
+  where
+    by_time : (o : Option ℕ) → is_some (option_and_then (time_verdict (Some text)) o) ≡ is_some o
+    by_time None = refl
+    by_time (Some time) = refl
+
+pub refreshing : (page : Document) (n : NodeId) → JudgesRows page_has_no_delay (page_has_no_delay_target (rows_of (seen page.trees))) page n
+refreshing page n =
+    judged_alone (refresh_verdict (rows_of (seen page.trees))) (λ row. is_number row.id (first_refresh (rows_of (seen page.trees))) && refreshes row)
+    (λ row. said_if (is_number row.id (first_refresh (rows_of (seen page.trees)))) (option_and_then (time_verdict (attr attribute.Content row)) (refresh_time row))
+    ∙ ap (λ b. is_number row.id (first_refresh (rows_of (seen page.trees))) && b) (time_told (asks_to_refresh row) (attr attribute.Content row))) page n
+
+-- ---- bypassing
+
+bypass_told : (b : Bypass) (t : Trees) (row : Row) → is_page_root row && is_some (trees_verdict b t) ≡ bypassed_target t row
+bypass_told b t row = ap (λ c. is_page_root row && c) (verdict_if (has_stop (rows_of t)) (lines_verdict b (lines b t nothing_above t)))
+
+bypassing : (b : Bypass) (page : Document) (n : NodeId) → JudgesRows (bypassed_by b) (λ above row. bypassed_target (seen page.trees) row) page n
+bypassing b page n = judged_root (λ root. trees_verdict b (seen page.trees)) (bypassed_target (seen page.trees)) (bypass_told b (seen page.trees)) page n
+
+pub headings : (page : Document) (n : NodeId) → JudgesRows has_heading (has_heading_target (seen page.trees)) page n
+headings page n = bypassing bypass.Heading page n
+
+pub landmarks : (page : Document) (n : NodeId) → JudgesRows has_landmark (has_landmark_target (seen page.trees)) page n
+landmarks page n = bypassing bypass.Landmark page n
+
+pub skip_links : (page : Document) (n : NodeId) → JudgesRows has_skip_link (has_skip_link_target (seen page.trees)) page n
+skip_links page n = bypassing bypass.SkipLink page n
+
+pub collapses : (page : Document) (n : NodeId) → JudgesRows has_collapse (has_collapse_target (seen page.trees)) page n
+collapses page n = bypassing bypass.Collapse page n
