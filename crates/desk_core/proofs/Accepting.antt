@@ -1,5 +1,5 @@
 -- What is decided on a request that isn't refused has a reply that is no refusal.
-use Rattle.std.proofs.Common.{ℕ, ◌+◌, ◌==◌, List, length, Bool, true, false, not, nat_le, Option, Some, None, Result, Ok, Err, subst}
+use Rattle.std.proofs.Common.{ℕ, ◌+◌, ◌==◌, List, length, Bool, true, false, not, Option, Some, None, Result, Ok, Err, subst}
 use Rattle.std.specs.Option.{option_map_or}
 use Rattle.std.specs.Str.{bytes_eq}
 use Rattle.snap_tree.specs.declared.row.Raw.{Raw}
@@ -14,7 +14,6 @@ use Rattle.snap_edit.specs.Edits.{edited_all}
 use Rattle.judge_core.specs.Books.{Book}
 use Rattle.keep_core.specs.declared.member.MemberRole.{MemberRole}
 use Rattle.keep_core.specs.declared.site.Site.{Site}
-use Rattle.desk_core.specs.declared.limits.TheConstants.{MOST_PAGES}
 use Rattle.desk_core.specs.declared.decided.Decided.{Decided}
 use Rattle.desk_core.specs.declared.refusal.Needed.TheVariants as needed
 use Rattle.desk_core.specs.declared.refusal.Limit.TheVariants as limit
@@ -23,7 +22,7 @@ use Rattle.desk_core.specs.declared.refusal.Refusal.TheVariants as refusal
 use Rattle.desk_core.specs.Refusals.{Decision, unless, unless_refused}
 use Rattle.desk_core.specs.State.{PageState, SiteState}
 use Rattle.desk_core.specs.Members.{put_site, put_member}
-use Rattle.desk_core.specs.Pages.{rev_of, judged, has_room, has_revisions, renewed, built, put_page, edited, edit_page, drop_page}
+use Rattle.desk_core.specs.Pages.{rev_of, judged, has_room, has_room_for, has_revisions, renewed, built, put_page, edited, edit_page, drop_page}
 use Rattle.desk_core.specs.Imports.{first_fault}
 use Rattle.desk_core.specs.declared.placed.Placed.{Placed}
 use Rattle.desk_core.specs.Placing.{entries_of, new_among, stale_among, import_placed}
@@ -77,7 +76,7 @@ drop_page_accepts site page rev kept = unless_accepts (rev == kept.page.head.rev
 
 pub import_placed_accepts : (book : Book) (site caller : List ℕ) (counter pages : ℕ) (all : List Placed) → Accepts (import_placed book site caller counter pages all)
 import_placed_accepts book site caller counter pages all =
-    unless_accepts (nat_le (pages + new_among all) MOST_PAGES) (refusal.PageLimit limit.Pages) _ (
+    unless_accepts (has_room_for (new_among all) pages) (refusal.PageLimit limit.Pages) _ (
     unless_accepts (has_revisions counter (length all)) (refusal.PageLimit limit.Revisions) _ (
     unless_refused_accepts (stale_among all) _ (
     unless_refused_accepts (first_fault (entries_of all)) _ tt)))

@@ -1,6 +1,6 @@
 -- What holds of the change that is decided, where a request isn't refused: one lemma for each way in which decisions are put
 -- together, and one for each command.
-use Rattle.std.proofs.Common.{◌≡◌, ℕ, ◌+◌, ◌==◌, List, [], ◌∷◌, ◌++◌, length, Bool, true, false, not, Option, Some, None, Result, Ok, Err, nat_le, refl, subst}
+use Rattle.std.proofs.Common.{◌≡◌, ℕ, ◌+◌, ◌==◌, List, [], ◌∷◌, ◌++◌, length, Bool, true, false, not, Option, Some, None, Result, Ok, Err, refl, subst}
 use Rattle.std.specs.Option.{option_map_or}
 use Rattle.std.specs.Str.{bytes_eq}
 use Rattle.snap_tree.specs.declared.row.NodeId.{NodeId}
@@ -26,7 +26,6 @@ use Rattle.keep_core.specs.declared.member.MemberRole.{MemberRole}
 use Rattle.keep_core.specs.declared.site.Site.{Site}
 use Rattle.keep_core.specs.declared.change.Change.{Change}
 use Rattle.keep_core.specs.declared.change.Change.TheVariants.{PutSite, PutPages, DropPage, AddJudgement}
-use Rattle.desk_core.specs.declared.limits.TheConstants.{MOST_PAGES}
 use Rattle.desk_core.specs.declared.command.Entry.{Entry}
 use Rattle.desk_core.specs.declared.decided.Decided.{Decided}
 use Rattle.desk_core.specs.declared.refusal.Needed.{Needed}
@@ -38,7 +37,7 @@ use Rattle.desk_core.specs.Refusals.{Decision, unless, on, unless_refused}
 use Rattle.desk_core.specs.State.{PageState, SiteState, page_at}
 use Rattle.desk_core.specs.Rights.{may, role_of, allowed, entering, on_page}
 use Rattle.desk_core.specs.Members.{new_site, site_with, members_with, put_site, put_member}
-use Rattle.desk_core.specs.Pages.{rev_of, judged, has_room, has_revisions, page_put, renewed, built, put_page, edited, edit_page, drop_page}
+use Rattle.desk_core.specs.Pages.{rev_of, judged, has_room, has_room_for, has_revisions, page_put, renewed, built, put_page, edited, edit_page, drop_page}
 use Rattle.desk_core.specs.Imports.{new_pages, first_stale, first_fault, puts, import}
 use Rattle.desk_core.specs.Judging.{is_latest, added, judge}
 
@@ -120,12 +119,12 @@ module _ (P : Option Change → Type 0) where
   drop_page_brings site page rev kept brings = unless_brings (rev == rev_of (Some kept)) (refusal.StaleRevision (rev_of (Some kept)) None) _ brings
 
   pub import_brings : (book : Book) (site caller : List ℕ) (entries : List Entry) (s : SiteState)
-      → (nat_le (length s.pages + new_pages s.pages entries) MOST_PAGES ≡ true → has_revisions s.site.counter (length entries) ≡ true
+      → (has_room_for (new_pages s.pages entries) (length s.pages) ≡ true → has_revisions s.site.counter (length entries) ≡ true
       → first_stale s.pages entries ≡ None → first_fault entries ≡ None
       → P (Some (PutPages site (s.site.counter + length entries) (puts book caller s.pages s.site.counter entries))))
       → Brings P (import book site caller entries s)
   import_brings book site caller entries s brings =
-      unless_brings (nat_le (length s.pages + new_pages s.pages entries) MOST_PAGES) (refusal.PageLimit limit.Pages) _ (λ room.
+      unless_brings (has_room_for (new_pages s.pages entries) (length s.pages)) (refusal.PageLimit limit.Pages) _ (λ room.
       unless_brings (has_revisions s.site.counter (length entries)) (refusal.PageLimit limit.Revisions) _ (λ more.
       unless_refused_brings (first_stale s.pages entries) _ (λ fresh.
       unless_refused_brings (first_fault entries) _ (λ well. brings room more fresh well))))

@@ -1,5 +1,5 @@
 -- What an import decides fits, where the request does.
-use Rattle.std.proofs.Common.{◌≡◌, ℕ, ◌+◌, ◌≤◌, List, [], ◌∷◌, length, map, nat_le, IsTrue, arith}
+use Rattle.std.proofs.Common.{◌≡◌, ℕ, ◌+◌, ◌≤◌, List, [], ◌∷◌, length, map, IsTrue, arith}
 use Rattle.std.specs.List.{All, AllPairs}
 use Rattle.std.proofs.lemmas.List.Elements.{All-nil, All-cons, All-head, All-tail}
 use Rattle.std.proofs.lemmas.List.Kept.{AllPairs-cons}
@@ -7,13 +7,12 @@ use Rattle.judge_core.specs.Books.{Book}
 use Rattle.keep_core.specs.declared.page.PagePut.{PagePut}
 use Rattle.keep_core.specs.Names.{is_name}
 use Rattle.keep_core.specs.declared.limits.TheConstants.{MOST_REVISION}
-use Rattle.desk_core.specs.declared.limits.TheConstants.{MOST_PAGES}
 use Rattle.desk_core.specs.declared.command.Entry.{Entry}
 use Rattle.desk_core.specs.declared.placed.Placed.{Placed}
 use Rattle.desk_core.specs.declared.refusal.Limit.TheVariants as limit
 use Rattle.desk_core.specs.declared.refusal.Refusal.TheVariants as refusal
 use Rattle.desk_core.specs.Refusals.{Decision, unless, unless_refused}
-use Rattle.desk_core.specs.Pages.{has_revisions}
+use Rattle.desk_core.specs.Pages.{has_room_for, has_revisions}
 use Rattle.desk_core.specs.Imports.{first_fault}
 use Rattle.desk_core.specs.Fitting.{FitsEntry, FitsEntries}
 use Rattle.desk_core.specs.Placing.{entries_of, new_among, stale_among, heads_from, work_of, puts_by, storing_all, import_placed}
@@ -55,7 +54,7 @@ module _ (book : Book) (caller : List ℕ) where
       let whole : Decision = unless_refused (first_fault (entries_of all)) put in
       let fresh : Decision = unless_refused (stale_among all) whole in
       let given : Decision = unless (has_revisions counter (length all)) (refusal.PageLimit limit.Revisions) fresh in
-      unless_brings IfAnyFits (nat_le (pages + new_among all) MOST_PAGES) (refusal.PageLimit limit.Pages) given (λ room.
+      unless_brings IfAnyFits (has_room_for (new_among all) pages) (refusal.PageLimit limit.Pages) given (λ room.
       unless_brings IfAnyFits (has_revisions counter (length all)) (refusal.PageLimit limit.Revisions) fresh (λ more.
       unless_refused_brings IfAnyFits (stale_among all) whole (λ _.
       unless_refused_brings IfAnyFits (first_fault (entries_of all)) put (λ _.

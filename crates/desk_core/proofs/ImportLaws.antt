@@ -1,5 +1,5 @@
 -- An import as it is carried out is the one that is decided.
-use Rattle.std.proofs.Common.{◌≡◌, ℕ, ◌+◌, ◌==◌, List, [], ◌∷◌, ◌++◌, length, map, Bool, true, false, not, if◌then◌else◌, nat_le, Option, Some, None, is_none, cond, option_map, Result, Ok, Err, sum_by, refl, sym, ap, ◌∙◌, subst, ◌≤◌, arith}
+use Rattle.std.proofs.Common.{◌≡◌, ℕ, ◌+◌, ◌==◌, List, [], ◌∷◌, ◌++◌, length, map, Bool, true, false, not, if◌then◌else◌, Option, Some, None, is_none, cond, option_map, Result, Ok, Err, sum_by, refl, sym, ap, ◌∙◌, subst, ◌≤◌, arith}
 use Rattle.std.proofs.lemmas.List.{length-map, map-append}
 use Rattle.std.proofs.lemmas.List.Sums.{sum_by-cons}
 use Rattle.std.specs.Option.{option_map_or, option_or}
@@ -23,7 +23,6 @@ use Rattle.keep_core.specs.declared.tables.KeptPage.{KeptPage}
 use Rattle.keep_core.specs.Tables.{Tables, page_name, pages_of, heads_of}
 use Rattle.desk_core.specs.declared.command.Entry.{Entry}
 use Rattle.desk_core.specs.declared.decided.Decided.{Decided}
-use Rattle.desk_core.specs.declared.limits.TheConstants.{MOST_PAGES}
 use Rattle.desk_core.specs.declared.placed.Placed.{Placed}
 use Rattle.desk_core.specs.declared.refusal.Limit.TheVariants as limit
 use Rattle.desk_core.specs.declared.refusal.Refusal.{Refusal}
@@ -32,7 +31,7 @@ use Rattle.desk_core.specs.declared.reply.Stored.{Stored}
 use Rattle.desk_core.specs.declared.reply.Reply.TheVariants as reply
 use Rattle.desk_core.specs.Refusals.{Decision, unless, unless_refused}
 use Rattle.desk_core.specs.State.{PageState, SiteState, page_state, page_at}
-use Rattle.desk_core.specs.Pages.{judged, rev_of, has_revisions, built, page_put, stored}
+use Rattle.desk_core.specs.Pages.{judged, rev_of, has_room_for, has_revisions, built, page_put, stored}
 use Rattle.desk_core.specs.Imports.{new_pages, first_stale, first_fault, puts, import}
 use Rattle.desk_core.specs.Costs.{import_judgings}
 use Rattle.desk_core.specs.Placing.{placed, head_name, current_in, read_place, entries_of, new_among, current_of, is_stale, stale_of, stale_among, heads_from, work_of, put_of, puts_by, storing_all, import_placed, PlacesSome, Places}
@@ -150,15 +149,15 @@ import_is book site caller entries s =
     let counter = s.site.counter in
     let many : length entries ≡ length all = sym (length-map entries (placed s.pages)) in
     let made = puts_by book (heads_from caller counter all) (map work_of all) in
-    ap (λ n. if_allowed (nat_le (length s.pages + n) MOST_PAGES) (has_revisions counter (length entries)) (first_stale s.pages entries) (first_fault entries)
+    ap (λ n. if_allowed (has_room_for n (length s.pages)) (has_revisions counter (length entries)) (first_stale s.pages entries) (first_fault entries)
     (storing_all book site (counter + length entries) (puts book caller s.pages counter entries))) (sym (new_placed s.pages entries))
-    ∙ (ap (λ n. if_allowed (nat_le (length s.pages + new_among all) MOST_PAGES) (has_revisions counter n) (first_stale s.pages entries) (first_fault entries)
+    ∙ (ap (λ n. if_allowed (has_room_for (new_among all) (length s.pages)) (has_revisions counter n) (first_stale s.pages entries) (first_fault entries)
     (storing_all book site (counter + n) (puts book caller s.pages counter entries))) many
-    ∙ (ap (λ (r : Option Refusal). if_allowed (nat_le (length s.pages + new_among all) MOST_PAGES) (has_revisions counter (length all)) r (first_fault entries)
+    ∙ (ap (λ (r : Option Refusal). if_allowed (has_room_for (new_among all) (length s.pages)) (has_revisions counter (length all)) r (first_fault entries)
     (storing_all book site (counter + length all) (puts book caller s.pages counter entries))) (sym (stale_placed s.pages entries))
-    ∙ (ap (λ (es : List Entry). if_allowed (nat_le (length s.pages + new_among all) MOST_PAGES) (has_revisions counter (length all)) (stale_among all) (first_fault es)
+    ∙ (ap (λ (es : List Entry). if_allowed (has_room_for (new_among all) (length s.pages)) (has_revisions counter (length all)) (stale_among all) (first_fault es)
     (storing_all book site (counter + length all) (puts book caller s.pages counter entries))) (sym (entries_placed s.pages entries))
-    ∙ ap (λ (ps : List PagePut). if_allowed (nat_le (length s.pages + new_among all) MOST_PAGES) (has_revisions counter (length all)) (stale_among all) (first_fault (entries_of all))
+    ∙ ap (λ (ps : List PagePut). if_allowed (has_room_for (new_among all) (length s.pages)) (has_revisions counter (length all)) (stale_among all) (first_fault (entries_of all))
     (storing_all book site (counter + length all) ps)) (sym (puts_placed s.pages book caller counter entries)))))
 
 module _ (book : Book) (site caller : List ℕ) (counter pages : ℕ) (all : List Placed) where
@@ -166,7 +165,7 @@ module _ (book : Book) (site caller : List ℕ) (counter pages : ℕ) (all : Lis
   next_placed = storing_all book site (counter + length all) (puts_by book (heads_from caller counter all) (map work_of all))
 
   -- what is carried out where neither limit stands against it
-  within : nat_le (pages + new_among all) MOST_PAGES ≡ true → has_revisions counter (length all) ≡ true
+  within : has_room_for (new_among all) pages ≡ true → has_revisions counter (length all) ≡ true
       → import_placed book site caller counter pages all ≡ unless_refused (stale_among all) (unless_refused (first_fault (entries_of all)) next_placed)
   unfolding next_placed
   within room more =
@@ -174,13 +173,13 @@ module _ (book : Book) (site caller : List ℕ) (counter pages : ℕ) (all : Lis
       ap (λ b. unless b (refusal.PageLimit limit.Pages) (unless (has_revisions counter (length all)) (refusal.PageLimit limit.Revisions) next)) room
       ∙ ap (λ b. unless b (refusal.PageLimit limit.Revisions) next) more
 
-  pub no_room : nat_le (pages + new_among all) MOST_PAGES ≡ false → import_placed book site caller counter pages all ≡ Err (refusal.PageLimit limit.Pages)
+  pub no_room : has_room_for (new_among all) pages ≡ false → import_placed book site caller counter pages all ≡ Err (refusal.PageLimit limit.Pages)
   unfolding next_placed
   no_room isnt =
       let next = unless_refused (stale_among all) (unless_refused (first_fault (entries_of all)) next_placed) in
       ap (λ b. unless b (refusal.PageLimit limit.Pages) (unless (has_revisions counter (length all)) (refusal.PageLimit limit.Revisions) next)) isnt
 
-  pub no_revisions : nat_le (pages + new_among all) MOST_PAGES ≡ true → has_revisions counter (length all) ≡ false
+  pub no_revisions : has_room_for (new_among all) pages ≡ true → has_revisions counter (length all) ≡ false
       → import_placed book site caller counter pages all ≡ Err (refusal.PageLimit limit.Revisions)
   unfolding next_placed
   no_revisions room isnt =
@@ -188,36 +187,36 @@ module _ (book : Book) (site caller : List ℕ) (counter pages : ℕ) (all : Lis
       ap (λ b. unless b (refusal.PageLimit limit.Pages) (unless (has_revisions counter (length all)) (refusal.PageLimit limit.Revisions) next)) room
       ∙ ap (λ b. unless b (refusal.PageLimit limit.Revisions) next) isnt
 
-  pub to_stale : nat_le (pages + new_among all) MOST_PAGES ≡ true → has_revisions counter (length all) ≡ true
+  pub to_stale : has_room_for (new_among all) pages ≡ true → has_revisions counter (length all) ≡ true
       → import_placed book site caller counter pages all
       ≡ unless_refused (stale_among all) (unless_refused (first_fault (entries_of all)) (storing_all book site (counter + length all) (puts_by book (heads_from caller counter all) (map work_of all))))
   unfolding next_placed
   to_stale room more = within room more
 
-  pub to_fault : nat_le (pages + new_among all) MOST_PAGES ≡ true → has_revisions counter (length all) ≡ true → stale_among all ≡ None
+  pub to_fault : has_room_for (new_among all) pages ≡ true → has_revisions counter (length all) ≡ true → stale_among all ≡ None
       → import_placed book site caller counter pages all
       ≡ unless_refused (first_fault (entries_of all)) (storing_all book site (counter + length all) (puts_by book (heads_from caller counter all) (map work_of all)))
   unfolding next_placed
   to_fault room more fresh =
       within room more ∙ ap (λ (r : Option Refusal). unless_refused r (unless_refused (first_fault (entries_of all)) next_placed)) fresh
 
-  pub to_puts : nat_le (pages + new_among all) MOST_PAGES ≡ true → has_revisions counter (length all) ≡ true → stale_among all ≡ None → first_fault (entries_of all) ≡ None
+  pub to_puts : has_room_for (new_among all) pages ≡ true → has_revisions counter (length all) ≡ true → stale_among all ≡ None → first_fault (entries_of all) ≡ None
       → import_placed book site caller counter pages all ≡ storing_all book site (counter + length all) (puts_by book (heads_from caller counter all) (map work_of all))
   unfolding next_placed
   to_puts room more fresh whole = to_fault room more fresh ∙ ap (λ (r : Option Refusal). unless_refused r next_placed) whole
 
 module _ (book : Book) (site caller : List ℕ) (counter pages : ℕ) (all : List Placed) where
-  pub refused_stale : (r : Refusal) → nat_le (pages + new_among all) MOST_PAGES ≡ true → has_revisions counter (length all) ≡ true
+  pub refused_stale : (r : Refusal) → has_room_for (new_among all) pages ≡ true → has_revisions counter (length all) ≡ true
       → ((next : Decision) → Stands ⊥ r (unless_refused (stale_among all) next)) → Stands ⊥ r (import_placed book site caller counter pages all)
   refused_stale r room more refused = subst (Stands ⊥ r) (sym (to_stale book site caller counter pages all room more)) (refused _)
 
-  pub refused_fault : (r : Refusal) → nat_le (pages + new_among all) MOST_PAGES ≡ true → has_revisions counter (length all) ≡ true → stale_among all ≡ None
+  pub refused_fault : (r : Refusal) → has_room_for (new_among all) pages ≡ true → has_revisions counter (length all) ≡ true → stale_among all ≡ None
       → ((next : Decision) → Stands ⊥ r (unless_refused (first_fault (entries_of all)) next)) → Stands ⊥ r (import_placed book site caller counter pages all)
   refused_fault r room more fresh refused = subst (Stands ⊥ r) (sym (to_fault book site caller counter pages all room more fresh)) (refused _)
 
   -- pages that are stored are those that are decided
   pub agrees_there : (result : Result Decided Refusal) (upto : ℕ) (heads : List PageHead) (works : List PageWork)
-      → nat_le (pages + new_among all) MOST_PAGES ≡ true → has_revisions counter (length all) ≡ true → stale_among all ≡ None → first_fault (entries_of all) ≡ None
+      → has_room_for (new_among all) pages ≡ true → has_revisions counter (length all) ≡ true → stale_among all ≡ None → first_fault (entries_of all) ≡ None
       → upto ≡ counter + length all → heads ≡ heads_from caller counter all → works ≡ map work_of all
       → Agrees ⊥ result (storing_all book site upto (puts_by book heads works)) → Agrees ⊥ result (import_placed book site caller counter pages all)
   agrees_there result upto heads works room more fresh whole last first second agrees =

@@ -37,7 +37,7 @@ use Rattle.desk_core.proofs.Deciding.{Brings, brought, put_member_brings, put_pa
 use Rattle.desk_core.proofs.Fitted.{IfAnyFits, put_site_fits, put_member_fits, put_page_fits, edit_page_fits, drop_page_fits, judge_fits, import_fits}
 use Rattle.desk_core.proofs.Kept.{IfAnyIsThere, decided_is_there, entering_kept, on_page_kept, new_site_kept, page_read, site_read}
 use Rattle.desk_core.proofs.Edited.{edits_well}
-use Rattle.desk_core.proofs.SoundPages.{one_put, put_page_sound, puts_sound, one_few, import_few}
+use Rattle.desk_core.proofs.SoundPages.{one_put, put_page_sound, puts_sound, room_there, one_few, import_few}
 use Rattle.desk_core.proofs.Sound.{some_has, pages_sound, kept_sound, new_site_sound, member_sound, pages_put_sound, drop_sound, judged_sound}
 
 -- ---- what is decided fits
@@ -125,7 +125,8 @@ module _ (book : Book) (t : Tables) (sound : IsSound book t) where
   edit_keeps site caller page tree k p is found well =
       let there : kept_page page k ≡ Some (page_state p) = page_seen page k.pages ∙ ap (option_map page_state) found in
       subst (λ js. PutKeeps site k (next_put caller page tree k js)) (ap judged there)
-      (put_keeps site caller page tree k is well (ap (λ o. has_room o (length (map page_state k.pages))) there))
+      (put_keeps site caller page tree k is well
+      (ap (λ o. has_room o (length (map page_state k.pages))) there ∙ room_there (length (map page_state k.pages)) k.pages (length-map k.pages page_state) (kept_sound book t sound site k is).few))
 
   keeps_by : (caller : List ℕ) (c : Command) → IsTrue (is_name caller) → IsTrue (is_name (site_of c)) → FitsParts book c
       → Brings Owes (decision book caller c (site_at (site_of c) (state_of t)))

@@ -31,7 +31,7 @@ use Rattle.desk_core.specs.Refusals.{Decision, unless, on, unless_refused}
 use Rattle.desk_core.specs.State.{PageState, SiteState, page_state, site_state, state_of, page_at, site_at}
 use Rattle.desk_core.specs.Rights.{may, role_of, entering}
 use Rattle.desk_core.specs.Members.{new_site, put_site}
-use Rattle.desk_core.specs.Pages.{rev_of, judged, has_room, has_revisions, page_put, edit_page, drop_page}
+use Rattle.desk_core.specs.Pages.{rev_of, judged, has_room, has_room_for, has_revisions, page_put, edit_page, drop_page}
 use Rattle.desk_core.specs.Imports.{new_pages, first_stale, puts}
 use Rattle.desk_core.specs.Changes.{after}
 use Rattle.desk_core.specs.Steps.{Request, site_of, decision, decided}
@@ -43,6 +43,7 @@ use Rattle.desk_core.proofs.Views.{page_seen, site_seen}
 use Rattle.desk_core.proofs.Deciding.{Brings, brought, put_page_brings, edit_page_brings, drop_page_brings, import_brings}
 use Rattle.desk_core.proofs.Kept.{entering_kept, on_page_kept, new_site_kept}
 use Rattle.desk_core.proofs.Sound.{kept_fits, kept_sound}
+use Rattle.desk_core.proofs.SoundPages.{room_there}
 use Rattle.desk_core.proofs.Keeping.{keeps_sound}
 use Rattle.desk_core.proofs.Again.{rev_at, rev_found, stale_then, import_stale, after_made}
 use Rattle.desk_core.proofs.Revisions.{puts_newer_at}
@@ -94,8 +95,8 @@ none_new pages (e ∷ entries) there =
     ∙ ap (λ b. cond b 1 0 + new_pages pages entries) (is_there (page_at e.page pages) (there e.page e.rev (inl (refl, refl))))
     ∙ omega (arith, rest)
 
-has_room_for : (pages new most : ℕ) → pages ≤ most → new ≡ 0 → nat_le (pages + new) most ≡ false → ⊥
-has_room_for pages new most few none full = grind (arith, nat_tests)
+not_full : (pages new most : ℕ) → pages ≤ most → new ≡ 0 → nat_le (pages + new) most ≡ false → ⊥
+not_full pages new most few none full = grind (arith, nat_tests)
 
 module _ (book : Book) (t : Tables) (sound : IsSound book t) (caller : List ℕ) where
   -- what a command is refused with after a change that keeps the tables sound
@@ -120,12 +121,15 @@ module _ (book : Book) (t : Tables) (sound : IsSound book t) (caller : List ℕ)
     module _ (put : PagePut) (named : put.page.head.page ≡ page) (rev : put.page.head.rev ≡ k.site.counter + 1) (sent : ℕ) (was : (sent == rev_at page k.pages) ≡ true)
         (allows : may needed.Editor (role_of caller k.site.members) ≡ true) where
       put_refused : (raw : Raw) → After (command.PutPage site page sent raw) (Some (PutPages site (k.site.counter + 1) (put ∷ [])))
-      put_refused raw _ =
+      put_refused raw sound' =
           let f = with_pages (k.site.counter + 1) (put ∷ []) in
           let row = put_over k.pages put in
           let found : at page_name page (f k).pages ≡ Some row = subst (λ n. at page_name n (put_row page_name row k.pages) ≡ Some row) named (at_put page_name row k.pages) in
           let there : page_at page (map page_state (f k).pages) ≡ Some (page_state row) = page_seen page (f k).pages ∙ ap (option_map page_state) found in
-          let room : has_room (page_at page (map page_state (f k).pages)) (length (map page_state (f k).pages)) ≡ true = ap (λ o. has_room o (length (map page_state (f k).pages))) there in
+          let room : has_room (page_at page (map page_state (f k).pages)) (length (map page_state (f k).pages)) ≡ true =
+          ap (λ o. has_room o (length (map page_state (f k).pages))) there
+          ∙ room_there (length (map page_state (f k).pages)) (f k).pages (length-map (f k).pages page_state)
+          (kept_sound book (changed (PutPages site (k.site.counter + 1) (put ∷ [])) t) sound' site (f k) (kept_then site k f (λ _. refl) is)).few in
           enters IsBehind needed.Editor caller _ _ (site_state (f k)) (there_then site k f (λ _. refl) is) allows
           (unless_refuses IsBehind (has_room (page_at page (map page_state (f k).pages)) (length (map page_state (f k).pages))) (refusal.PageLimit limit.Pages) _ (λ full. let no : true ≡ false = sym room ∙ full in cc) (λ _.
           unless_refuses IsBehind (has_revisions (f k).site.counter 1) (refusal.PageLimit limit.Revisions) _ (λ _. tt) (λ _.
@@ -167,8 +171,8 @@ module _ (book : Book) (t : Tables) (sound : IsSound book t) (caller : List ℕ)
         λ p rev has. puts_newer_at book caller p rev k.pages k.pages 0 k.site.counter (e ∷ entries) (omega arith) has in
         let none : new_pages pages (e ∷ entries) ≡ 0 = none_new pages (e ∷ entries) newer in
         enters IsBehind needed.Editor caller _ _ (site_state (f k)) (there_then site k f (λ _. refl) is) allows
-        (unless_refuses IsBehind (nat_le (length pages + new_pages pages (e ∷ entries)) MOST_PAGES) (refusal.PageLimit limit.Pages) _
-        (has_room_for (length pages) (new_pages pages (e ∷ entries)) MOST_PAGES (omega (arith, few, same)) none) (λ _.
+        (unless_refuses IsBehind (has_room_for (new_pages pages (e ∷ entries)) (length pages)) (refusal.PageLimit limit.Pages) _
+        (not_full (length pages) (new_pages pages (e ∷ entries)) MOST_PAGES (omega (arith, few, same)) none) (λ _.
         unless_refuses IsBehind (has_revisions (f k).site.counter (length (e ∷ entries))) (refusal.PageLimit limit.Revisions) _ (λ _. tt) (λ _.
         unless_refused_refuses IsBehind (first_stale pages (e ∷ entries)) _ (stale_by pages (e ∷ entries))
         (import_stale book t sound caller site [] k is e entries fresh (f k) kept))))

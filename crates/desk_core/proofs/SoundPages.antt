@@ -1,5 +1,5 @@
 -- Pages stay sound where one is put by the next revision.
-use Rattle.std.proofs.Common.{◌≡◌, ℕ, ◌+◌, ◌≤◌, List, [], ◌∷◌, length, map, get_or, true, Option, Some, None, option_map, is_none, nat_le, cond, refl, sym, ap, ◌∙◌, subst, arith, inl, inr, ◌⊎◌}
+use Rattle.std.proofs.Common.{◌≡◌, ℕ, ◌+◌, ◌≤◌, List, [], ◌∷◌, length, map, get_or, true, Option, Some, None, option_map, is_none, cond, refl, sym, ap, ◌∙◌, subst, arith, inl, inr, ◌⊎◌}
 use Rattle.std.specs.Option.{option_or}
 use Rattle.std.specs.List.{All, AllPairs}
 use Rattle.std.proofs.lemmas.Bool.Decides.{nat_tests}
@@ -24,7 +24,7 @@ use Rattle.desk_core.specs.declared.limits.TheConstants.{MOST_PAGES}
 use Rattle.desk_core.specs.declared.refusal.Refusal.{Refusal}
 use Rattle.desk_core.specs.declared.refusal.Refusal.TheVariants as refusal
 use Rattle.desk_core.specs.State.{page_state, page_at}
-use Rattle.desk_core.specs.Pages.{judged, has_room, page_put}
+use Rattle.desk_core.specs.Pages.{judged, has_room, has_room_for, page_put}
 use Rattle.desk_core.specs.Imports.{new_pages, first_fault, puts}
 use Rattle.desk_core.specs.Soundness.{rev_in, IsGiven, IsSoundPage}
 use Rattle.desk_core.proofs.Views.{page_seen, judged_seen, same_or_other}
@@ -102,6 +102,10 @@ unfolding more_by
 room_by None pages room few = grind (arith, nat_tests)
 room_by (Some p) pages room few = omega arith
 
+-- a site of a page that is there has room for it
+pub room_there : (count : ℕ) (pages : List KeptPage) → count ≡ length pages → length pages ≤ MOST_PAGES → has_room_for 0 count ≡ true
+room_there count pages is few = grind (arith, nat_tests)
+
 -- a site that has room for a page has it still when the page is put
 pub one_few : (row : KeptPage) (pages : List KeptPage) (count : ℕ) → count ≡ length pages → has_room (page_at (page_name row) (map page_state pages)) count ≡ true → length pages ≤ MOST_PAGES
     → length (put_row page_name row pages) ≤ MOST_PAGES
@@ -149,7 +153,7 @@ puts_few book caller orig cur counter (e ∷ entries) fewer =
 
 -- a site has room still for the pages of an import
 pub import_few : (book : Book) (caller : List ℕ) (pages : List KeptPage) (count counter : ℕ) (entries : List Entry) → count ≡ length pages
-    → nat_le (count + new_pages (map page_state pages) entries) MOST_PAGES ≡ true
+    → has_room_for (new_pages (map page_state pages) entries) count ≡ true
     → length (put_rows page_name (map (put_over pages) (puts book caller (map page_state pages) counter entries)) pages) ≤ MOST_PAGES
 import_few book caller pages count counter entries is room =
     let within : count + new_pages (map page_state pages) entries ≤ MOST_PAGES = grind (arith, nat_tests) in

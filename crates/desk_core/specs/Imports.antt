@@ -1,12 +1,11 @@
 -- Imports: what is decided on many pages at once.
-use Rattle.std.specs.Prelude.{ℕ, ◌+◌, List, [], ◌∷◌, length, map, ◌==◌, nat_le, if◌then◌else◌, Option, Some, None, is_none, option_map, Ok, count_by}
+use Rattle.std.specs.Prelude.{ℕ, ◌+◌, List, [], ◌∷◌, length, map, ◌==◌, if◌then◌else◌, Option, Some, None, is_none, option_map, Ok, count_by}
 use Rattle.std.specs.Option.{option_or}
 use Rattle.snap_tree.specs.Grown.{page_of}
 use Rattle.snap_tree.specs.Faults.{tree_fault}
 use Rattle.judge_core.specs.Books.{Book}
 use Rattle.keep_core.specs.declared.page.PagePut.{PagePut}
 use Rattle.keep_core.specs.declared.change.Change.TheVariants.{PutPages}
-use Rattle.desk_core.specs.declared.limits.TheConstants.{MOST_PAGES}
 use Rattle.desk_core.specs.declared.command.Entry.{Entry}
 use Rattle.desk_core.specs.declared.refusal.Limit.TheVariants as limit
 use Rattle.desk_core.specs.declared.refusal.Refusal.{Refusal}
@@ -14,7 +13,7 @@ use Rattle.desk_core.specs.declared.refusal.Refusal.TheVariants as refusal
 use Rattle.desk_core.specs.declared.reply.Reply.TheVariants as reply
 use Rattle.desk_core.specs.Refusals.{Decision, unless, unless_refused}
 use Rattle.desk_core.specs.State.{PageState, SiteState, page_at}
-use Rattle.desk_core.specs.Pages.{rev_of, judged, has_revisions, page_put, stored}
+use Rattle.desk_core.specs.Pages.{rev_of, judged, has_room_for, has_revisions, page_put, stored}
 
 -- the entries whose page isn't there
 abbrev pub new_pages : List PageState → List Entry → ℕ
@@ -45,7 +44,7 @@ abbrev pub import : Book → List ℕ → List ℕ → List Entry → SiteState 
 import book site caller entries s =
     let made = puts book caller s.pages s.site.counter entries
     in
-    unless (nat_le (length s.pages + new_pages s.pages entries) MOST_PAGES) (refusal.PageLimit limit.Pages) (
+    unless (has_room_for (new_pages s.pages entries) (length s.pages)) (refusal.PageLimit limit.Pages) (
     unless (has_revisions s.site.counter (length entries)) (refusal.PageLimit limit.Revisions) (
     unless_refused (first_stale s.pages entries) (
     unless_refused (first_fault entries) (

@@ -1,5 +1,5 @@
 -- Pages of a site: what is decided on putting, editing and dropping one.
-use Rattle.std.specs.Prelude.{ℕ, ◌+◌, List, [], ◌∷◌, ◌==◌, ◌||◌, Bool, nat_lt, nat_le, Option, Some, None, is_some, Result, Ok, Err}
+use Rattle.std.specs.Prelude.{ℕ, ◌+◌, List, [], ◌∷◌, ◌==◌, Bool, nat_le, if◌then◌else◌, Option, Some, None, is_none, Result, Ok, Err}
 use Rattle.std.specs.Option.{option_map_or}
 use Rattle.snap_tree.specs.declared.row.Raw.{Raw}
 use Rattle.snap_tree.specs.Trees.{Trees, Document, with_trees}
@@ -33,9 +33,13 @@ rev_of kept = option_map_or (λ p. p.page.head.rev) kept 0
 abbrev pub judged : Option PageState → List Judgement
 judged kept = option_map_or (λ p. p.judgements) kept []
 
--- a site with so many pages has room for this one: it is there already, or the site isn't full
+-- a site with so many pages has room for so many new ones
+abbrev pub has_room_for : ℕ → ℕ → Bool
+has_room_for new pages = nat_le (pages + new) MOST_PAGES
+
+-- a site with so many pages has room for this one, which is new where it isn't there
 abbrev pub has_room : Option PageState → ℕ → Bool
-has_room kept pages = is_some kept || nat_lt pages MOST_PAGES
+has_room kept pages = has_room_for (if is_none kept then 1 else 0) pages
 
 -- a site with this counter can give so many revisions more
 abbrev pub has_revisions : ℕ → ℕ → Bool

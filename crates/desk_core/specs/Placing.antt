@@ -1,5 +1,5 @@
 -- Imports as they are carried out: each entry with what is kept in its place, and then the pages one beside another.
-use Rattle.std.specs.Prelude.{◌≡◌, ℕ, ◌+◌, ◌≤◌, ◌==◌, List, [], ◌∷◌, length, map, Bool, not, nat_le, Option, Some, is_none, option_map, Result, Ok, IfOk, IfErr, count_by}
+use Rattle.std.specs.Prelude.{◌≡◌, ℕ, ◌+◌, ◌≤◌, ◌==◌, List, [], ◌∷◌, length, map, Bool, not, Option, Some, is_none, option_map, Result, Ok, IfOk, IfErr, count_by}
 use Rattle.std.specs.Option.{option_map_or}
 use Rattle.std.specs.List.{find, zip}
 use Rattle.snap_tree.specs.Grown.{page_of}
@@ -15,7 +15,6 @@ use Rattle.keep_core.specs.declared.change.Change.TheVariants.{PutPages}
 use Rattle.keep_core.specs.Tables.{Tables, pages_of, judgements_of}
 use Rattle.keep_core.specs.Keeping.{Stays}
 use Rattle.desk_core.specs.declared.command.Entry.{Entry}
-use Rattle.desk_core.specs.declared.limits.TheConstants.{MOST_PAGES}
 use Rattle.desk_core.specs.declared.placed.Placed.{Placed}
 use Rattle.desk_core.specs.declared.arrival.Arrival.{Arrival}
 use Rattle.desk_core.specs.declared.refusal.Needed.TheVariants.{Editor}
@@ -26,7 +25,7 @@ use Rattle.desk_core.specs.declared.reply.Reply.TheVariants as reply
 use Rattle.desk_core.specs.Refusals.{Decision, unless, unless_refused}
 use Rattle.desk_core.specs.State.{PageState, SiteState, page_state, page_at, state_of, site_at}
 use Rattle.desk_core.specs.Rights.{entering}
-use Rattle.desk_core.specs.Pages.{judged, has_revisions, stored}
+use Rattle.desk_core.specs.Pages.{judged, has_room_for, has_revisions, stored}
 use Rattle.desk_core.specs.Imports.{first_fault}
 use Rattle.desk_core.specs.Serving.{Stands, OnlyReads, IsIn}
 
@@ -93,7 +92,7 @@ storing_all book site counter made = Ok (record { change = Some (PutPages site c
 -- what is decided on an import into a site with this counter and so many pages
 abbrev pub import_placed : Book → List ℕ → List ℕ → ℕ → ℕ → List Placed → Decision
 import_placed book site caller counter pages all =
-    unless (nat_le (pages + new_among all) MOST_PAGES) (refusal.PageLimit limit.Pages) (
+    unless (has_room_for (new_among all) pages) (refusal.PageLimit limit.Pages) (
     unless (has_revisions counter (length all)) (refusal.PageLimit limit.Revisions) (
     unless_refused (stale_among all) (
     unless_refused (first_fault (entries_of all)) (

@@ -1,10 +1,9 @@
-ghost use Rattle.std.specs.Prelude.{◌≡◌, ◌+◌, ◌<◌, ◌≤◌, length, sum_by, map, true, None, is_none, IsTrue, IfOk, IfErr, OnOk, nat_le};
+ghost use Rattle.std.specs.Prelude.{◌≡◌, ◌+◌, ◌<◌, ◌≤◌, length, sum_by, map, true, None, is_none, IsTrue, IfOk, IfErr, OnOk};
 ghost use Rattle.reaudit.specs.Pages.{pages_judgings};
 ghost use Rattle.keep_core.specs.Names.{is_name};
 ghost use Rattle.desk_core.specs.declared.command.Command.TheVariants.{Import};
-ghost use Rattle.desk_core.specs.declared.limits.TheConstants as limits;
 ghost use Rattle.desk_core.specs.Refusals.{Decision, unless_refused};
-ghost use Rattle.desk_core.specs.Pages.{has_revisions, stored};
+ghost use Rattle.desk_core.specs.Pages.{has_room_for, has_revisions, stored};
 ghost use Rattle.std.specs.Option.{option_copied};
 ghost use Rattle.std.specs.List.{find};
 ghost use Rattle.desk_core.specs.Fitting.{FitsEntries};
@@ -17,13 +16,13 @@ use crate::building::build_all;
 use crate::built::{Built, heads_from, put_all};
 use crate::command::Entry;
 use crate::decided::Decided;
-use crate::limits::MOST_PAGES;
 use crate::placed::Placed;
+use crate::put_page::has_room_for;
 use crate::refusal::{Limit, Refusal};
 use crate::reply::{Reply, Stored};
 use crate::store::stored;
 use keep_core::{Change, Keeper, MOST_REVISION, PagePut};
-use reaudit::audit_pages;
+use reaudit::{audit_pages, busy};
 use rule_core::RuleBook;
 use snap_tree::{List, OutOfMemory, Text};
 use std::alloc::Global;
@@ -31,7 +30,7 @@ use std::collections::VecDeque;
 use std::thread::Threads;
 
 /// Puts pages, all or none, each in the place of the one that the sender saw. Parts of them are built and
-/// audited side by side, as many as there are books, where threads can be made.
+/// audited side by side, as many as there are books or pages, where threads can be made.
 pub fn import<R: Threads + Sync, K: Keeper, B: RuleBook + Send>(
     rt: &R,
     alloc: Global,
@@ -72,7 +71,7 @@ fn decide<R: Threads + Sync, B: RuleBook + Send>(
     ensures counted { sum_by B.calls books.new ≤ sum_by B.calls books.old
         + import_judgings (record { infos = B.infos; means = B.means }) (entries_of arrival.placed) }
 {
-    if !has_room(arrival.pages, new_among(arrival.placed.as_slice())) {
+    if !has_room_for(new_among(arrival.placed.as_slice()), arrival.pages) {
         return Err(Refusal::PageLimit {
             limit: Limit::Pages,
         });
@@ -86,13 +85,6 @@ fn decide<R: Threads + Sync, B: RuleBook + Send>(
         Ok(()) => import_there(rt, alloc, books, caller, site, arrival),
         Err(refusal) => Err(refusal),
     }
-}
-
-// A site with so many pages has room for so many new ones.
-fn has_room(pages: usize, new: usize) -> bool
-    ensures { result ≡ nat_le (pages + new) limits.MOST_PAGES }
-{
-    pages <= MOST_PAGES && new <= MOST_PAGES - pages
 }
 
 // A site with this counter can give so many revisions more.
@@ -158,7 +150,7 @@ fn import_there<R: Threads + Sync, B: RuleBook + Send>(
     arrival: Arrival,
 ) -> Result<Decided, Refusal>
     requires some { 0 < length books.old }
-    requires room { nat_le (arrival.pages + new_among arrival.placed) limits.MOST_PAGES ≡ true }
+    requires room { has_room_for (new_among arrival.placed) arrival.pages ≡ true }
     requires revisions { has_revisions arrival.counter (length arrival.placed) ≡ true }
     requires fresh { stale_among arrival.placed ≡ None }
     ensures decided { Agrees ⊥ result (import_placed (record { infos = B.infos; means = B.means }) site caller.now
@@ -169,7 +161,7 @@ fn import_there<R: Threads + Sync, B: RuleBook + Send>(
     let counter = arrival.counter + arrival.placed.len() as u64;
     let heads = heads_from(alloc, caller, arrival.counter, arrival.placed.as_slice())?;
     let placed = VecDeque::from_vec(arrival.placed.into_vec());
-    match build_all(rt, &alloc, books.len(), placed) {
+    match build_all(rt, &alloc, busy(books.len(), placed.len()), placed) {
         Ok(works) => {
             let works = List::from_vec(works);
             store_all(rt, alloc, books, site, counter, Built { heads, works })

@@ -36,7 +36,7 @@ pub use handling::handle;
 pub use laws::{
     laws_of_requests, laws_of_revisions, laws_of_sites, laws_of_soundness, laws_of_views,
 };
-pub use limits::{MOST_ENTRIES, MOST_NOTE, MOST_PAGES};
+pub use limits::{MOST_ENTRIES, MOST_NOTE, MOST_PAGES, laws_of_limits};
 pub use page_state::PageState;
 pub use refusal::{Limit, Needed, Refusal};
 pub use reply::{Reply, Sheet, Stored, Summary};

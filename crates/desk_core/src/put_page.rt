@@ -4,7 +4,7 @@ ghost use Rattle.snap_tree.specs.Grown.{page_of};
 ghost use Rattle.snap_tree.specs.Faults.{tree_fault};
 ghost use Rattle.judge_core.specs.Outcomes.{judgings};
 ghost use Rattle.desk_core.specs.Refusals.{Decision};
-ghost use Rattle.desk_core.specs.Pages.{rev_of, judged, has_room, has_revisions, built, renewed, storing, put_page};
+ghost use Rattle.desk_core.specs.Pages.{rev_of, judged, has_room, has_room_for, has_revisions, built, renewed, storing, put_page};
 ghost use Rattle.desk_core.specs.Costs.{put_judgings};
 ghost use Rattle.desk_core.specs.Serving.{Agrees, Decides, Stands};
 ghost use Rattle.desk_core.specs.declared.command.Command.TheVariants.{PutPage};
@@ -102,11 +102,21 @@ fn judged(kept: &Option<PageState>) -> &[Judgement]
     }
 }
 
-// A site with so many pages has room for this one.
+// A site with so many pages has room for this one, which is new where it isn't there.
 fn has_room(kept: &Option<PageState>, pages: usize) -> bool
     ensures { result ≡ has_room kept.now pages }
 {
-    kept.is_some() || pages < MOST_PAGES
+    match kept {
+        Some(_) => has_room_for(0, pages),
+        None => has_room_for(1, pages),
+    }
+}
+
+/// A site with so many pages has room for so many new ones.
+pub fn has_room_for(new: usize, pages: usize) -> bool
+    ensures { result ≡ has_room_for new pages }
+{
+    pages <= MOST_PAGES && new <= MOST_PAGES - pages
 }
 
 /// A site with this counter can give one more revision.

@@ -11,7 +11,7 @@ use crate::head::{Head, all_are};
 pub const MOST_BODY: u64 = 8_388_608;
 
 // The most digits of a content-length.
-const MOST_DIGITS: usize = 19;
+pub(crate) const MOST_DIGITS: usize = 19;
 
 /// How many bytes of body follow the head; `Err` is the first refusal that holds.
 ///

@@ -17,6 +17,6 @@ pub use fault::HeadFault;
 pub use framing::{MOST_BODY, body_length, number_of};
 pub use head::{Field, Head, Version};
 pub use item::{Item, Message, Sent};
-pub use laws::laws_of_talk;
+pub use laws::{laws_of_limits, laws_of_talk};
 pub use parse::{MOST_FIELDS, read_head};
 pub use reading::{Got, ReadFault, read_item};

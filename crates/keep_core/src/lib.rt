@@ -24,7 +24,7 @@ pub use change::{Batch, Change};
 pub use fault::KeepFault;
 pub use keeper::Keeper;
 pub use laws::laws_of_changes;
-pub use limits::{MOST_NAME, MOST_REVISION};
+pub use limits::{MOST_NAME, MOST_REVISION, laws_of_limits};
 pub use member::{Member, MemberRole};
 pub use memory::MemoryKeeper;
 pub use names::is_name;

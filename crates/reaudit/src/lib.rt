@@ -14,4 +14,4 @@ mod rows;
 
 pub use judged::after_judgement;
 pub use page::audit_page;
-pub use pages::{PageWork, audit_pages, share};
+pub use pages::{PageWork, audit_pages, busy, share};

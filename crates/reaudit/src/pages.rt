@@ -1,4 +1,4 @@
-ghost use Rattle.std.specs.Prelude.{◌≡◌, ◌+◌, ◌*◌, ◌/◌, ◌<◌, ◌≤◌, ◌++◌, length, sum_by, IfOk, IsOkAnd};
+ghost use Rattle.std.specs.Prelude.{◌≡◌, ◌+◌, ◌*◌, ◌/◌, ◌<◌, ◌≤◌, ◌++◌, length, sum_by, min, max, IfOk, IsOkAnd};
 ghost use Rattle.std.specs.Thread.{IsSend, IsSync};
 ghost use Rattle.reaudit.specs.Pages.{pages_outcomes, pages_judgings};
 
@@ -18,8 +18,8 @@ pub struct PageWork {
 
 /// The outcomes of each page, in the order of the pages, whatever the number of books: there is at least
 /// one. Where threads can be made, the books audit parts of the pages side by side; where there are fewer
-/// pages than books, some books audit none. The sum of their counts of judgings rises by at most the atomic
-/// rules times the nodes of all pages. Fails only for want of memory.
+/// pages than books, some books audit none, and no thread is made for those. The sum of their counts of
+/// judgings rises by at most the atomic rules times the nodes of all pages. Fails only for want of memory.
 pub fn audit_pages<R: Threads + Sync, B: RuleBook + Send>(
     rt: &R,
     alloc: Global,
@@ -32,7 +32,8 @@ pub fn audit_pages<R: Threads + Sync, B: RuleBook + Send>(
     ensures counted { sum_by B.calls books.new ≤ sum_by B.calls books.old
         + pages_judgings (record { infos = B.infos; means = B.means }) pages.now }
 {
-    audit_part(rt, &alloc, pages, books)
+    let (busy, _) = books.split_at_mut(busy(books.len(), pages.len()));
+    audit_part(rt, &alloc, pages, busy)
 }
 
 // The pages by the books: the first book audits its share of them in a new thread, and this thread shares
@@ -108,6 +109,16 @@ fn audit_both<R: Threads + Sync, B: RuleBook + Send>(
             + pages_judgings (record { infos = B.infos; means = B.means }) later_pages.entry.now }
     { audit_part(rt, alloc, later_pages, later_books) };
     join_mut(rt, &mut first, &mut later)
+}
+
+/// How many of so many workers have a page to work on: no more than there are pages, and at least one.
+pub fn busy(workers: usize, pages: usize) -> usize
+    requires { 0 < workers }
+    ensures busy { result ≡ min workers (max 1 pages) }
+    ensures some { 0 < result }
+    ensures within { result ≤ workers }
+{
+    workers.min(pages.max(1))
 }
 
 /// How many pages the next of so many workers takes: its part of them, rounded down.

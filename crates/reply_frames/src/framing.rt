@@ -15,6 +15,12 @@ pub const MOST_HEAD: usize = 256;
 /// The most bytes of the phrase of a status code.
 pub const MOST_PHRASE: usize = 31;
 
+/// The numbers of the limits. It does nothing: the clauses are what it is for.
+pub fn laws_of_limits()
+    ensures head { MOST_HEAD ≡ 256 }
+    ensures phrase { MOST_PHRASE ≡ 31 }
+{}
+
 /// Makes a reply of a body that was printed: its head is put in front of it. Memory is taken only where
 /// there isn't room for the head, and fails only where there isn't room for 256 bytes more. The status has
 /// three digits, and its phrase at most 31 bytes.
