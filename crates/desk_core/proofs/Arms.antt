@@ -3,9 +3,11 @@ use Rattle.std.proofs.Common.{◌≡◌, ℕ, List, Option, Result, sym, subst}
 use Rattle.judge_core.specs.Books.{Book}
 use Rattle.keep_core.specs.Tables.{Tables}
 use Rattle.desk_core.specs.declared.command.Command.{Command}
+use Rattle.desk_core.specs.declared.command.Command.TheVariants.{Import}
+use Rattle.desk_core.specs.declared.command.Entry.{Entry}
 use Rattle.desk_core.specs.declared.decided.Decided.{Decided}
 use Rattle.desk_core.specs.declared.refusal.Refusal.{Refusal}
-use Rattle.desk_core.specs.Costs.{Costs}
+use Rattle.desk_core.specs.Costs.{IsImport, Costs}
 use Rattle.desk_core.specs.Fitting.{FitsRequest}
 use Rattle.desk_core.specs.Serving.{Decides}
 
@@ -20,3 +22,6 @@ module _ {book : Book} {q arm : Command} (is : q ≡ arm) where
 
   pub costs_at : {old new : Option Tables} {from to : ℕ} → Costs book arm old new from to → Costs book q old new from to
   costs_at {old} {new} {from} {to} costs = let P : Command → Type 0 = λ c. Costs book c old new from to in subst P (sym is) costs
+
+pub import_at : {q : Command} {site : List ℕ} {entries : List Entry} → q ≡ Import site entries → IsImport q
+import_at is = subst IsImport (sym is) tt

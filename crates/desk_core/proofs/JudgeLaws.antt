@@ -1,5 +1,5 @@
 -- What is decided on a judgement of a page that was found.
-use Rattle.std.proofs.Common.{◌≡◌, ℕ, List, Option, Some, None, option_map, Result, Ok, Err, IsTrue, IsSome, IfSome, IfOk, IsErrAnd, IsErrOf, refl, sym, ap, subst, ◌∙◌}
+use Rattle.std.proofs.Common.{◌≡◌, ℕ, List, Option, Some, None, option_map, Result, Ok, Err, IsTrue, IsSome, IfSome, IfOk, IsErrAnd, IsErrOf, inl, inr, refl, sym, ap, subst, ◌∙◌}
 use Rattle.snap_tree.specs.declared.row.NodeId.{NodeId}
 use Rattle.rule_core.specs.declared.info.RuleNo.{RuleNo}
 use Rattle.rule_core.specs.declared.verdict.Auto.{Auto}
@@ -19,8 +19,9 @@ use Rattle.desk_core.specs.declared.refusal.Refusal.{Refusal}
 use Rattle.desk_core.specs.declared.refusal.Refusal.TheVariants as refusal
 use Rattle.desk_core.specs.State.{PageState, page_state}
 use Rattle.desk_core.specs.Refusals.{Decision}
+use Rattle.desk_core.specs.Steps.{Request}
 use Rattle.desk_core.specs.Judging.{judged_row, judge, added, AddsTo}
-use Rattle.desk_core.specs.Serving.{Stands, Agrees, Accepts, Decides, FindsKept, IsTrueTo}
+use Rattle.desk_core.specs.Serving.{Stands, Agrees, Accepts, Judges, IsFirm, Decides, FindsKept, IsTrueTo}
 use Rattle.desk_core.proofs.Ways.{followed}
 use Rattle.desk_core.proofs.Onward.{untold, not_fault, agrees_with, only_read, read_as}
 use Rattle.desk_core.proofs.ReadLaws.{found_is_true}
@@ -66,6 +67,11 @@ err_no_fault (Ok d) r decision same stands is = absurd same
 err_no_fault (Err s) r decision same stands is =
     not_fault (let e : Result Decided Refusal = Err s in e) decision (subst (λ (r : Refusal). Stands ⊥ r decision) (sym same) stands) is
 
+-- a judgement is one, whatever is kept
+judged_firm : (book : Book) (request : Request) (new : Option Tables) (result : Result Decided Refusal) → Judges result → IfOk result (IsFirm book request new)
+judged_firm book request new (Ok d) judges = inr (inl judges)
+judged_firm book request new (Err r) judges = tt
+
 module _ (book : Book) (site caller page : List ℕ) (rule : RuleNo) (node : NodeId) (verdict : Auto) (seen note : List ℕ) where
   abbrev judgement_on : OutRow → Judgement
   judgement_on row = record { rule = rule; node = node; verdict = verdict; hand = caller; note = note; evidence = row.evidence }
@@ -89,9 +95,9 @@ module _ (book : Book) (site caller page : List ℕ) (rule : RuleNo) (node : Nod
       → IsTrue (is_name site) → IsTrue (is_name page)
       → FindsKept needed.Judge caller site page old new before now (Ok kept)
       → (IsTrueTo book kept → Agrees ⊥ result (judge book site caller page rule node verdict seen note (page_state kept)))
-      → (IsErrOf result refusal.KeeperFault → ⊥) → IfOk result (λ d. IfSome d.change (AddsTo site page)) → Accepts result
+      → (IsErrOf result refusal.KeeperFault → ⊥) → IfOk result (λ d. IfSome d.change (AddsTo site page)) → Accepts result → Judges result
       → Decides book (record { caller = caller; command = command.Judge site page rule node verdict seen note }) old new before now result
-  decides_judge old new before now kept result named page_named finds agrees no_fault adds accepted = record {
+  decides_judge old new before now kept result named page_named finds agrees no_fault adds accepted judges = record {
     reads = only_read old new before now (let r : Result KeptPage Refusal = Ok kept in r) result (λ e. absurd (no_fault e)) finds.reads;
     agrees =
         λ t told sound.
@@ -102,6 +108,7 @@ module _ (book : Book) (site caller page : List ℕ) (rule : RuleNo) (node : Nod
     fits = all_fit site page named page_named result adds;
     there = all_there site page new (λ t told. there_in (kept_page site page t) (page_state kept) (finds.found t told).2) result adds;
     accepted = accepted;
+    firm = judged_firm book (record { caller = caller; command = command.Judge site page rule node verdict seen note }) new result judges;
   }
 
   pub decides_no_judge : (old new : Option Tables) (before now : ℕ) (r : Refusal) → FindsKept needed.Judge caller site page old new before now (Err r)
@@ -112,4 +119,5 @@ module _ (book : Book) (site caller page : List ℕ) (rule : RuleNo) (node : Nod
     fits = tt;
     there = tt;
     accepted = tt;
+    firm = tt;
   }

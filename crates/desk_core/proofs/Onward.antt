@@ -1,5 +1,5 @@
 -- One way through a keeper after another.
-use Rattle.std.proofs.Common.{◌≡◌, ℕ, length, ◌≤◌, List, Option, Some, None, Result, Ok, Err, IfSome, IfOk, IsErrOf, refl, sym, ap, subst, ◌∙◌, arith}
+use Rattle.std.proofs.Common.{◌≡◌, ℕ, length, ◌≤◌, List, Option, Some, None, Result, Ok, Err, IfSome, IfOk, IsErrOf, inr, refl, sym, ap, subst, ◌∙◌, arith}
 use Rattle.std.proofs.lemmas.List.{length-map}
 use Rattle.counts.proofs.CountLaws.{rose_after}
 use Rattle.judge_core.specs.Books.{Book}
@@ -16,7 +16,7 @@ use Rattle.desk_core.specs.Refusals.{Decision}
 use Rattle.desk_core.specs.State.{PageState, page_state, site_state, state_of, site_at, page_at}
 use Rattle.desk_core.specs.Rights.{entering, on_page}
 use Rattle.desk_core.specs.Steps.{Request, decided}
-use Rattle.desk_core.specs.Serving.{Stands, Agrees, Accepts, Admits, OnlyReads, IsIn, Enters, Finds, Decides, page_in}
+use Rattle.desk_core.specs.Serving.{Stands, Agrees, Accepts, IsFirm, Admits, OnlyReads, IsIn, Enters, Finds, Decides, page_in}
 use Rattle.desk_core.proofs.Deciding.{Brings, brought}
 use Rattle.desk_core.proofs.Fitted.{IfAnyFits}
 use Rattle.desk_core.proofs.Accepting.{accepted_by}
@@ -91,6 +91,12 @@ there_by book request (Some t) (Err r) agrees = tt
 pub agrees_as : (result : Result Decided Refusal) (decision other : Decision) → other ≡ decision → Agrees ⊥ result decision → Agrees ⊥ result other
 agrees_as result decision other is agrees = subst (Agrees ⊥ result) (sym is) agrees
 
+-- what is decided of the tables is decided whether they are sound or not
+firm_by : (book : Book) (request : Request) (new : Option Tables) (result : Result Decided Refusal) (decision : Decision) → Agrees ⊥ result decision
+    → ((t : Tables) → new ≡ Some t → decided book request (state_of t) ≡ decision) → IfOk result (IsFirm book request new)
+firm_by book request new (Ok d) decision agrees is = inr (inr (λ t told. is t told ∙ agrees))
+firm_by book request new (Err r) decision agrees is = tt
+
 -- a request whose answer is what is decided, whatever else is kept
 pub decides_by : {A : Type 0} (book : Book) (request : Request) (old new : Option Tables) (before now : ℕ) (r : Result A Refusal) (result : Result Decided Refusal) (decision : Decision)
     → OnlyReads old new before now r → Agrees ⊥ result decision → Brings IfAnyFits decision → Accepts decision
@@ -102,6 +108,7 @@ decides_by book request old new before now r result decision reads agrees brings
   fits = fits_by result decision agrees brings;
   there = there_by book request new result (λ t told. agrees_as result decision (decided book request (state_of t)) (is t told) agrees);
   accepted = accepted_by result decision agrees accepts;
+  firm = firm_by book request new result decision agrees is;
 }
 
 -- a refusal of one reading is a refusal of any
@@ -152,6 +159,7 @@ module _ (book : Book) (request : Request) (leave : Needed) (site page : List �
     fits = tt;
     there = tt;
     accepted = tt;
+    firm = tt;
   }
 
 -- what is decided on putting a page is that by what was found before

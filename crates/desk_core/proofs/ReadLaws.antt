@@ -1,5 +1,5 @@
 -- What is decided on reading a page: what is shown of it is true where the tables are sound.
-use Rattle.std.proofs.Common.{◌≡◌, ℕ, List, Option, Some, None, option_map, Result, Ok, Err, IfSome, refl, sym, ap, subst, ◌∙◌}
+use Rattle.std.proofs.Common.{◌≡◌, ℕ, List, Option, Some, None, option_map, Result, Ok, Err, IfSome, inl, refl, sym, ap, subst, ◌∙◌}
 use Rattle.judge_core.specs.Books.{Book}
 use Rattle.named_rows.specs.ByName.{at}
 use Rattle.named_rows.proofs.Lookups.{all_at}
@@ -87,6 +87,7 @@ module _ (book : Book) (caller site page : List ℕ) (way : Showing) where
     fits = let P : Decided → Type 0 = λ e. IfSome e.change Fits in subst P (sym same) tt;
     there = let P : Decided → Type 0 = λ e. IfSome e.change (λ change. IfSome new (IsThere change)) in subst P (sym same) tt;
     accepted = let P : Decided → Type 0 = λ e. IsAccepted e.reply in subst P (sym same) (shown_accepted way shown);
+    firm = inl (ap (λ (e : Decided). e.change) same);
   }
 
   pub decides_not_read : (old new : Option Tables) (before now : ℕ) (r : Refusal) → ReadsPage book caller site page old new before now (Err r)
@@ -97,4 +98,5 @@ module _ (book : Book) (caller site page : List ℕ) (way : Showing) where
     fits = tt;
     there = tt;
     accepted = tt;
+    firm = tt;
   }

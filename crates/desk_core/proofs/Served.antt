@@ -17,7 +17,7 @@ use Rattle.desk_core.specs.Steps.{Request, site_of, decided, stepped}
 use Rattle.desk_core.specs.Fitting.{FitsRequest}
 use Rattle.desk_core.specs.Soundness.{IsSound, made}
 use Rattle.desk_core.specs.Runs.{Fails, Answers}
-use Rattle.desk_core.specs.Serving.{Stands, IsAccepted, Decides, Commits, TurnsBy, OthersStay, Serves}
+use Rattle.desk_core.specs.Serving.{Stands, IsAccepted, IsJudged, IsFirm, IsDone, Decides, Commits, TurnsBy, OthersStay, Serves}
 use Rattle.desk_core.proofs.Views.{changes_seen}
 use Rattle.desk_core.proofs.Keeping.{keeps_sound}
 use Rattle.desk_core.proofs.Deciding.{brought}
@@ -92,6 +92,7 @@ module _ (book : Book) (request : Request) where
         );
     others = λ s t was is sound n other. ap (kept_site n) (sym (same_tables s t old was (decides.reads.stays t is)));
     refused = λ _ _. decides.reads.stays;
+    changed = λ s t was is. inl (sym (same_tables s t old was (decides.reads.stays t is)));
     never_falls = decides.reads.never_falls;
     failed = λ fault. let same : r ≡ refusal.KeeperFault = cc in decides.reads.failed (ap Err same);
   }
@@ -142,12 +143,38 @@ module _ (book : Book) (request : Request) where
   others_by old mid new before at now d reply decides (inr is) s t was told sound n other =
       ap (kept_site n) (sym (same_tables s t old was (decides.reads.stays t (is.1 t told))))
 
+  -- whether the tables are sound or not
+  changed_by : (old mid new : Option Tables) (at now : ℕ) (d : Decided) (reply : Reply) → Stays old mid → IsFirm book request mid d → Ends d mid new at now reply
+      → (s t : Tables) → old ≡ Some s → new ≡ Some t → (t ≡ s) ⊎ (IsJudged reply ⊎ IsDone book request reply s t)
+  changed_by old mid new at now d reply stays firm (inr is) s t was told = inl (sym (same_tables s t old was (stays t (is.1 t told))))
+  changed_by old mid new at now d reply stays firm (inl is) s t was told = of firm
+    where
+      from : (m : Tables) × (mid ≡ Some m) × (t ≡ made d.change m)
+      from = turned d.change mid new is.1 t told
+
+      same : s ≡ from.0
+      same = same_tables s from.0 old was (stays from.0 from.1)
+
+      of : IsFirm book request mid d → (t ≡ s) ⊎ (IsJudged reply ⊎ IsDone book request reply s t)
+      of (inl none) = inl (from.2 ∙ (ap (λ (c : Option Change). made c from.0) none ∙ sym same))
+      of (inr (inl judged)) = inr (inl (subst IsJudged (sym is.0) judged))
+      of (inr (inr decides)) =
+          inr
+          (inr
+          (record {
+            d = d;
+            is_decided = ap (λ (m : Tables). decided book request (state_of m)) same ∙ decides from.0 from.1;
+            answered = is.0;
+            became = from.2 ∙ ap (λ (m : Tables). made d.change m) (sym same);
+          }))
+
   pub serves_decided : (old mid new : Option Tables) (before at now : ℕ) (d : Decided) (reply : Reply) → FitsRequest book request → Decides book request old mid before at (Ok d)
       → Commits d mid new at now reply → Serves book request old new before now reply
   serves_decided old mid new before at now d reply fits decides commits = record {
     told = served_by old mid new before at now d reply fits decides decides.reads.never_falls commits.made;
     others = others_by old mid new before at now d reply decides commits.made;
     refused = λ r is. stays_by old mid new at now d reply r is decides.accepted decides.reads.stays commits.made;
+    changed = changed_by old mid new at now d reply decides.reads.stays decides.firm commits.made;
     never_falls = omega (arith, decides.reads.never_falls, commits.never_falls);
     failed = failed_by before at now d mid new reply decides.reads.never_falls decides.accepted commits.made;
   }

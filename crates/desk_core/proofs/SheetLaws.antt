@@ -1,5 +1,5 @@
 -- What is decided on reading a site's pages: all of them are read, and what is shown of them is true where the tables are sound.
-use Rattle.std.proofs.Common.{◌≡◌, ℕ, List, [], ◌∷◌, map, Option, Some, None, option_map, IsSome, Result, Ok, Err, IfSome, refl, sym, ap, subst, ◌∙◌}
+use Rattle.std.proofs.Common.{◌≡◌, ℕ, List, [], ◌∷◌, map, Option, Some, None, option_map, IsSome, Result, Ok, Err, IfSome, inl, refl, sym, ap, subst, ◌∙◌}
 use Rattle.std.specs.List.{All}
 use Rattle.std.proofs.lemmas.List.Elements.{All-nil, All-cons, All-head, All-tail}
 use Rattle.named_rows.specs.ByName.{IsInOrder}
@@ -129,6 +129,7 @@ module _ (book : Book) (caller site : List ℕ) (asked : SheetForm) (old new : O
     fits = let P : Decided → Type 0 = λ e. IfSome e.change Fits in subst P (sym same) tt;
     there = let P : Decided → Type 0 = λ e. IfSome e.change (λ change. IfSome new (IsThere change)) in subst P (sym same) tt;
     accepted = let P : Decided → Type 0 = λ e. IsAccepted e.reply in subst P (sym same) (sheet_accepted asked shown);
+    firm = inl (ap (λ (e : Decided). e.change) same);
   }
 
   pub decides_no_sheet : (r : Refusal) → ReadsSheet book caller site old new before now (Err r)
@@ -139,4 +140,5 @@ module _ (book : Book) (caller site : List ℕ) (asked : SheetForm) (old new : O
     fits = tt;
     there = tt;
     accepted = tt;
+    firm = tt;
   }

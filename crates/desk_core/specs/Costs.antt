@@ -1,5 +1,5 @@
 -- How many judgings a request may cost: those of the pages that it audits.
-use Rattle.std.specs.Prelude.{◌≡◌, ℕ, ◌+◌, ◌≤◌, List, sum_by, Option, Some, None, Result, Ok, Err}
+use Rattle.std.specs.Prelude.{◌≡◌, ℕ, ◌+◌, ◌≤◌, List, sum_by, drop, Option, Some, None, Result, Ok, Err}
 use Rattle.std.specs.Option.{option_map_or}
 use Rattle.snap_tree.specs.declared.row.Raw.{Raw}
 use Rattle.snap_tree.specs.Trees.{Trees, Document, with_trees}
@@ -45,6 +45,10 @@ command_judgings book (command.Import site entries) kept = import_judgings book 
 command_judgings book (command.EditPage site page rev edits) kept = at_page page kept (edit_judgings book edits)
 command_judgings book other kept = 0
 
+abbrev pub IsImport : Command → Type 0
+IsImport (command.Import site entries) = Unit {0}
+IsImport other = ⊥
+
 abbrev pub IsEdit : Command → Type 0
 IsEdit (command.EditPage site page rev edits) = Unit {0}
 IsEdit other = ⊥
@@ -54,3 +58,7 @@ IsEdit other = ⊥
 pub record Costs (book : Book) (command : Command) (old new : Option Tables) (from to : ℕ) : Type 0 where
   pub told : (s t : Tables) → old ≡ Some s → new ≡ Some t → to ≤ from + command_judgings book command (site_at (site_of command) (state_of s))
   pub untold : (IsEdit command → ⊥) → to ≤ from + command_judgings book command None
+
+-- every command but an import uses the first book alone: the others stay as they were
+abbrev pub UsesFirst : {B : Type 0} → Command → List B → List B → Type 0
+UsesFirst command old new = (IsImport command → ⊥) → drop 1 new ≡ drop 1 old

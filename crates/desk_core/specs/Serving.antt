@@ -18,13 +18,14 @@ use Rattle.desk_core.specs.declared.look.Survey.{Survey}
 use Rattle.desk_core.specs.declared.refusal.Refusal.{Refusal}
 use Rattle.desk_core.specs.declared.refusal.Refusal.TheVariants.{NotAllowed, KeeperFault, OutOfMemory}
 use Rattle.desk_core.specs.declared.reply.Reply.{Reply}
-use Rattle.desk_core.specs.declared.reply.Reply.TheVariants.{Refused}
+use Rattle.desk_core.specs.declared.reply.Reply.TheVariants.{Judged, Refused}
 use Rattle.desk_core.specs.Refusals.{Decision}
 use Rattle.desk_core.specs.State.{PageState, SiteState, page_state, state_of, site_at}
 use Rattle.desk_core.specs.Rights.{may, role_of, entering, on_page}
 use Rattle.desk_core.specs.Steps as steps
 use Rattle.desk_core.specs.Steps.{Request, read_page, decided}
 use Rattle.desk_core.specs.Reading.{answered, site_page}
+use Rattle.desk_core.specs.Soundness as soundness
 use Rattle.desk_core.specs.Soundness.{IsSound}
 use Rattle.desk_core.specs.Runs.{Fails, Answers}
 
@@ -46,6 +47,19 @@ IsAccepted other = Unit {0}
 
 abbrev pub Accepts : Result Decided Refusal → Type 0
 Accepts result = IfOk result (λ d. IsAccepted d.reply)
+
+-- the reply to a judgement, and an answer that has no other
+abbrev pub IsJudged : Reply → Type 0
+IsJudged (Judged rule node outcome) = Unit {0}
+IsJudged other = ⊥
+
+abbrev pub Judges : Result Decided Refusal → Type 0
+Judges result = IfOk result (λ d. IsJudged d.reply)
+
+-- What is decided of tables, sound or not: no change, or a judgement, or what the definition decides of them.
+abbrev pub IsFirm : Book → Request → Option Tables → Decided → Type 0
+IsFirm book request tables d =
+    (d.change ≡ None) ⊎ (IsJudged d.reply ⊎ ((t : Tables) → tables ≡ Some t → decided book request (state_of t) ≡ Ok d))
 
 -- tables are only read, and a keeper's fault is one that was counted
 pub record OnlyReads {A : Type 0} (old new : Option Tables) (before now : ℕ) (result : Result A Refusal) : Type 0 where
@@ -138,19 +152,28 @@ pub record Decides (book : Book) (request : Request) (old new : Option Tables) (
   pub fits : IfOk result (λ d. IfSome d.change Fits)
   pub there : IfOk result (λ d. IfSome d.change (λ change. IfSome new (IsThere change)))
   pub accepted : Accepts result
+  pub firm : IfOk result (IsFirm book request new)
 
 -- the rows of all sites but one stay
 abbrev pub OthersStay : List ℕ → Tables → Tables → Type 0
 OthersStay site old new = (n : List ℕ) → (n ≡ site → ⊥) → kept_site n new ≡ kept_site n old
 
--- a request is served: where the tables that are told were sound, they are sound, the reply is the machine's, and the rows of all
--- other sites stay. Sound or not, a request that is refused leaves the tables; and whether they are told or not, the keeper's fault
--- is answered only where it was counted
+-- what the definition decides of these tables was made of them and answered
+pub record IsDone (book : Book) (request : Request) (reply : Reply) (s t : Tables) : Type 0 where
+  pub d : Decided
+  pub is_decided : decided book request (state_of s) ≡ Ok d
+  pub answered : reply ≡ d.reply
+  pub became : t ≡ soundness.made d.change s
+
+-- A request is served: where the tables that are told were sound, they are sound, the reply is the machine's, and the rows of all
+-- other sites stay. Sound or not, a request that is refused leaves the tables, and they change only by a judgement or by what the
+-- definition decides. Whether they are told or not, the keeper's fault is answered only where it was counted.
 pub record Serves (book : Book) (request : Request) (old new : Option Tables) (before now : ℕ) (reply : Reply) : Type 0 where
   pub told :
       (t : Tables) → new ≡ Some t → (s : Tables) × (old ≡ Some s) × (IsSound book s → IsSound book t × Answers book (state_of s) request reply (state_of t) before now)
   pub others : (s t : Tables) → old ≡ Some s → new ≡ Some t → IsSound book s → OthersStay (steps.site_of request.command) s t
   pub refused : (refusal : Refusal) → reply ≡ Refused refusal → Stays old new
+  pub changed : (s t : Tables) → old ≡ Some s → new ≡ Some t → (t ≡ s) ⊎ (IsJudged reply ⊎ IsDone book request reply s t)
   pub never_falls : before ≤ now
   pub failed : reply ≡ Refused KeeperFault → Rose before now
 

@@ -1,4 +1,4 @@
-ghost use Rattle.std.specs.Prelude.{◌≡◌, ◌+◌, ◌<◌, ◌≤◌, length, sum_by, true, Some, Ok, IsTrue, IfOk, IfErr};
+ghost use Rattle.std.specs.Prelude.{◌≡◌, ◌+◌, ◌<◌, ◌≤◌, drop, length, sum_by, true, Some, Ok, IsTrue, IfOk, IfErr};
 ghost use Rattle.snap_tree.specs.Trees.{Document, with_trees};
 ghost use Rattle.snap_edit.specs.Edits.{edited_all};
 ghost use Rattle.keep_core.specs.Names.{is_name};
@@ -54,6 +54,7 @@ fn edit_there<B: RuleBook>(
         site.now kept.now) }
     ensures counted { sum_by B.calls books.new ≤ sum_by B.calls books.old
         + edit_judgings (record { infos = B.infos; means = B.means }) edits.now kept.now }
+    ensures others { drop 1 books.new ≡ drop 1 books.old }
 {
     match edit_tree(alloc, &kept.page.tree, edits) {
         Ok(tree) => {
@@ -80,6 +81,7 @@ fn decide<B: RuleBook>(
         site.now kept.now) }
     ensures counted { sum_by B.calls books.new ≤ sum_by B.calls books.old
         + edit_judgings (record { infos = B.infos; means = B.means }) edits.now kept.now }
+    ensures others { drop 1 books.new ≡ drop 1 books.old }
 {
     if !has_revision(site.counter) {
         return Err(Refusal::PageLimit {
@@ -114,6 +116,7 @@ pub fn edit_page<K: Keeper, B: RuleBook>(
     ensures counted { (t : Tables) → K.tables keeper.new ≡ Some t → sum_by B.calls books.new ≤ sum_by B.calls books.old
         + command_judgings (record { infos = B.infos; means = B.means }) (EditPage sent.site sent.page sent.rev edits)
         (site_at sent.site (state_of t)) }
+    ensures others { drop 1 books.new ≡ drop 1 books.old }
 {
     match find(
         alloc,

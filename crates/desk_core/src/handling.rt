@@ -1,5 +1,5 @@
 ghost use Rattle.std.specs.Prelude.{◌<◌, length, sum_by};
-ghost use Rattle.desk_core.specs.Costs.{Costs};
+ghost use Rattle.desk_core.specs.Costs.{Costs, UsesFirst};
 ghost use Rattle.desk_core.specs.Fitting.{FitsRequest};
 ghost use Rattle.desk_core.specs.Serving.{Decides, Serves};
 
@@ -31,11 +31,13 @@ use std::thread::Threads;
 /// Where the keeper tells its tables and they were sound, they are sound afterwards, the reply and the
 /// change are the machine's, and the rows of all other sites stay. Or the request fails: with `KeeperFault`,
 /// where the keeper's count of faults rose in this request, which holds of tables that aren't told too, or
-/// with `OutOfMemory`. Whatever it is refused with, the tables stay, sound or not.
+/// with `OutOfMemory`. Whatever it is refused with, the tables stay, sound or not; and sound or not they change
+/// only by a judgement or by what the machine decides.
 ///
 /// The books judge at most: where rows make trees, each atomic rule on each node of a page that is put or
 /// imported, accepted or not; of an edited page the same, where the edits can be carried out; and for every
-/// other request nothing. What an edited page costs is said where the tables are told.
+/// other request nothing. What an edited page costs is said where the tables are told. Only an import uses
+/// other books than the first.
 pub fn handle<R: Threads + Sync, K: Keeper, B: RuleBook + Send>(
     rt: &R,
     alloc: Global,
@@ -50,6 +52,7 @@ pub fn handle<R: Threads + Sync, K: Keeper, B: RuleBook + Send>(
         (K.tables keeper.old) (K.tables keeper.new) (K.faults keeper.old) (K.faults keeper.new) result }
     ensures counted { Costs (record { infos = B.infos; means = B.means }) command
         (K.tables keeper.old) (K.tables keeper.new) (sum_by B.calls books.old) (sum_by B.calls books.new) }
+    ensures others { UsesFirst command books.old books.new }
 {
     match decide(rt, alloc, books, keeper, caller, command) {
         Ok(decided) => commit(alloc, keeper, decided),
@@ -73,6 +76,7 @@ fn decide<R: Threads + Sync, K: Keeper, B: RuleBook + Send>(
         (K.tables keeper.old) (K.tables keeper.new) (K.faults keeper.old) (K.faults keeper.new) result }
     ensures counted { Costs (record { infos = B.infos; means = B.means }) command
         (K.tables keeper.old) (K.tables keeper.new) (sum_by B.calls books.old) (sum_by B.calls books.new) }
+    ensures others { UsesFirst command books.old books.new }
 {
     match command {
         Command::PutSite { site } => put_site(alloc, keeper, caller, site),

@@ -12,7 +12,7 @@ ghost use Rattle.desk_core.specs.declared.refusal.Refusal.TheVariants.{KeeperFau
 ghost use Rattle.desk_core.specs.Refusals.{Decision};
 ghost use Rattle.desk_core.specs.Judging.{is_latest, added, judged_row, judge, AddsTo};
 ghost use Rattle.desk_core.specs.State.{PageState, page_state};
-ghost use Rattle.desk_core.specs.Serving.{Accepts, Agrees, Decides, IsTrueTo, Stands};
+ghost use Rattle.desk_core.specs.Serving.{Accepts, Agrees, Decides, IsTrueTo, Judges, Stands};
 
 use crate::decided::Decided;
 use crate::look::find_kept;
@@ -74,6 +74,7 @@ fn decide<B: RuleBook>(
     ensures no_fault { IsErrOf result KeeperFault → ⊥ }
     ensures adds { IfOk result (λ d. IfSome d.change (AddsTo site page)) }
     ensures accepted { Accepts result }
+    ensures judges { Judges result }
 {
     let row = judged_row(&kept.outcomes, &said, caller, &kept.page.head.hand)?;
     let judgement = judgement_of(alloc, caller, said, row)?;
@@ -167,6 +168,7 @@ fn added<B: RuleBook>(
     ensures no_fault { IsErrOf result KeeperFault → ⊥ }
     ensures adds { IfOk result (λ d. IfSome d.change (AddsTo site page)) }
     ensures accepted { Accepts result }
+    ensures judges { Judges result }
 {
     let reply = Reply::Judged {
         rule: judgement.rule,

@@ -1,4 +1,4 @@
-ghost use Rattle.std.specs.Prelude.{◌≡◌, ◌+◌, ◌<◌, ◌≤◌, length, sum_by, true, None, IsTrue, IfOk, IfErr};
+ghost use Rattle.std.specs.Prelude.{◌≡◌, ◌+◌, ◌<◌, ◌≤◌, drop, length, sum_by, true, None, IsTrue, IfOk, IfErr};
 ghost use Rattle.snap_tree.specs.Trees.{Document};
 ghost use Rattle.snap_tree.specs.Grown.{page_of};
 ghost use Rattle.snap_tree.specs.Faults.{tree_fault};
@@ -65,6 +65,7 @@ pub fn renewed<B: RuleBook>(
         (renewed (record { infos = B.infos; means = B.means }) sent.site caller.now sent.page counter js.now tree) }
     ensures counted { sum_by B.calls books.new
         ≤ sum_by B.calls books.old + judgings (record { infos = B.infos; means = B.means }) tree }
+    ensures others { drop 1 books.new ≡ drop 1 books.old }
 {
     let put = page_put(alloc, books, sent.page, counter + 1, caller, tree, js)?;
     storing(alloc, &books[0], sent.site, put)
@@ -144,6 +145,7 @@ fn put_there<B: RuleBook>(
         survey.now.site survey.now.kept survey.now.pages) }
     ensures counted { sum_by B.calls books.new ≤ sum_by B.calls books.old
         + put_judgings (record { infos = B.infos; means = B.means }) raw }
+    ensures others { drop 1 books.new ≡ drop 1 books.old }
 {
     match build(alloc, None, raw) {
         Ok(tree) => {
@@ -169,6 +171,7 @@ fn decide<B: RuleBook>(
         survey.now.site survey.now.kept survey.now.pages) }
     ensures counted { sum_by B.calls books.new ≤ sum_by B.calls books.old
         + put_judgings (record { infos = B.infos; means = B.means }) raw }
+    ensures others { drop 1 books.new ≡ drop 1 books.old }
 {
     if !has_room(&survey.kept, survey.pages) {
         return Err(Refusal::PageLimit {
@@ -208,6 +211,7 @@ pub fn put_page<K: Keeper, B: RuleBook>(
         (K.tables keeper.old) (K.tables keeper.new) (K.faults keeper.old) (K.faults keeper.new) result }
     ensures counted { sum_by B.calls books.new ≤ sum_by B.calls books.old
         + put_judgings (record { infos = B.infos; means = B.means }) raw }
+    ensures others { drop 1 books.new ≡ drop 1 books.old }
 {
     match survey_site(alloc, keeper, caller, &sent.site, &sent.page) {
         Ok(survey) => decide(alloc, books, caller, sent, raw, &survey),

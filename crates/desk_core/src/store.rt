@@ -1,4 +1,4 @@
-ghost use Rattle.std.specs.Prelude.{◌≡◌, ◌+◌, ◌<◌, ◌≤◌, length, sum_by, IfOk};
+ghost use Rattle.std.specs.Prelude.{◌≡◌, ◌+◌, ◌<◌, ◌≤◌, drop, length, sum_by, IfOk};
 ghost use Rattle.judge_core.specs.Outcomes.{outcomes, judgings};
 ghost use Rattle.desk_core.specs.Pages.{page_put, stored};
 
@@ -23,6 +23,7 @@ pub fn audit_by_first<B: RuleBook>(
         (λ o. o.rows ≡ outcomes (record { infos = B.infos; means = B.means }) tree.now js.now) }
     ensures counted { sum_by B.calls books.new
         ≤ sum_by B.calls books.old + judgings (record { infos = B.infos; means = B.means }) tree.now }
+    ensures others { drop 1 books.new ≡ drop 1 books.old }
 {
     audit_page(alloc, &mut books[0], tree, js)
 }
@@ -42,6 +43,7 @@ pub fn page_put<B: RuleBook>(
         put ≡ page_put (record { infos = B.infos; means = B.means }) page rev hand.now tree js.now) }
     ensures counted { sum_by B.calls books.new
         ≤ sum_by B.calls books.old + judgings (record { infos = B.infos; means = B.means }) tree }
+    ensures others { drop 1 books.new ≡ drop 1 books.old }
 {
     let outcomes = audit_by_first(alloc, books, &tree, js)?;
     let hand = hand.copy(alloc)?;

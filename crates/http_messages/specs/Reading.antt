@@ -34,10 +34,16 @@ abbrev pub ReadsOrLoses : {A : Type 0} → (A → List ℕ → List ℕ → Type
 ReadsOrLoses P held now_held old new (Ok a) = Moves (P a) held now_held old new
 ReadsOrLoses P held now_held old new (Err e) = Moves (λ before now. Unit {0}) held now_held old new
 
--- the count of faults never falls, and rose where a read failed
+-- the count of faults is as it was, but where a read failed
+abbrev pub Keeps : {A : Type 0} → ℕ → ℕ → Result A ReadFault → Type 0
+Keeps before now (Err Failed) = Unit {0}
+Keeps before now other = now ≡ before
+
+-- the count of faults never falls, rose where a read failed, and is as it was in any other case
 pub record Counted {A : Type 0} (before now : ℕ) (result : Result A ReadFault) : Type 0 where
   pub never_falls : before ≤ now
   pub rose : result ≡ Err Failed → Rose before now
+  pub same : Keeps before now result
 
 -- What reading uses up: each read that is still allowed may bring a piece, and each byte that is held may be
 -- used.

@@ -1,6 +1,6 @@
 -- What a link tells of its bytes, and what reads and writes do to it. Links in memory tell theirs, and no
 -- real connection does. So each word goes from after a call to before it: what is told then was told.
-use Rattle.std.specs.Prelude.{◌≡◌, ◌==◌, ℕ, ◌+◌, ◌<◌, ◌≤◌, List, [], ◌++◌, take, if◌then◌else◌, Option, Some, Result, Ok, Err, OnErr}
+use Rattle.std.specs.Prelude.{◌≡◌, ◌==◌, ℕ, ◌+◌, ◌<◌, ◌≤◌, List, [], ◌++◌, take, if◌then◌else◌, Option, Some, Result, Ok, Err, OnOk, OnErr}
 use Rattle.counts.specs.Counts.{Rose}
 use Rattle.links.specs.declared.failed.Failed.{Failed}
 
@@ -51,10 +51,11 @@ abbrev pub Written : List ℕ → Option Wire → Option Wire → Result ℕ Fai
 Written piece old new (Ok n) = Wrote (take n piece) old new
 Written piece old new (Err e) = Was (λ w. w) old new
 
--- Faults are counted: the count never falls, and a call fails only where it rose in that call.
+-- Faults are counted: the count never falls, a call fails only where it rose in that call, and one that doesn't fail leaves it.
 pub record Counts {A : Type 0} (before now : ℕ) (result : Result A Failed) : Type 0 where
   pub never_falls : before ≤ now
   pub rose : OnErr result (Rose before now)
+  pub same : OnOk result (now ≡ before)
 
 -- nothing is read or written yet, and no fault was met
 pub record IsUntouched (wire : Option Wire) (faults : ℕ) : Type 0 where

@@ -12,8 +12,8 @@ pub struct Heard {
     pub count: u64,
 }
 
-/// Where connections come in. A door in memory tells its log, the links that `done` got, and a real one
-/// doesn't.
+/// Where connections come in. Its count of faults never falls, and rises only in a call that fails. A door in
+/// memory tells its log, the links that `done` got, and a real one doesn't.
 pub trait Door {
     /// The connections that it gives.
     type Conn: Link;

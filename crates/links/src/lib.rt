@@ -1,5 +1,6 @@
 //! The outside of a server: links, over which bytes come and go, and doors, through which links come.
-//! Each counts its faults, and fails only where it counted one in that call. Start with `Link`;
+//! Each counts its faults: a call fails only where it counted one, and one that doesn't fail counts none. Start
+//! with `Link`;
 //! `MemLink` and `MemDoor` are the ones in memory, whose contracts are exact.
 #![tactic(auto)]
 

@@ -3,8 +3,8 @@ ghost use Rattle.links.specs.Wires.{Wire, EndsAlike, Read, Allows, Written, Coun
 
 use crate::failed::Failed;
 
-/// A connection to one peer. How many reads it still allows, and its count of faults, which never falls,
-/// are always told; its bytes only by a link in memory.
+/// A connection to one peer. How many reads it still allows, and its count of faults, which never falls and
+/// rises only in a call that fails, are always told; its bytes only by a link in memory.
 pub trait Link {
     /// All that it gives, what of that is left, and all that was written, where it tells them.
     ghost wire: { Self → Option Wire };
@@ -16,7 +16,8 @@ pub trait Link {
     ghost faults: { Self → ℕ };
 
     /// Reads into the front of a buffer that isn't empty. Gives how many bytes, which is 0 at the end.
-    /// `Failed` comes only where the link met a fault, as at each read when none is still allowed.
+    /// `Failed` comes only where the link met a fault, as at each read when none is still allowed; a read
+    /// that doesn't fail leaves the count of faults.
     fn read(&mut self, buf: &mut [u8]) -> Result<usize, Failed>
         requires { 0 < length buf.old }
         ensures read { Read buf.new (wire self.old) (wire self.new) result }
@@ -25,7 +26,7 @@ pub trait Link {
         ensures counts { Counts (faults self.old) (faults self.new) result };
 
     /// Writes the front of a piece that isn't empty. Gives how many bytes it took, 1 or more. `Failed`
-    /// comes only where the link met a fault.
+    /// comes only where the link met a fault; a write that doesn't fail leaves the count of faults.
     fn write(&mut self, piece: &[u8]) -> Result<usize, Failed>
         requires { 0 < length piece.now }
         ensures written { Written piece.now (wire self.old) (wire self.new) result }

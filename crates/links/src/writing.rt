@@ -4,7 +4,8 @@ ghost use Rattle.links.specs.Wires.{Wrote, WroteFront, Counts};
 use crate::failed::Failed;
 use crate::link::Link;
 
-/// Writes all the bytes, or a front of them where the link fails. A link that failed isn't written again.
+/// Writes all the bytes, or a front of them where the link fails. A link that failed isn't written again, so
+/// where all is written its count of faults is as it was.
 pub fn write_all<L: Link>(link: &mut L, bytes: &[u8]) -> Result<(), Failed>
     ensures wrote { OnOk result (Wrote bytes.now (L.wire link.old) (L.wire link.new)) }
     ensures broke_off { OnErr result (WroteFront bytes.now (L.wire link.old) (L.wire link.new)) }

@@ -1,4 +1,4 @@
-use Rattle.desk_core.proofs.Arms.{fits_at, decides_at, costs_at}
+use Rattle.desk_core.proofs.Arms.{fits_at, decides_at, costs_at, import_at}
 use Rattle.desk_core.proofs.Costing.{costs_put, costs_import, costs_edit}
 use Rattle.desk_core.proofs.handling.decide.Goals as goal
 
@@ -55,6 +55,9 @@ import-requires-clause-entries g c = λ _. λ _. (fits_at c.in-Import.is c.requi
 
 pub returns-in-Import-clause-counted : goal.returns-in-Import-clause-counted
 returns-in-Import-clause-counted g c = costs_at c.in-Import.is (costs_import _ _ _ _ _ _ _ c.import.ensures.counted)
+
+pub returns-in-Import-clause-others : goal.returns-in-Import-clause-others
+returns-in-Import-clause-others g c = λ no. absurd (no (import_at c.in-Import.is))
 
 pub returns-in-EditPage-clause-decided : goal.returns-in-EditPage-clause-decided
 returns-in-EditPage-clause-decided g c = decides_at c.in-EditPage.is c.edit_page.ensures.decides

@@ -37,4 +37,5 @@ returns-in-Err-clause-decides g c = record {
   fits = tt;
   there = tt;
   accepted = tt;
+  firm = tt;
 }

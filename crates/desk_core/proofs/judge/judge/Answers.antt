@@ -7,7 +7,7 @@ returns-in-Ok g c =
     let book : Book = record { infos = g.B.RuleBook.infos; means = g.B.RuleBook.means } in
     let a = c.args in
     decides_judge book a.site a.caller.now a.page a.said.rule a.said.node a.said.verdict a.said.digest a.said.note _ _ _ _ c.in-Ok.kept c.decide.result
-    c.requires.site c.requires.page c.in-Ok.ensures c.decide.ensures.agrees c.decide.ensures.no_fault c.decide.ensures.adds c.decide.ensures.accepted
+    c.requires.site c.requires.page c.in-Ok.ensures c.decide.ensures.agrees c.decide.ensures.no_fault c.decide.ensures.adds c.decide.ensures.accepted c.decide.ensures.judges
 
 pub returns-in-Err : goal.returns-in-Err
 returns-in-Err g c =

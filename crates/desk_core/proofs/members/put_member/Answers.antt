@@ -30,4 +30,5 @@ returns-in-Err g c =
       fits = tt;
       there = tt;
       accepted = tt;
+      firm = tt;
     }

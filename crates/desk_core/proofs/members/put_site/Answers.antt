@@ -30,4 +30,5 @@ returns-in-Some g c =
       fits = tt;
       there = tt;
       accepted = tt;
+      firm = tt;
     }

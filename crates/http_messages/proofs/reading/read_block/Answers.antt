@@ -42,5 +42,5 @@ loop-n-preserved g c =
       start = omega (arith, resumes.1);
       may_start = subst Q (sym same_start) resumes.0;
       weight = omega (arith, i.weight, now.weight);
-      never_falls = omega (arith, i.never_falls, now.counted.never_falls);
+      faults = now.counted.same ∙ i.faults;
     }

@@ -1,4 +1,4 @@
-use Rattle.std.proofs.Common.{◌≤◌, length}
+use Rattle.std.proofs.Common.{◌≡◌, ◌≤◌, length}
 use Rattle.http_messages.specs.Blocks.{window, MayStart}
 use Rattle.http_messages.specs.Reading.{Moves, Same, weight}
 use Rattle.http_messages.proofs.reading.read_block.Given as goal
@@ -11,7 +11,7 @@ invariant-loop-n g l =
       start : l.start ≤ length (window l.held.items);
       may_start : MayStart l.start (window l.held.items);
       weight : weight (link.reads l.link) l.held.items ≤ weight (link.reads l.initial.link) l.initial.held.items;
-      never_falls : link.faults l.initial.link ≤ link.faults l.link;
+      faults : link.faults l.link ≡ link.faults l.initial.link;
     }
 
 abbrev pub decreases-loop-n : goal.decreases-loop-n

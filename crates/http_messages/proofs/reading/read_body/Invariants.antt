@@ -1,4 +1,4 @@
-use Rattle.std.proofs.Common.{◌≤◌}
+use Rattle.std.proofs.Common.{◌≡◌, ◌≤◌}
 use Rattle.http_messages.specs.Reading.{Moves, Same, weight}
 use Rattle.http_messages.proofs.reading.read_body.Given as goal
 
@@ -8,7 +8,7 @@ invariant-loop-link g l =
     record {
       same : Moves Same l.initial.held.items l.held.items (link.wire l.initial.link) (link.wire l.link);
       weight : weight (link.reads l.link) l.held.items ≤ weight (link.reads l.initial.link) l.initial.held.items;
-      never_falls : link.faults l.initial.link ≤ link.faults l.link;
+      faults : link.faults l.link ≡ link.faults l.initial.link;
     }
 
 abbrev pub decreases-loop-link : goal.decreases-loop-link

@@ -10,5 +10,5 @@ loop-at-preserved g c =
       within = omega (arith, now.within, c.split_at.ensures.back_len);
       wrote = wrote_more _ _ _ c.args.bytes.now _ c.loop-at.at c.in_ok-n.n i.wrote c.split_at.ensures.back now.written;
       kept = now.kept ∙ i.kept;
-      never_falls = omega (arith, i.never_falls, now.counts.never_falls);
+      same = now.counts.same ∙ i.same;
     }

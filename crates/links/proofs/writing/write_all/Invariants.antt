@@ -11,7 +11,7 @@ invariant-loop-at g l =
       within : l.at ≤ length l.bytes;
       wrote : Wrote (take l.at l.bytes) (wire l.initial.link) (wire l.link);
       kept : reads l.link ≡ reads l.initial.link;
-      never_falls : faults l.initial.link ≤ faults l.link;
+      same : faults l.link ≡ faults l.initial.link;
     }
 
 abbrev pub decreases-loop-at : goal.decreases-loop-at

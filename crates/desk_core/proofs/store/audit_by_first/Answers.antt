@@ -1,0 +1,6 @@
+use Rattle.std.proofs.Common.{arith}
+use Rattle.std.proofs.lemmas.List.{drop-set-lt}
+use Rattle.desk_core.proofs.store.audit_by_first.Goals as goal
+
+pub returns-clause-others : goal.returns-clause-others
+returns-clause-others g c = drop-set-lt 1 c.args.books.now 0 _ (omega arith)
