@@ -15,41 +15,72 @@ use Rattle.http_replies.specs.declared.answer.Answer.{Answer}
 use Rattle.http_replies.specs.declared.answer.Answer.TheVariants.{Misread, Misasked, Replied}
 use Rattle.http_replies.specs.Refusals as refused
 use Rattle.http_replies.specs.Refusals.{refusal_data, head_data, request_data}
-use Rattle.http_replies.specs.Made.{is_made, made_text}
+use Rattle.http_replies.specs.Made.{site_text, member_text, stored_text, dropped_text, imported_text, judged_text, is_made}
 use Rattle.http_replies.specs.declared.made.TheConstants.{MOST_BODY}
 use Rattle.http_replies.specs.Shown.{page_text, outcomes_data}
 
--- The status code of a reply: 201 where a site was made. No route leads to the replies of the last lines yet.
+-- The status code of a reply: 201 where a site was made. No route leads to the replies of the last five lines yet.
 abbrev pub reply_status : Reply → ℕ
 reply_status (reply.Site site) = 201
+reply_status (reply.Member user held) = 200
+reply_status (reply.Stored s) = 200
+reply_status (reply.Page p) = 200
+reply_status (reply.Dropped page) = 200
+reply_status (reply.Imported pages) = 200
+reply_status (reply.Judged rule node outcome) = 200
+reply_status (reply.Outcomes p) = 200
+reply_status (reply.Report p) = 200
 reply_status (reply.Refused r) = refused.status r
 reply_status (reply.Earl p) = 507
 reply_status (reply.Names t) = 507
 reply_status (reply.SiteReport s) = 507
 reply_status (reply.SiteEarl s) = 507
 reply_status (reply.SiteCsv s) = 507
-reply_status other = 200
 
 abbrev pub status : Answer → ℕ
 status (Misread fault) = head.status fault
 status (Misasked fault) = request.status fault
 status (Replied r) = reply_status r
 
+-- what the body of a reply is: a text where it is a report
+abbrev pub reply_kind : Reply → Kind
+reply_kind (reply.Report p) = kind.Text
+reply_kind (reply.Site site) = kind.Json
+reply_kind (reply.Member user held) = kind.Json
+reply_kind (reply.Stored s) = kind.Json
+reply_kind (reply.Page p) = kind.Json
+reply_kind (reply.Dropped page) = kind.Json
+reply_kind (reply.Imported pages) = kind.Json
+reply_kind (reply.Judged rule node outcome) = kind.Json
+reply_kind (reply.Outcomes p) = kind.Json
+reply_kind (reply.Refused r) = kind.Json
+reply_kind (reply.Earl p) = kind.Json
+reply_kind (reply.Names t) = kind.Json
+reply_kind (reply.SiteReport s) = kind.Json
+reply_kind (reply.SiteEarl s) = kind.Json
+reply_kind (reply.SiteCsv s) = kind.Json
+
 abbrev pub kind_of : Answer → Kind
-kind_of (Replied (reply.Report p)) = kind.Text
-kind_of other = kind.Json
+kind_of (Misread fault) = kind.Json
+kind_of (Misasked fault) = kind.Json
+kind_of (Replied r) = reply_kind r
 
 abbrev pub reply_body : List RuleInfo → Reply → List ℕ
-reply_body infos (reply.Refused r) = compact_text (refusal_data r)
+reply_body infos (reply.Site site) = site_text site
+reply_body infos (reply.Member user held) = member_text user held
+reply_body infos (reply.Stored s) = stored_text s
 reply_body infos (reply.Page p) = page_text p
+reply_body infos (reply.Dropped page) = dropped_text page
+reply_body infos (reply.Imported pages) = imported_text pages
+reply_body infos (reply.Judged rule node outcome) = judged_text infos rule node outcome
 reply_body infos (reply.Outcomes p) = compact_text (outcomes_data infos p)
 reply_body infos (reply.Report p) = text_report p.address infos p.outcomes.rows
+reply_body infos (reply.Refused r) = compact_text (refusal_data r)
 reply_body infos (reply.Earl p) = compact_text (refusal_data refusal.OutOfMemory)
 reply_body infos (reply.Names t) = compact_text (refusal_data refusal.OutOfMemory)
 reply_body infos (reply.SiteReport s) = compact_text (refusal_data refusal.OutOfMemory)
 reply_body infos (reply.SiteEarl s) = compact_text (refusal_data refusal.OutOfMemory)
 reply_body infos (reply.SiteCsv s) = compact_text (refusal_data refusal.OutOfMemory)
-reply_body infos made = made_text infos made
 
 abbrev pub body : List RuleInfo → Answer → List ℕ
 body infos (Misread fault) = compact_text (head_data fault)
@@ -66,8 +97,9 @@ no_memory = Replied (reply.Refused refusal.OutOfMemory)
 
 -- the answer is the reply to a change
 abbrev pub is_made_answer : Answer → Bool
+is_made_answer (Misread fault) = false
+is_made_answer (Misasked fault) = false
 is_made_answer (Replied r) = is_made r
-is_made_answer other = false
 
 -- a body was printed in this room, of which none was lost
 pub record HasRoom (room : ℕ) (body : List ℕ) (now_room : ℕ) : Type 0 where

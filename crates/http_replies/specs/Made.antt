@@ -61,7 +61,15 @@ made_text infos (reply.Stored s) = stored_text s
 made_text infos (reply.Dropped page) = dropped_text page
 made_text infos (reply.Imported pages) = imported_text pages
 made_text infos (reply.Judged rule node outcome) = judged_text infos rule node outcome
-made_text infos other = []
+made_text infos (reply.Page p) = []
+made_text infos (reply.Outcomes p) = []
+made_text infos (reply.Report p) = []
+made_text infos (reply.Earl p) = []
+made_text infos (reply.Names t) = []
+made_text infos (reply.SiteReport s) = []
+made_text infos (reply.SiteEarl s) = []
+made_text infos (reply.SiteCsv s) = []
+made_text infos (reply.Refused r) = []
 
 -- ---- the replies for which room is taken before the change is made
 
@@ -79,4 +87,12 @@ is_made (reply.Stored s) = is_short s.page
 is_made (reply.Dropped page) = is_short page
 is_made (reply.Imported pages) = are_few pages
 is_made (reply.Judged rule node outcome) = true
-is_made other = false
+is_made (reply.Page p) = false
+is_made (reply.Outcomes p) = false
+is_made (reply.Report p) = false
+is_made (reply.Earl p) = false
+is_made (reply.Names t) = false
+is_made (reply.SiteReport s) = false
+is_made (reply.SiteEarl s) = false
+is_made (reply.SiteCsv s) = false
+is_made (reply.Refused r) = false

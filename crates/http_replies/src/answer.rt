@@ -2,7 +2,7 @@ ghost use Rattle.std.specs.Prelude.{◌≡◌, ◌≤◌, length};
 ghost use Rattle.http.specs.StatusCode.{IsStatusCode};
 ghost use Rattle.reply_frames.specs.Frames.{phrase};
 ghost use Rattle.http_replies.specs.Refusals as refused;
-ghost use Rattle.http_replies.specs.Answers.{reply_status, status, kind_of};
+ghost use Rattle.http_replies.specs.Answers.{reply_status, status, reply_kind, kind_of};
 
 use desk_core::{Refusal, Reply};
 use http_messages::HeadFault;
@@ -46,9 +46,31 @@ impl Answer {
         ensures { result ≡ kind_of self.now }
     {
         match self {
-            Answer::Replied(Reply::Report(_)) => Kind::Text,
-            _ => Kind::Json,
+            Answer::Misread(_) | Answer::Misasked(_) => Kind::Json,
+            Answer::Replied(reply) => reply_kind(reply),
         }
+    }
+}
+
+fn reply_kind(reply: &Reply) -> Kind
+    ensures { result ≡ reply_kind reply.now }
+{
+    match reply {
+        Reply::Report(_) => Kind::Text,
+        Reply::Site { .. }
+        | Reply::Member { .. }
+        | Reply::Stored(_)
+        | Reply::Page(_)
+        | Reply::Dropped { .. }
+        | Reply::Imported { .. }
+        | Reply::Judged { .. }
+        | Reply::Outcomes(_)
+        | Reply::Earl(_)
+        | Reply::Names(_)
+        | Reply::SiteReport(_)
+        | Reply::SiteEarl(_)
+        | Reply::SiteCsv(_)
+        | Reply::Refused(_) => Kind::Json,
     }
 }
 

@@ -16,4 +16,4 @@ mod words;
 pub use answer::Answer;
 pub use constant::no_memory;
 pub use made::is_made;
-pub use printing::{MOST_REPLY, print};
+pub use printing::{MOST_REPLY, laws_of_limits, print};

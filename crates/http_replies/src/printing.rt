@@ -20,6 +20,14 @@ use text_reports::text_report;
 /// The room that is taken before a change is made: the reply to a change fits into it.
 pub const MOST_REPLY: usize = 32_768;
 
+/// The numbers of the limits. It does nothing: the clauses are what it is for.
+///
+/// The body of a reply to a change has at most 17,000 bytes, and a room of 32,768 is taken before.
+pub fn laws_of_limits()
+    ensures body { MOST_BODY ≡ 17_000 }
+    ensures room { MOST_REPLY ≡ 32_768 }
+{}
+
 /// Prints an answer, by the infos of the book. The reply to a change is printed into `room`, without taking
 /// memory where this has 32,768 bytes; so printing it never fails then. All else takes memory of its own,
 /// and fails for want of it. No route leads to EARL, to names and to the reports of a site yet: their
