@@ -12,6 +12,11 @@ use std::alloc::{AllocError, Global};
 /// The most connections that one `serve` takes.
 pub const MOST_CONNECTIONS: u64 = 1_000_000;
 
+/// The number of the limit. It does nothing: the clause is what it is for.
+pub fn laws_of_limits()
+    ensures connections { MOST_CONNECTIONS ≡ 1_000_000 }
+{}
+
 /// What the program can do.
 #[derive(Clone, Copy, Debug, PartialEq, Eq)]
 pub enum Command {

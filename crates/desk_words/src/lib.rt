@@ -4,7 +4,7 @@
 mod command;
 mod parsing;
 
-pub use command::{Command, MOST_CONNECTIONS, Serving, command_in};
+pub use command::{Command, MOST_CONNECTIONS, Serving, command_in, laws_of_limits};
 
 #[cfg(test)]
 mod tests;
