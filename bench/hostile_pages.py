@@ -73,6 +73,10 @@ def figures():
     return page
 
 
+def nested_selects():
+    return long_texts_in(["select", "option"], 120, 9_800, 100, [("selected", "")])
+
+
 def fieldsets():
     page, inner = begun()
     for _ in range(60):
@@ -334,7 +338,7 @@ PAGES = [
     (fieldsets, 2, "60 nested fieldsets with legends, 9,800 texts"),
     (labels, 2, "120 nested labels with inputs, 900 texts"),
     (details, 2, "60 nested details with summaries, 9,800 texts"),
-    (lambda: long_texts_in(["select", "option"], 120, 9_800, 100, [("selected", "")]), 2, "60 nested selects, 9,800 texts"),
+    (nested_selects, 2, "60 nested selects, 9,800 texts"),
     (lambda: long_texts_in(["ul", "li"], 120, 9_800, 100), 2, "60 nested lists, 9,800 texts"),
     (lambda: long_texts_in(["button"], 120, 9_800, 100), 2, "120 nested buttons, 9,800 texts"),
     (languages, 2, "120 nested elements of a language, blank texts"),
