@@ -1,7 +1,6 @@
 -- A door that is served link by link.
 use Rattle.std.proofs.Common.{◌≡◌, ℕ, List, [], ◌∷◌, ◌++◌, Option, Some, sym, ap, ◌∙◌, subst, append_assoc, append-nil, length-append, arith}
 use Rattle.std.proofs.lemmas.Grind.{flat_map-append}
-use Rattle.counts.specs.Counts.{Rose}
 use Rattle.links.specs.Wires.{Wire, IsUntouched}
 use Rattle.links.specs.Doors.{Doorway, Gave, TookBack, KeepsLog}
 use Rattle.rule_core.specs.declared.info.RuleInfo.{RuleInfo}
@@ -10,11 +9,10 @@ use Rattle.keep_core.specs.Tables.{Tables}
 use Rattle.http_messages.specs.declared.item.Item.{Item}
 use Rattle.http_replies.specs.declared.answer.Answer.{Answer}
 use Rattle.desk_http.specs.declared.link_end.LinkEnd.{LinkEnd}
-use Rattle.desk_http.specs.declared.link_end.LinkEnd.TheVariants.{LinkFault}
-use Rattle.desk_http.specs.Linking.{Finishes}
-use Rattle.desk_http.specs.Serving.{OfSound, Run, Serves, Ends}
+use Rattle.desk_http.specs.Linking.{Finishes, CountsFaults}
+use Rattle.desk_http.specs.Serving.{SettlesAll, Serves, Ends}
 use Rattle.desk_http.specs.Doors.{Visit, IsVisit, AreVisits, AreTold, all_items, all_said, ServesDoor, ServesOne}
-use Rattle.desk_http.proofs.Tables.{of_sound_join, run_join, run_none}
+use Rattle.desk_http.proofs.Tables.{settles_join, settles_none}
 
 -- ---- visits
 
@@ -35,24 +33,26 @@ items_more vs v = flat_map-append (λ (u : Visit). u.items) vs (v ∷ []) ∙ ap
 said_more : (vs : List Visit) (v : Visit) → all_said (vs ++ v ∷ []) ≡ all_said vs ++ v.said
 said_more vs v = flat_map-append (λ (u : Visit). u.said) vs (v ∷ []) ∙ ap (λ l. all_said vs ++ l) (append-nil v.said)
 
-run_visits : (book : Book) (vs : List Visit) (v : Visit) (f0 f1 f3 c0 c1 c3 : ℕ) (s m t : Tables) →
-    Run book (all_items vs) (all_said vs) f0 f1 c0 c1 s m → Run book v.items v.said f1 f3 c1 c3 m t → Run book (all_items (vs ++ v ∷ [])) (all_said (vs ++ v ∷ [])) f0 f3 c0 c3 s t
-run_visits book vs v f0 f1 f3 c0 c1 c3 s m t one two =
-    let P : List Item → Type 0 = λ l. Run book l (all_said (vs ++ v ∷ [])) f0 f3 c0 c3 s t in
-    let Q : List Answer → Type 0 = λ l. Run book (all_items vs ++ v.items) l f0 f3 c0 c3 s t in
-    subst P (sym (items_more vs v)) (subst Q (sym (said_more vs v)) (run_join book (all_items vs) v.items (all_said vs) v.said f0 f1 f3 c0 c1 c3 s m t one two))
+settles_visits : (book : Book) (vs : List Visit) (v : Visit) (f0 f1 f3 : ℕ) (c0 c1 c3 : List ℕ) (k0 k1 k3 : Option Tables) →
+    SettlesAll book (all_items vs) (all_said vs) k0 k1 f0 f1 c0 c1 → SettlesAll book v.items v.said k1 k3 f1 f3 c1 c3 →
+    SettlesAll book (all_items (vs ++ v ∷ [])) (all_said (vs ++ v ∷ [])) k0 k3 f0 f3 c0 c3
+settles_visits book vs v f0 f1 f3 c0 c1 c3 k0 k1 k3 one two =
+    let P : List Item → Type 0 = λ l. SettlesAll book l (all_said (vs ++ v ∷ [])) k0 k3 f0 f3 c0 c3 in
+    let Q : List Answer → Type 0 = λ l. SettlesAll book (all_items vs ++ v.items) l k0 k3 f0 f3 c0 c3 in
+    subst P (sym (items_more vs v))
+    (subst Q (sym (said_more vs v)) (settles_join book (all_items vs) v.items (all_said vs) v.said f0 f1 f3 c0 c1 c3 k0 k1 k3 one two))
 
 -- ---- the door
 
 -- nothing was served yet
-pub door_none : {C : Type 0} (book : Book) (wire : C → Option Wire) (faults : C → ℕ) (log : Option (List C)) (d : Doorway) (kept : Option Tables) (f c : ℕ) →
+pub door_none : {C : Type 0} (book : Book) (wire : C → Option Wire) (faults : C → ℕ) (log : Option (List C)) (d : Doorway) (kept : Option Tables) (f : ℕ) (c : List ℕ) →
     ServesDoor book wire faults log d kept log d kept f f c c
 door_none book wire faults log d kept f c l is =
-    (l, [], is, record { log_is = sym (append-nil l); count = omega arith }, λ told. ([], tt, run_none book f c kept))
+    (l, [], is, record { log_is = sym (append-nil l); count = omega arith }, λ told. ([], tt, settles_none book f c kept))
 
 -- one link more was served
 pub door_more : {C : Type 0} (book : Book) (wire : C → Option Wire) (faults : C → ℕ) (log0 log1 log2 log3 : Option (List C)) (d0 d1 d2 d3 : Doorway) (kept0 kept1 kept3 : Option Tables)
-    (f0 f1 f3 c0 c1 c3 : ℕ) → ServesDoor book wire faults log0 d0 kept0 log1 d1 kept1 f0 f1 c0 c1 → KeepsLog log1 log2 → Gave d1 d2 →
+    (f0 f1 f3 : ℕ) (c0 c1 c3 : List ℕ) → ServesDoor book wire faults log0 d0 kept0 log1 d1 kept1 f0 f1 c0 c1 → KeepsLog log1 log2 → Gave d1 d2 →
     ServesOne book wire faults log2 kept1 log3 kept3 f1 f3 c1 c3 → TookBack d2 d3 → ServesDoor book wire faults log0 d0 kept0 log3 d3 kept3 f0 f3 c0 c3
 door_more book wire faults log0 log1 log2 log3 d0 d1 d2 d3 kept0 kept1 kept3 f0 f1 f3 c0 c1 c3 so_far keeps gave served took log is =
     let one = served log is in
@@ -71,14 +71,12 @@ door_more book wire faults log0 log1 log2 log3 d0 d1 d2 d3 kept0 kept1 kept3 f0 
           let now = one.4 parts.1.0 parts.1.1 in (
             before.0 ++ now.0 ∷ [],
             visits_more book.infos wire faults z.1 one.1 before.0 now.0 before.1 now.1,
-            of_sound_join book (Run book (all_items before.0) (all_said before.0) f0 f1 c0 c1) (Run book now.0.items now.0.said f1 f3 c1 c3)
-                (Run book (all_items (before.0 ++ now.0 ∷ [])) (all_said (before.0 ++ now.0 ∷ [])) f0 f3 c0 c3) kept0 kept1 kept3
-                (λ (s m t : Tables). run_visits book before.0 now.0 f0 f1 f3 c0 c1 c3 s m t) before.2 now.2,
+            settles_visits book before.0 now.0 f0 f1 f3 c0 c1 c3 kept0 kept1 kept3 before.2 now.2,
           ),
     )
 
 -- the log without a link more
-pub door_keeps : {C : Type 0} (book : Book) (wire : C → Option Wire) (faults : C → ℕ) (log0 log1 log2 : Option (List C)) (d0 d1 d2 : Doorway) (kept0 kept1 : Option Tables) (f0 f1 c0 c1 : ℕ) →
+pub door_keeps : {C : Type 0} (book : Book) (wire : C → Option Wire) (faults : C → ℕ) (log0 log1 log2 : Option (List C)) (d0 d1 d2 : Doorway) (kept0 kept1 : Option Tables) (f0 f1 : ℕ) (c0 c1 : List ℕ) →
     ServesDoor book wire faults log0 d0 kept0 log1 d1 kept1 f0 f1 c0 c1 → KeepsLog log1 log2 → d2.allowed ≡ d1.allowed → ServesDoor book wire faults log0 d0 kept0 log2 d2 kept1 f0 f1 c0 c1
 door_keeps book wire faults log0 log1 log2 d0 d1 d2 kept0 kept1 f0 f1 c0 c1 so_far keeps same log is =
     let z = so_far log (keeps log is) in
@@ -87,26 +85,26 @@ door_keeps book wire faults log0 log1 log2 d0 d1 d2 kept0 kept1 f0 f1 c0 c1 so_f
 -- ---- one link
 
 -- a link of which nothing was read or written yet, served to its end
-link_visit : {C : Type 0} (book : Book) (wire : C → Option Wire) (faults : C → ℕ) (link : C) (e : LinkEnd) (wire0 : Option Wire) (faults0 : ℕ) (kept0 kept1 : Option Tables) (f0 f1 c0 c1 : ℕ) →
-    IsUntouched wire0 faults0 → Serves book (Ends (Finishes book.infos e)) wire0 kept0 (wire link) kept1 f0 f1 c0 c1 → (e ≡ LinkFault → Rose faults0 (faults link)) →
-    (w : Wire) → wire link ≡ Some w → (v : Visit) × IsVisit book.infos wire faults link v × OfSound book (Run book v.items v.said f0 f1 c0 c1) kept0 kept1
-link_visit book wire faults link e wire0 faults0 kept0 kept1 f0 f1 c0 c1 untouched served failed w w_is =
+link_visit : {C : Type 0} (book : Book) (wire : C → Option Wire) (faults : C → ℕ) (link : C) (e : LinkEnd) (wire0 : Option Wire) (faults0 : ℕ) (kept0 kept1 : Option Tables) (f0 f1 : ℕ) (c0 c1 : List ℕ) →
+    IsUntouched wire0 faults0 → Serves book (Ends (Finishes book.infos e)) wire0 kept0 (wire link) kept1 f0 f1 c0 c1 → CountsFaults e faults0 (faults link) →
+    (w : Wire) → wire link ≡ Some w → (v : Visit) × IsVisit book.infos wire faults link v × SettlesAll book v.items v.said kept0 kept1 f0 f1 c0 c1
+link_visit book wire faults link e wire0 faults0 kept0 kept1 f0 f1 c0 c1 untouched served counted w w_is =
     let x = served w w_is in
     let one = x.2 in
     let whole : x.0.left ≡ w.brought = untouched.none_read x.0 x.1 ∙ one.brought in
     let all : one.out ≡ w.written = sym (one.written ∙ ap (λ l. l ++ one.out) (untouched.none_written x.0 x.1)) in
     let P : List ℕ → Type 0 = λ bytes. Finishes book.infos e bytes one.items one.said one.out in
     let Q : List ℕ → Type 0 = λ bytes. Finishes book.infos e w.brought one.items one.said bytes in
-    let R : ℕ → Type 0 = λ n. Rose n (faults link) in (
+    let R : ℕ → Type 0 = λ n. CountsFaults e n (faults link) in (
       record { wire = w; items = one.items; said = one.said; end = e },
-      record { told = w_is; finishes = subst Q all (subst P whole one.holds); failed = λ fault. subst R untouched.no_fault (failed fault) },
-      one.told,
+      record { told = w_is; each = one.each; finishes = subst Q all (subst P whole one.holds); counted = subst R untouched.no_fault counted },
+      one.settles,
     )
 
 -- it was given back to the log
 pub one_served : {C : Type 0} (book : Book) (wire : C → Option Wire) (faults : C → ℕ) (link : C) (e : LinkEnd) (wire0 : Option Wire) (faults0 : ℕ) (log0 log1 : Option (List C))
-    (kept0 kept1 : Option Tables) (f0 f1 c0 c1 : ℕ) → IsUntouched wire0 faults0 → Serves book (Ends (Finishes book.infos e)) wire0 kept0 (wire link) kept1 f0 f1 c0 c1 →
-    (e ≡ LinkFault → Rose faults0 (faults link)) → ((log : List C) → log1 ≡ Some log → (before : List C) × (log0 ≡ Some before) × (log ≡ before ++ link ∷ [])) →
+    (kept0 kept1 : Option Tables) (f0 f1 : ℕ) (c0 c1 : List ℕ) → IsUntouched wire0 faults0 → Serves book (Ends (Finishes book.infos e)) wire0 kept0 (wire link) kept1 f0 f1 c0 c1 →
+    CountsFaults e faults0 (faults link) → ((log : List C) → log1 ≡ Some log → (before : List C) × (log0 ≡ Some before) × (log ≡ before ++ link ∷ [])) →
     ServesOne book wire faults log0 kept0 log1 kept1 f0 f1 c0 c1
-one_served book wire faults link e wire0 faults0 log0 log1 kept0 kept1 f0 f1 c0 c1 untouched served failed logs log is =
-    let z = logs log is in (z.0, link, z.1, z.2, link_visit book wire faults link e wire0 faults0 kept0 kept1 f0 f1 c0 c1 untouched served failed)
+one_served book wire faults link e wire0 faults0 log0 log1 kept0 kept1 f0 f1 c0 c1 untouched served counted logs log is =
+    let z = logs log is in (z.0, link, z.1, z.2, link_visit book wire faults link e wire0 faults0 kept0 kept1 f0 f1 c0 c1 untouched served counted)

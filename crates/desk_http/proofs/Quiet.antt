@@ -1,5 +1,5 @@
 -- A request that changes what is kept is answered by the reply to a change. So a reply that isn't one tells of no change.
-use Rattle.std.proofs.Common.{◌≡◌, ℕ, suc, ◌+◌, ◌≤◌, ◌==◌, ◌⊎◌, inl, inr, List, [], ◌∷◌, ◌++◌, length, map, Bool, true, false, not, ◌&&◌, nat_le, IsTrue, if◌then◌else◌, Option, Some, None, Result, Ok, Err, refl, sym, ap, ◌∙◌, arith, bytes_eq}
+use Rattle.std.proofs.Common.{◌≡◌, ℕ, suc, ◌+◌, ◌≤◌, ◌==◌, ◌⊎◌, inl, inr, List, [], ◌∷◌, ◌++◌, length, map, Bool, true, false, not, ◌&&◌, nat_le, IsTrue, if◌then◌else◌, Option, Some, None, Result, Ok, Err, refl, sym, subst, ap, ◌∙◌, arith, bytes_eq}
 use Rattle.std.specs.List.{AllByRecursion, list_all}
 use Rattle.std.specs.Option.{option_map_or}
 use Rattle.std.proofs.lemmas.Bool.{and_parts, true≢false}
@@ -27,6 +27,7 @@ use Rattle.keep_core.specs.declared.member.MemberRole.{MemberRole}
 use Rattle.keep_core.specs.declared.site.Site.{Site}
 use Rattle.keep_core.specs.declared.change.Change.TheVariants.{AddJudgement}
 use Rattle.keep_core.specs.Names.{is_name}
+use Rattle.keep_core.specs.Tables.{Tables}
 use Rattle.desk_core.specs.declared.limits.TheConstants.{MOST_PAGES, MOST_ENTRIES}
 use Rattle.desk_core.specs.declared.command.Entry.{Entry}
 use Rattle.desk_core.specs.declared.command.Command.{Command}
@@ -41,7 +42,7 @@ use Rattle.desk_core.specs.declared.reply.Reply.{Reply}
 use Rattle.desk_core.specs.declared.reply.Reply.TheVariants as reply
 use Rattle.desk_core.specs.declared.page_state.PageState.{PageState}
 use Rattle.desk_core.specs.Refusals.{Decision, unless, on, unless_refused}
-use Rattle.desk_core.specs.State.{State, SiteState, page_at, site_at}
+use Rattle.desk_core.specs.State.{State, SiteState, state_of, page_at, site_at}
 use Rattle.desk_core.specs.Rights.{may, role_of, entering, on_page}
 use Rattle.desk_core.specs.Members.{put_member}
 use Rattle.desk_core.specs.Pages.{rev_of, judged, has_room, has_revisions, renewed, built, put_page, edited, edit_page, drop_page, stored}
@@ -51,6 +52,9 @@ use Rattle.desk_core.specs.Reading.{answered, site_page, sheet}
 use Rattle.desk_core.specs.Steps.{Request, site_of, read_page, read_site, decision, decided, stepped, step}
 use Rattle.desk_core.specs.Fitting.{FitsEntry, FitsEntries, FitsParts, FitsRequest}
 use Rattle.desk_core.specs.Changes.{after}
+use Rattle.desk_core.specs.Soundness as soundness
+use Rattle.desk_core.specs.Serving.{IsJudged, IsDone}
+use Rattle.desk_core.specs.declared.decided.Decided.{Decided}
 use Rattle.http_replies.specs.Made.{is_short, are_few, is_made}
 
 -- nothing is changed, or the reply is that to a change
@@ -216,3 +220,20 @@ stepped_calm s t r (Ok d) (inr made) unmade is = absurd (true≢false (sym made 
 pub unmade_keeps : (book : Book) (s t : State) (q : Request) (r : Reply) → FitsRequest book q → is_made r ≡ false → step book s q ≡ (t, r) → t ≡ s
 unmade_keeps book s t q r fits unmade is =
     stepped_calm s t r (decided book q s) (decision_quiet book q.caller q.command (site_at (site_of q.command) s) fits.site fits.parts) unmade is
+
+-- the reply to a judgement is one to a change
+judged_made : (r : Reply) → IsJudged r → is_made r ≡ false → ⊥
+judged_made (reply.Judged rule node outcome) judged unmade = true≢false unmade
+judged_made other judged unmade = absurd judged
+
+done_calm : (book : Book) (q : Request) (s t : Tables) (r : Reply) (d : Decided) → Quiet (Ok d) → is_made r ≡ false → r ≡ d.reply → t ≡ soundness.made d.change s → t ≡ s
+done_calm book q s t r d (inl none) unmade is became = became ∙ ap (λ change. soundness.made change s) none
+done_calm book q s t r d (inr made) unmade is became = absurd (true≢false (sym made ∙ (sym (ap is_made is) ∙ unmade)))
+
+-- it comes with the tables kept, whether they are sound or not
+pub unmade_stays : (book : Book) (q : Request) (s t : Tables) (r : Reply) → FitsRequest book q → is_made r ≡ false → (t ≡ s) ⊎ (IsJudged r ⊎ IsDone book q r s t) → t ≡ s
+unmade_stays book q s t r fits unmade (inl same) = same
+unmade_stays book q s t r fits unmade (inr (inl judged)) = absurd (judged_made r judged unmade)
+unmade_stays book q s t r fits unmade (inr (inr done)) =
+    let quiet : Quiet (decided book q (state_of s)) = decision_quiet book q.caller q.command (site_at (site_of q.command) (state_of s)) fits.site fits.parts in
+    done_calm book q s t r done.d (subst Quiet done.is_decided quiet) unmade done.answered done.became

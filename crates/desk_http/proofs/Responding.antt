@@ -1,16 +1,23 @@
 -- How a request is answered: by the machine's reply, or for want of memory, where nothing changed.
-use Rattle.std.proofs.Common.{◌≡◌, ℕ, ◌+◌, ◌<◌, ◌≤◌, ◌⊎◌, inl, inr, List, ◌++◌, Bool, true, false, Option, Result, Ok, Err, OnOk, OnErr, refl, sym, ap, ◌∙◌, subst, arith}
+use Rattle.std.proofs.Common.{◌≡◌, ℕ, ◌+◌, ◌<◌, ◌≤◌, ◌⊎◌, inl, inr, List, ◌++◌, map, Bool, true, false, Option, Some, Result, Ok, Err, OnOk, OnErr, refl, sym, ap, ◌∙◌, subst, arith}
+use Rattle.std.specs.Prelude.{sum, sum_by}
+use Rattle.std.proofs.lemmas.List.{drop-map}
+use Rattle.std.proofs.lemmas.List.Sums.{sum-map}
+use Rattle.counts.specs.Counts.{Rose}
 use Rattle.links.specs.declared.failed.Failed.{Failed}
 use Rattle.links.specs.Wires.{Wire, Wrote, WroteFront}
 use Rattle.judge_core.specs.Books.{Book}
 use Rattle.keep_core.specs.Tables.{Tables}
-use Rattle.desk_core.specs.declared.refusal.Refusal.TheVariants.{OutOfMemory}
+use Rattle.keep_core.specs.Keeping.{Stays}
+use Rattle.desk_core.specs.declared.command.Command.{Command}
+use Rattle.desk_core.specs.declared.refusal.Refusal.{Refusal}
+use Rattle.desk_core.specs.declared.refusal.Refusal.TheVariants.{KeeperFault, OutOfMemory}
 use Rattle.desk_core.specs.declared.reply.Reply.{Reply}
 use Rattle.desk_core.specs.declared.reply.Reply.TheVariants.{Refused}
 use Rattle.desk_core.specs.State.{State, state_of}
 use Rattle.desk_core.specs.Steps.{Request}
 use Rattle.desk_core.specs.Fitting.{FitsRequest}
-use Rattle.desk_core.specs.Costs.{Costs}
+use Rattle.desk_core.specs.Costs.{IsImport, UsesFirst, Costs}
 use Rattle.desk_core.specs.Runs.{Answers}
 use Rattle.desk_core.specs.Serving as machine
 use Rattle.http_messages.specs.declared.item.Sent.{Sent}
@@ -26,21 +33,36 @@ use Rattle.http_replies.specs.declared.answer.Answer.TheVariants.{Misread, Misas
 use Rattle.http_replies.specs.Made.{is_made}
 use Rattle.http_replies.specs.Answers.{answer_bytes, no_memory}
 use Rattle.desk_http.specs.Printed.{PrintsReply}
-use Rattle.desk_http.specs.Answering.{as_request, AnswersMessage, message_judgings}
-use Rattle.desk_http.specs.Serving.{AnsweredBy, Responds, RespondsTo, IsEither, WritesAll, ServesItem}
-use Rattle.desk_http.proofs.Quiet.{unmade_keeps}
+use Rattle.desk_http.specs.Answering.{as_request, GetsRefusal, AnswersMessage, message_judgings, MessageGets, Gets, Refuses, MessageSpares}
+use Rattle.desk_http.specs.Serving.{OthersRest, AnsweredBy, Settles, Responds, RespondsTo, IsEither, WritesAll, ServesItem}
+use Rattle.desk_http.proofs.Quiet.{unmade_keeps, unmade_stays}
 
 -- ---- a request
 
+-- the first book alone was used, so the counts of the others are as they were
+pub others_rest : {B : Type 0} (calls : B → ℕ) (q : Command) (old new : List B) → UsesFirst q old new → (IsImport q → ⊥) → OthersRest (map calls old) (map calls new)
+others_rest calls q old new uses none = drop-map calls 1 new ∙ (ap (map calls) (uses none) ∙ sym (drop-map calls 1 old))
+
+-- what the books judged, counted from each
+pub costs_of : {B : Type 0} (book : Book) (q : Command) (old new : Option Tables) (calls : B → ℕ) (before now : List B) →
+    Costs book q old new (sum_by calls before) (sum_by calls now) → Costs book q old new (sum (map calls before)) (sum (map calls now))
+costs_of book q old new calls before now costs =
+    let P : ℕ → Type 0 = λ n. Costs book q old new n (sum_by calls now) in
+    let Q : ℕ → Type 0 = λ n. Costs book q old new (sum (map calls before)) n in
+    subst Q (sym (sum-map calls now)) (subst P (sym (sum-map calls before)) costs)
+
 -- the machine's reply was printed
-replied : (book : Book) (q : Request) (closes : Bool) (old new : Option Tables) (from to calls now_calls : ℕ) (reply : Reply) (bytes : List ℕ) →
-    machine.Serves book q old new from to reply → Costs book q.command old new calls now_calls → bytes ≡ answer_bytes book.infos (Replied reply) closes →
-    RespondsTo book q closes old new from to calls now_calls bytes
-replied book q closes old new from to calls now_calls reply bytes served costs printed = record {
+replied : (book : Book) (q : Request) (closes : Bool) (old new : Option Tables) (from to : ℕ) (calls now_calls : List ℕ) (reply : Reply) (bytes : List ℕ) →
+    machine.Serves book q old new from to reply → Costs book q.command old new (sum calls) (sum now_calls) → ((IsImport q.command → ⊥) → OthersRest calls now_calls) →
+    bytes ≡ answer_bytes book.infos (Replied reply) closes → RespondsTo book q closes old new from to calls now_calls bytes
+replied book q closes old new from to calls now_calls reply bytes served costs others printed = record {
   reply = reply;
   bytes_are = printed;
   told = λ t is. let s = served.told t is in (s.0, s.1, λ sound. let z = s.2 sound in (z.0, (z.1, costs.told s.0 t s.1 is)));
   never_falls = served.never_falls;
+  failed = served.failed;
+  refused = served.refused;
+  others = others;
 }
 
 -- an answer that changed nothing may be any that changes nothing
@@ -49,11 +71,15 @@ answers_full : (book : Book) (s t : State) (q : Request) (reply : Reply) (from t
 answers_full book s t q reply from to fits unmade (inl is) = inr (unmade_keeps book s t q reply fits unmade is, inr refl)
 answers_full book s t q reply from to fits unmade (inr (same, fails)) = inr (same, inr refl)
 
+-- the want of memory is no fault of the keeper's
+no_fault : (from to : ℕ) → Refused OutOfMemory ≡ Refused KeeperFault → Rose from to
+no_fault from to same = cc
+
 -- the machine's reply wasn't printed, which is none to a change
-unprinted : (book : Book) (q : Request) (closes : Bool) (old new : Option Tables) (from to calls now_calls : ℕ) (reply : Reply) (bytes : List ℕ) →
-    FitsRequest book q → is_made reply ≡ false → machine.Serves book q old new from to reply → Costs book q.command old new calls now_calls →
-    bytes ≡ answer_bytes book.infos no_memory closes → RespondsTo book q closes old new from to calls now_calls bytes
-unprinted book q closes old new from to calls now_calls reply bytes fits unmade served costs full = record {
+unprinted : (book : Book) (q : Request) (closes : Bool) (old new : Option Tables) (from to : ℕ) (calls now_calls : List ℕ) (reply : Reply) (bytes : List ℕ) →
+    FitsRequest book q → is_made reply ≡ false → machine.Serves book q old new from to reply → Costs book q.command old new (sum calls) (sum now_calls) →
+    ((IsImport q.command → ⊥) → OthersRest calls now_calls) → bytes ≡ answer_bytes book.infos no_memory closes → RespondsTo book q closes old new from to calls now_calls bytes
+unprinted book q closes old new from to calls now_calls reply bytes fits unmade served costs others full = record {
   reply = Refused OutOfMemory;
   bytes_are = full;
   told = λ t is.
@@ -65,25 +91,33 @@ unprinted book q closes old new from to calls now_calls reply bytes fits unmade 
             (z.0, (answers_full book (state_of s.0) (state_of t) q reply from to fits unmade z.1, costs.told s.0 t s.1 is)),
       );
   never_falls = served.never_falls;
+  failed = no_fault from to;
+  refused = λ refusal same t is.
+      let s = served.told t is in
+      s.1 ∙ ap Some (sym (unmade_stays book q s.0 t reply fits unmade (served.changed s.0 t s.1 is)));
+  others = others;
 }
 
 -- the machine's reply was printed, or it wasn't
-pub answered : (book : Book) (q : Request) (closes : Bool) (old new : Option Tables) (from to calls now_calls : ℕ) (reply : Reply) (bytes : List ℕ) →
-    FitsRequest book q → machine.Serves book q old new from to reply → Costs book q.command old new calls now_calls →
-    PrintsReply book.infos reply closes bytes → RespondsTo book q closes old new from to calls now_calls bytes
-answered book q closes old new from to calls now_calls reply bytes fits served costs (inl printed) =
-    replied book q closes old new from to calls now_calls reply bytes served costs printed
-answered book q closes old new from to calls now_calls reply bytes fits served costs (inr (unmade, full)) =
-    unprinted book q closes old new from to calls now_calls reply bytes fits unmade served costs full
+pub answered : (book : Book) (q : Request) (closes : Bool) (old new : Option Tables) (from to : ℕ) (calls now_calls : List ℕ) (reply : Reply) (bytes : List ℕ) →
+    FitsRequest book q → machine.Serves book q old new from to reply → Costs book q.command old new (sum calls) (sum now_calls) →
+    ((IsImport q.command → ⊥) → OthersRest calls now_calls) → PrintsReply book.infos reply closes bytes → RespondsTo book q closes old new from to calls now_calls bytes
+answered book q closes old new from to calls now_calls reply bytes fits served costs others (inl printed) =
+    replied book q closes old new from to calls now_calls reply bytes served costs others printed
+answered book q closes old new from to calls now_calls reply bytes fits served costs others (inr (unmade, full)) =
+    unprinted book q closes old new from to calls now_calls reply bytes fits unmade served costs others full
 
 -- there was no memory before the request was handled
-pub unhandled : (book : Book) (q : Request) (closes : Bool) (kept : Option Tables) (f c : ℕ) (bytes : List ℕ) →
+pub unhandled : (book : Book) (q : Request) (closes : Bool) (kept : Option Tables) (f : ℕ) (c : List ℕ) (bytes : List ℕ) →
     bytes ≡ answer_bytes book.infos no_memory closes → RespondsTo book q closes kept kept f f c c bytes
 unhandled book q closes kept f c bytes full = record {
   reply = Refused OutOfMemory;
   bytes_are = full;
   told = λ t is. (t, is, λ sound. (sound, (inr (refl, inr refl), omega arith)));
   never_falls = omega arith;
+  failed = no_fault f f;
+  refused = λ refusal same t is. is;
+  others = λ none. refl;
 }
 
 -- what printing fails of where there was room
@@ -94,67 +128,92 @@ unmade false room most full is = refl
 -- ---- what came
 
 -- nothing is done
-declines : (book : Book) (refusal : Answer) (came : Sent) (closes : Bool) (kept : Option Tables) (f c : ℕ) (bytes : List ℕ) →
-    ((a : Answer) → (a ≡ refusal) ⊎ (a ≡ no_memory) → (s : Tables) → AnsweredBy book came a f f c c s s) →
+stays : (book : Book) (came : Sent) (a : Answer) (kept : Option Tables) (f : ℕ) (c : List ℕ) → ((s : Tables) → AnsweredBy book came a f f c c s s) → Gets book.infos came a f f →
+    Settles book came a kept kept f f c c
+stays book came a kept f c answers gets = record {
+  told = λ t is. (t, is, λ sound. (sound, answers t));
+  never_falls = omega arith;
+  gets = gets;
+  refused = λ refuses t is. is;
+  others = λ spares. refl;
+}
+
+declines : (book : Book) (refusal : Answer) (came : Sent) (closes : Bool) (kept : Option Tables) (f : ℕ) (c : List ℕ) (bytes : List ℕ) →
+    ((a : Answer) → GetsRefusal refusal a → (s : Tables) → AnsweredBy book came a f f c c s s) → ((a : Answer) → GetsRefusal refusal a → Gets book.infos came a f f) →
     IsEither (answer_bytes book.infos refusal closes) (answer_bytes book.infos no_memory closes) bytes → Responds book came closes kept kept f f c c bytes
-declines book refusal came closes kept f c bytes answers (inl due) = record {
+declines book refusal came closes kept f c bytes answers gets (inl due) = record {
   answer = refusal;
   bytes_are = due;
-  told = λ t is. (t, is, λ sound. (sound, answers refusal (inl refl) t));
-  never_falls = omega arith;
+  settles = stays book came refusal kept f c (answers refusal (inl refl)) (gets refusal (inl refl));
 }
-declines book refusal came closes kept f c bytes answers (inr full) = record {
+declines book refusal came closes kept f c bytes answers gets (inr full) = record {
   answer = no_memory;
   bytes_are = full;
-  told = λ t is. (t, is, λ sound. (sound, answers no_memory (inr refl) t));
-  never_falls = omega arith;
+  settles = stays book came no_memory kept f c (answers no_memory (inr refl)) (gets no_memory (inr refl));
 }
 
-pub misread : (book : Book) (fault : HeadFault) (closes : Bool) (kept : Option Tables) (f c : ℕ) (bytes : List ℕ) →
+pub misread : (book : Book) (fault : HeadFault) (closes : Bool) (kept : Option Tables) (f : ℕ) (c : List ℕ) (bytes : List ℕ) →
     IsEither (answer_bytes book.infos (Misread fault) closes) (answer_bytes book.infos no_memory closes) bytes → Responds book (sent.Refused fault) closes kept kept f f c c bytes
 misread book fault closes kept f c bytes either =
-    declines book (Misread fault) (sent.Refused fault) closes kept f c bytes (λ (a : Answer) which (s : Tables). ((refl, which), omega arith)) either
+    declines book (Misread fault) (sent.Refused fault) closes kept f c bytes (λ (a : Answer) which (s : Tables). ((refl, which), omega arith)) (λ (a : Answer) which. which) either
 
 -- what is said of a message, by the request that it makes
-abbrev ByRequest : Book → Result Asked RequestFault → Answer → ℕ → ℕ → ℕ → ℕ → Tables → Tables → Type 0
+abbrev ByRequest : Book → Result Asked RequestFault → Answer → ℕ → ℕ → List ℕ → List ℕ → Tables → Tables → Type 0
 ByRequest book asked answer from to calls now_calls s t =
-    AnswersMessage book (state_of s) asked answer (state_of t) from to × (now_calls ≤ calls + message_judgings book (state_of s) asked)
+    AnswersMessage book (state_of s) asked answer (state_of t) from to × (sum now_calls ≤ sum calls + message_judgings book (state_of s) asked)
 
-pub misasked : (book : Book) (m : Message) (fault : RequestFault) (closes : Bool) (kept : Option Tables) (f c : ℕ) (bytes : List ℕ) → Err fault ≡ request_of book.infos m.head m.body →
+pub misasked : (book : Book) (m : Message) (fault : RequestFault) (closes : Bool) (kept : Option Tables) (f : ℕ) (c : List ℕ) (bytes : List ℕ) → Err fault ≡ request_of book.infos m.head m.body →
     IsEither (answer_bytes book.infos (Misasked fault) closes) (answer_bytes book.infos no_memory closes) bytes → Responds book (sent.Asked m) closes kept kept f f c c bytes
 misasked book m fault closes kept f c bytes made either =
     declines book (Misasked fault) (sent.Asked m) closes kept f c bytes
     (λ (a : Answer) which (s : Tables).
     let P : Result Asked RequestFault → Type 0 = λ r. ByRequest book r a f f c c s s in
     subst P made ((refl, which), omega arith))
+    (λ (a : Answer) which.
+    let P : Result Asked RequestFault → Type 0 = λ r. MessageGets r a f f in
+    subst P made which)
     either
 
 -- there was no memory for reading a message
-pub unread : (book : Book) (m : Message) (closes : Bool) (kept : Option Tables) (f c : ℕ) (bytes : List ℕ) →
+pub unread : (book : Book) (m : Message) (closes : Bool) (kept : Option Tables) (f : ℕ) (c : List ℕ) (bytes : List ℕ) →
     bytes ≡ answer_bytes book.infos no_memory closes → Responds book (sent.Asked m) closes kept kept f f c c bytes
 unread book m closes kept f c bytes full = record {
   answer = no_memory;
   bytes_are = full;
-  told = λ t is. (t, is, λ sound. (sound, of t (request_of book.infos m.head m.body)));
-  never_falls = omega arith;
+  settles = stays book (sent.Asked m) no_memory kept f c (λ t. of t (request_of book.infos m.head m.body)) (gets (request_of book.infos m.head m.body));
 }
   where
     of : (t : Tables) (r : Result Asked RequestFault) → ByRequest book r no_memory f f c c t t
     of t (Ok asked) = ((Refused OutOfMemory, refl, inr (refl, inr refl)), omega arith)
     of t (Err fault) = ((refl, inr refl), omega arith)
 
+    gets : (r : Result Asked RequestFault) → MessageGets r no_memory f f
+    gets (Ok asked) = (Refused OutOfMemory, refl, no_fault f f)
+    gets (Err fault) = inr refl
+
+-- a refusal of the machine's
+refused_as : (reply : Reply) (old new : Option Tables) → ((refusal : Refusal) → reply ≡ Refused refusal → Stays old new) → Refuses (Replied reply) → Stays old new
+refused_as reply old new refused (refusal, same) = refused refusal same
+
 -- the message makes a request, which was answered
-pub asked_so : (book : Book) (m : Message) (asked : Asked) (closes : Bool) (old new : Option Tables) (from to calls now_calls : ℕ) (bytes : List ℕ) →
+pub asked_so : (book : Book) (m : Message) (asked : Asked) (closes : Bool) (old new : Option Tables) (from to : ℕ) (calls now_calls : List ℕ) (bytes : List ℕ) →
     Ok asked ≡ request_of book.infos m.head m.body → RespondsTo book (as_request asked) closes old new from to calls now_calls bytes →
     Responds book (sent.Asked m) closes old new from to calls now_calls bytes
 asked_so book m asked closes old new from to calls now_calls bytes made so = record {
   answer = Replied so.reply;
   bytes_are = so.bytes_are;
-  told = λ t is.
-      let s = so.told t is in
-      let P : Result Asked RequestFault → Type 0 = λ r. ByRequest book r (Replied so.reply) from to calls now_calls s.0 t in
-      (s.0, s.1, λ sound. let z = s.2 sound in (z.0, subst P made ((so.reply, refl, z.1.0), z.1.1)));
-  never_falls = so.never_falls;
+  settles =
+      record {
+        told =
+            λ t is.
+            let s = so.told t is in
+            let P : Result Asked RequestFault → Type 0 = λ r. ByRequest book r (Replied so.reply) from to calls now_calls s.0 t in
+            (s.0, s.1, λ sound. let z = s.2 sound in (z.0, subst P made ((so.reply, refl, z.1.0), z.1.1)));
+        never_falls = so.never_falls;
+        gets = let P : Result Asked RequestFault → Type 0 = λ r. MessageGets r (Replied so.reply) from to in subst P made (so.reply, refl, so.failed);
+        refused = refused_as so.reply old new so.refused;
+        others = let P : Result Asked RequestFault → Type 0 = λ r. MessageSpares r → OthersRest calls now_calls in subst P made so.others;
+      };
 }
 
 -- ---- what is written
@@ -169,12 +228,11 @@ wrote_all (Err e) due bytes old new same wrote broke w is =
     (z.0, z.1, sym (ap (λ (x : Wire). x.brought) z.5), sym (ap (λ (x : Wire). x.left) z.5), (z.2, z.3, z.4 ∙ same, ap (λ (x : Wire). x.written) z.5))
 
 -- an item was answered, and the answer written, or a front of it
-pub item_served : {A : Type 0} (book : Book) (i : Item) (result : Result A Failed) (wire0 wire1 : Option Wire) (kept0 kept1 : Option Tables) (f0 f1 c0 c1 : ℕ) (bytes : List ℕ) →
+pub item_served : {A : Type 0} (book : Book) (i : Item) (result : Result A Failed) (wire0 wire1 : Option Wire) (kept0 kept1 : Option Tables) (f0 f1 : ℕ) (c0 c1 : List ℕ) (bytes : List ℕ) →
     Responds book i.sent i.closes kept0 kept1 f0 f1 c0 c1 bytes → OnOk result (Wrote bytes wire0 wire1) → OnErr result (WroteFront bytes wire0 wire1) →
     ServesItem book i result wire0 kept0 wire1 kept1 f0 f1 c0 c1
 item_served book i result wire0 wire1 kept0 kept1 f0 f1 c0 c1 bytes so wrote broke = record {
   answer = so.answer;
   wrote = wrote_all result (answer_bytes book.infos so.answer i.closes) bytes wire0 wire1 so.bytes_are wrote broke;
-  told = so.told;
-  never_falls = so.never_falls;
+  settles = so.settles;
 }

@@ -1,5 +1,6 @@
 -- Items that are answered one after another, and what the bytes say of them: one more at the end.
 use Rattle.std.proofs.Common.{◌≡◌, ℕ, ◌+◌, ◌≤◌, inl, inr, List, [], ◌∷◌, ◌++◌, length, true, false, refl, sym, ap, ◌∙◌, append_assoc, append-nil, arith, subst}
+use Rattle.std.specs.List.{AllByRecursion}
 use Rattle.rule_core.specs.declared.info.RuleInfo.{RuleInfo}
 use Rattle.judge_core.specs.Books.{Book}
 use Rattle.desk_core.specs.State.{State}
@@ -7,7 +8,7 @@ use Rattle.http_messages.specs.declared.item.Item.{Item}
 use Rattle.http_messages.specs.Talk.{End, ended, cut, closed, going, IsNext, stops, gives, Talk}
 use Rattle.http_replies.specs.declared.answer.Answer.{Answer}
 use Rattle.http_replies.specs.Answers.{answer_bytes}
-use Rattle.desk_http.specs.Answering.{AnswersSent, sent_judgings, Runs, answers}
+use Rattle.desk_http.specs.Answering.{AnswersSent, sent_judgings, Gets, AllGet, Runs, answers}
 
 -- ---- items
 
@@ -37,6 +38,35 @@ runs_join book s m t (i ∷ is) js [] bs from mid later to most rest run first t
 pub runs_one : (book : Book) (s t : State) (i : Item) (a : Answer) (from to : ℕ) → from ≤ to → AnswersSent book s i.sent a t from to →
     Runs book s (i ∷ []) (a ∷ []) t from to (sent_judgings book s i.sent)
 runs_one book s t i a from to order answered = (t, from, to, 0, omega arith, order, answered, (refl, omega arith, refl), omega arith)
+
+-- ---- whatever is kept
+
+-- the count may have stood lower before
+all_get_from : (infos : List RuleInfo) (is : List Item) (said : List Answer) (from later to : ℕ) → from ≤ later → AllGet infos is said later to → AllGet infos is said from to
+all_get_from infos [] [] from later to order up = let le : later ≤ to = up in let less : from ≤ to = omega (arith, order, le) in less
+all_get_from infos (i ∷ is) (a ∷ said) from later to order (start, stop, begin, up, one, more) = (start, stop, omega (arith, order, begin), up, one, more)
+all_get_from infos [] (a ∷ said) from later to order all = absurd all
+all_get_from infos (i ∷ is) [] from later to order all = absurd all
+
+pub all_get_join : (infos : List RuleInfo) (is js : List Item) (said bs : List Answer) (from mid later to : ℕ) →
+    AllGet infos is said from mid → mid ≤ later → AllGet infos js bs later to → AllGet infos (is ++ js) (said ++ bs) from to
+all_get_join infos [] js [] bs from mid later to order up then = let le : from ≤ mid = order in all_get_from infos js bs from later to (omega (arith, le, up)) then
+all_get_join infos (i ∷ is) js (a ∷ said) bs from mid later to (start, stop, begin, up, one, more) first then =
+    (start, stop, begin, up, one, all_get_join infos is js said bs stop mid later to more first then)
+all_get_join infos [] js (a ∷ said) bs from mid later to all first then = absurd all
+all_get_join infos (i ∷ is) js [] bs from mid later to all first then = absurd all
+
+pub all_get_one : (infos : List RuleInfo) (i : Item) (a : Answer) (from to : ℕ) → from ≤ to → Gets infos i.sent a from to → AllGet infos (i ∷ []) (a ∷ []) from to
+all_get_one infos i a from to order one = let same : to ≤ to = omega arith in (from, to, omega arith, order, one, same)
+
+-- what holds of each of two lists together holds of each of the one and of the other
+pub all_front : {X : Type 0} (P : X → Type 0) (xs ys : List X) → AllByRecursion P (xs ++ ys) → AllByRecursion P xs
+all_front P [] ys all = tt
+all_front P (x ∷ xs) ys (one, all) = (one, all_front P xs ys all)
+
+pub all_back : {X : Type 0} (P : X → Type 0) (xs ys : List X) → AllByRecursion P (xs ++ ys) → AllByRecursion P ys
+all_back P [] ys all = all
+all_back P (x ∷ xs) ys (one, all) = all_back P xs ys all
 
 -- ---- bytes
 

@@ -17,10 +17,10 @@ use Rattle.desk_http.specs.Answering.{answers}
 use Rattle.desk_http.specs.Linking.{Finishes, full}
 use Rattle.desk_http.specs.Serving.{Writes, ServesItem, Serves, SoFar, Ends, IsFull}
 use Rattle.desk_http.proofs.Runs.{answers_more, each_more, talk_more, talk_closes, talk_ended, talk_cut}
-use Rattle.desk_http.proofs.Tables.{run_more, run_none}
+use Rattle.desk_http.proofs.Tables.{settles_more, settles_none}
 
 -- nothing was served yet, and nothing is held
-pub begins : (book : Book) (held : List ℕ) (wire : Option Wire) (kept : Option Tables) (f c : ℕ) → held ≡ [] → Serves book (SoFar book.infos held) wire kept wire kept f f c c
+pub begins : (book : Book) (held : List ℕ) (wire : Option Wire) (kept : Option Tables) (f : ℕ) (c : List ℕ) → held ≡ [] → Serves book (SoFar book.infos held) wire kept wire kept f f c c
 begins book held wire kept f c empty w is = (
   w,
   is,
@@ -32,7 +32,7 @@ begins book held wire kept f c empty w is = (
     each = refl;
     written = sym (append-nil w.written);
     holds = (sym (ap (λ h. h ++ w.left) empty), refl);
-    told = run_none book f c kept;
+    settles = settles_none book f c kept;
   },
 )
 
@@ -52,7 +52,7 @@ Step book i now_held result P =
     → (more : List ℕ) × (w.written ≡ v.written ++ more) × P bytes w.left (is ++ i ∷ []) (said ++ a ∷ []) (out ++ more)
 
 pub one_more : {A : Type 0} (book : Book) (i : Item) (result : Result A Failed) (held now_held : List ℕ) (wire0 wire1 wire2 wire3 : Option Wire) (kept0 kept1 kept3 : Option Tables)
-    (f0 f1 f3 c0 c1 c3 : ℕ) (P : List ℕ → List ℕ → List Item → List Answer → List ℕ → Type 0) →
+    (f0 f1 f3 : ℕ) (c0 c1 c3 : List ℕ) (P : List ℕ → List ℕ → List Item → List Answer → List ℕ → Type 0) →
     Serves book (SoFar book.infos held) wire0 kept0 wire1 kept1 f0 f1 c0 c1 → Moves (Says (got.Came i)) held now_held wire1 wire2 →
     ServesItem book i result wire2 kept1 wire3 kept3 f1 f3 c1 c3 → Step book i now_held result P →
     Serves book P wire0 kept0 wire3 kept3 f0 f3 c0 c3
@@ -74,7 +74,7 @@ one_more book i result held now_held wire0 wire1 wire2 wire3 kept0 kept1 kept3 f
         each = each_more one.items one.said i a one.each;
         written = written_more x.0.written z.0.written w.written one.out more.0 more.1 (sym y.3 ∙ one.written);
         holds = more.2;
-        told = run_more book one.items one.said i a f0 f1 f3 c0 c1 c3 kept0 kept1 kept3 served.never_falls one.told served.told;
+        settles = settles_more book one.items one.said i a f0 f1 f3 c0 c1 c3 kept0 kept1 kept3 one.settles served.settles;
       },
     )
 
@@ -102,7 +102,7 @@ breaks A book i now_held e v w bytes next is said a out talk here outs more (par
 -- ---- the ends
 
 -- the connection ended, or the link failed, before another item
-pub ends : (book : Book) (result : LinkEnd) (Q : List ℕ → List ℕ → Type 0) (held now_held : List ℕ) (wire0 wire1 wire2 : Option Wire) (kept0 kept1 : Option Tables) (f0 f1 c0 c1 : ℕ) →
+pub ends : (book : Book) (result : LinkEnd) (Q : List ℕ → List ℕ → Type 0) (held now_held : List ℕ) (wire0 wire1 wire2 : Option Wire) (kept0 kept1 : Option Tables) (f0 f1 : ℕ) (c0 c1 : List ℕ) →
     ((before now bytes : List ℕ) (is : List Item) (said : List Answer) (out : List ℕ) → Q before now → Talk bytes is (going before) → out ≡ answers book.infos is said → Finishes book.infos result bytes is said out) →
     Serves book (SoFar book.infos held) wire0 kept0 wire1 kept1 f0 f1 c0 c1 → Moves Q held now_held wire1 wire2 →
     Serves book (Ends (Finishes book.infos result)) wire0 kept0 wire2 kept1 f0 f1 c0 c1
@@ -120,25 +120,25 @@ ends book result Q held now_held wire0 wire1 wire2 kept0 kept1 f0 f1 c0 c1 finis
         each = one.each;
         written = sym y.3 ∙ one.written;
         holds = finish (held ++ y.0.left) (now_held ++ w.left) x.0.left one.items one.said one.out y.4 one.holds.0 one.holds.1;
-        told = one.told;
+        settles = one.settles;
       },
     )
 
-pub ended_between : (book : Book) (held now_held : List ℕ) (wire0 wire1 wire2 : Option Wire) (kept0 kept1 : Option Tables) (f0 f1 c0 c1 : ℕ) →
+pub ended_between : (book : Book) (held now_held : List ℕ) (wire0 wire1 wire2 : Option Wire) (kept0 kept1 : Option Tables) (f0 f1 : ℕ) (c0 c1 : List ℕ) →
     Serves book (SoFar book.infos held) wire0 kept0 wire1 kept1 f0 f1 c0 c1 → Moves (Says got.Ended) held now_held wire1 wire2 →
     Serves book (Ends (Finishes book.infos end.Ended)) wire0 kept0 wire2 kept1 f0 f1 c0 c1
 ended_between book held now_held wire0 wire1 wire2 kept0 kept1 f0 f1 c0 c1 =
     ends book end.Ended (Says got.Ended) held now_held wire0 wire1 wire2 kept0 kept1 f0 f1 c0 c1
     (λ (before now bytes : List ℕ) (is : List Item) (said : List Answer) (out : List ℕ) says talk outs. (talk_ended bytes before is talk says, outs))
 
-pub ended_within : (book : Book) (held now_held : List ℕ) (wire0 wire1 wire2 : Option Wire) (kept0 kept1 : Option Tables) (f0 f1 c0 c1 : ℕ) →
+pub ended_within : (book : Book) (held now_held : List ℕ) (wire0 wire1 wire2 : Option Wire) (kept0 kept1 : Option Tables) (f0 f1 : ℕ) (c0 c1 : List ℕ) →
     Serves book (SoFar book.infos held) wire0 kept0 wire1 kept1 f0 f1 c0 c1 → Moves (Says got.Cut) held now_held wire1 wire2 →
     Serves book (Ends (Finishes book.infos end.Cut)) wire0 kept0 wire2 kept1 f0 f1 c0 c1
 ended_within book held now_held wire0 wire1 wire2 kept0 kept1 f0 f1 c0 c1 =
     ends book end.Cut (Says got.Cut) held now_held wire0 wire1 wire2 kept0 kept1 f0 f1 c0 c1
     (λ (before now bytes : List ℕ) (is : List Item) (said : List Answer) (out : List ℕ) says talk outs. (talk_cut bytes before is talk says, outs))
 
-pub failed_between : (book : Book) (held now_held : List ℕ) (wire0 wire1 wire2 : Option Wire) (kept0 kept1 : Option Tables) (f0 f1 c0 c1 : ℕ) →
+pub failed_between : (book : Book) (held now_held : List ℕ) (wire0 wire1 wire2 : Option Wire) (kept0 kept1 : Option Tables) (f0 f1 : ℕ) (c0 c1 : List ℕ) →
     Serves book (SoFar book.infos held) wire0 kept0 wire1 kept1 f0 f1 c0 c1 → Moves (Lost read.Failed) held now_held wire1 wire2 →
     Serves book (Ends (Finishes book.infos end.LinkFault)) wire0 kept0 wire2 kept1 f0 f1 c0 c1
 failed_between book held now_held wire0 wire1 wire2 kept0 kept1 f0 f1 c0 c1 =
@@ -170,7 +170,7 @@ full_finishes book end.LinkFault before bytes is said out v w some talk outs (pa
 full_finishes book end.Ended before bytes is said out v w some talk outs wrote = absurd wrote
 full_finishes book end.Cut before bytes is said out v w some talk outs wrote = absurd wrote
 
-pub not_held : (book : Book) (result : LinkEnd) (held now_held : List ℕ) (wire0 wire1 wire2 wire3 : Option Wire) (kept0 kept1 : Option Tables) (f0 f1 c0 c1 : ℕ) →
+pub not_held : (book : Book) (result : LinkEnd) (held now_held : List ℕ) (wire0 wire1 wire2 wire3 : Option Wire) (kept0 kept1 : Option Tables) (f0 f1 : ℕ) (c0 c1 : List ℕ) →
     Serves book (SoFar book.infos held) wire0 kept0 wire1 kept1 f0 f1 c0 c1 → Moves (Lost read.OutOfMemory) held now_held wire1 wire2 →
     IsFull (full book.infos) result wire2 wire3 → Serves book (Ends (Finishes book.infos result)) wire0 kept0 wire3 kept1 f0 f1 c0 c1
 not_held book result held now_held wire0 wire1 wire2 wire3 kept0 kept1 f0 f1 c0 c1 so_far read is_full w is_w =
@@ -190,6 +190,6 @@ not_held book result held now_held wire0 wire1 wire2 wire3 kept0 kept1 f0 f1 c0 
         each = one.each;
         written = written_more x.0.written z.0.written w.written one.out more.0 more.1 same;
         holds = more.2;
-        told = one.told;
+        settles = one.settles;
       },
     )

@@ -1,12 +1,16 @@
 -- What is answered to what comes over a connection, one thing after another: to a head that is refused and to a message
 -- that makes no request their refusals, and to a request what the machine answers.
 use Rattle.std.specs.Prelude.{◌≡◌, ℕ, ◌+◌, ◌≤◌, ◌⊎◌, List, [], ◌∷◌, ◌++◌, Result, Ok, Err}
+use Rattle.counts.specs.Counts.{Rose}
 use Rattle.rule_core.specs.declared.info.RuleInfo.{RuleInfo}
 use Rattle.judge_core.specs.Books.{Book}
+use Rattle.desk_core.specs.declared.refusal.Refusal.{Refusal}
+use Rattle.desk_core.specs.declared.refusal.Refusal.TheVariants.{KeeperFault}
 use Rattle.desk_core.specs.declared.reply.Reply.{Reply}
+use Rattle.desk_core.specs.declared.reply.Reply.TheVariants as reply
 use Rattle.desk_core.specs.State.{State, site_at}
 use Rattle.desk_core.specs.Steps.{Request, site_of}
-use Rattle.desk_core.specs.Costs.{command_judgings}
+use Rattle.desk_core.specs.Costs.{IsImport, command_judgings}
 use Rattle.desk_core.specs.Runs as machine
 use Rattle.http_messages.specs.declared.item.Sent.{Sent}
 use Rattle.http_messages.specs.declared.item.Sent.TheVariants.{Asked, Refused}
@@ -24,9 +28,13 @@ use Rattle.http_replies.specs.Answers.{answer_bytes, no_memory}
 abbrev pub as_request : command.Asked → Request
 as_request asked = record { caller = asked.caller; command = asked.command }
 
--- nothing is done: the answer is this refusal, or there was no memory
+-- the answer is this refusal, or there was no memory
+abbrev pub GetsRefusal : Answer → Answer → Type 0
+GetsRefusal refusal answer = (answer ≡ refusal) ⊎ (answer ≡ no_memory)
+
+-- nothing is done
 abbrev pub Declines : Answer → State → Answer → State → Type 0
-Declines refusal old answer new = (new ≡ old) × ((answer ≡ refusal) ⊎ (answer ≡ no_memory))
+Declines refusal old answer new = (new ≡ old) × GetsRefusal refusal answer
 
 abbrev pub AnswersMessage : Book → State → Result command.Asked RequestFault → Answer → State → ℕ → ℕ → Type 0
 AnswersMessage book old (Err fault) answer new before now = Declines (Misasked fault) old answer new
@@ -46,6 +54,33 @@ abbrev pub sent_judgings : Book → State → Sent → ℕ
 sent_judgings book state (Refused fault) = 0
 sent_judgings book state (Asked m) = message_judgings book state (request_of book.infos m.head m.body)
 
+-- ---- one thing, whatever is kept
+
+-- A head that is refused and a message that makes no request get their refusals. A request gets a reply, which is the keeper's
+-- fault only where its count rose.
+abbrev pub MessageGets : Result command.Asked RequestFault → Answer → ℕ → ℕ → Type 0
+MessageGets (Err fault) answer before now = GetsRefusal (Misasked fault) answer
+MessageGets (Ok asked) answer before now = (r : Reply) × (answer ≡ Replied r) × (r ≡ reply.Refused KeeperFault → Rose before now)
+
+abbrev pub Gets : List RuleInfo → Sent → Answer → ℕ → ℕ → Type 0
+Gets infos (Refused fault) answer before now = GetsRefusal (Misread fault) answer
+Gets infos (Asked m) answer before now = MessageGets (request_of infos m.head m.body) answer before now
+
+-- the answer is a refusal
+abbrev pub Refuses : Answer → Type 0
+Refuses (Misread fault) = Unit {0}
+Refuses (Misasked fault) = Unit {0}
+Refuses (Replied r) = (refusal : Refusal) × (r ≡ reply.Refused refusal)
+
+-- it asks for no import
+abbrev pub MessageSpares : Result command.Asked RequestFault → Type 0
+MessageSpares (Err fault) = Unit {0}
+MessageSpares (Ok asked) = IsImport asked.command → ⊥
+
+abbrev pub SparesOthers : List RuleInfo → Sent → Type 0
+SparesOthers infos (Refused fault) = Unit {0}
+SparesOthers infos (Asked m) = MessageSpares (request_of infos m.head m.body)
+
 -- ---- one after another
 
 -- Items are answered one after another, as the keeper's count of faults goes from one number to another. All of them may
@@ -57,6 +92,14 @@ Runs book old (i ∷ is) (a ∷ said) new from to most =
     × Runs book mid is said new now to rest × (most ≡ sent_judgings book old i.sent + rest)
 Runs book old [] (a ∷ said) new from to most = ⊥
 Runs book old (i ∷ is) [] new from to most = ⊥
+
+-- each gets what it gets whatever is kept, as the keeper's count of faults goes from one number to another
+abbrev pub AllGet : List RuleInfo → List Item → List Answer → ℕ → ℕ → Type 0
+AllGet infos [] [] from to = from ≤ to
+AllGet infos (i ∷ is) (a ∷ said) from to =
+    (before : ℕ) × (now : ℕ) × (from ≤ before) × (before ≤ now) × Gets infos i.sent a before now × AllGet infos is said now to
+AllGet infos [] (a ∷ said) from to = ⊥
+AllGet infos (i ∷ is) [] from to = ⊥
 
 -- the bytes of the answers
 abbrev pub answers : List RuleInfo → List Item → List Answer → List ℕ

@@ -1,6 +1,5 @@
 -- What serving a door does: its log grows by the links that were served, one after the other.
 use Rattle.std.specs.Prelude.{◌≡◌, ℕ, ◌+◌, List, [], ◌∷◌, ◌++◌, length, flat_map, Option, Some}
-use Rattle.counts.specs.Counts.{Rose}
 use Rattle.links.specs.Wires.{Wire}
 use Rattle.links.specs.Doors.{Doorway}
 use Rattle.rule_core.specs.declared.info.RuleInfo.{RuleInfo}
@@ -9,9 +8,8 @@ use Rattle.keep_core.specs.Tables.{Tables}
 use Rattle.http_messages.specs.declared.item.Item.{Item}
 use Rattle.http_replies.specs.declared.answer.Answer.{Answer}
 use Rattle.desk_http.specs.declared.link_end.LinkEnd.{LinkEnd}
-use Rattle.desk_http.specs.declared.link_end.LinkEnd.TheVariants.{LinkFault}
-use Rattle.desk_http.specs.Linking.{Finishes}
-use Rattle.desk_http.specs.Serving.{OfSound, Run}
+use Rattle.desk_http.specs.Linking.{Finishes, CountsFaults}
+use Rattle.desk_http.specs.Serving.{SettlesAll}
 
 -- ---- a link
 
@@ -22,12 +20,13 @@ pub record Visit : Type 0 where
   pub said : List Answer
   pub end : LinkEnd
 
--- The link in the log was served so: all bytes that it brings end so after the items, and all that was written are the answers. A
--- fault ended it only where the link counted one.
+-- The link in the log was served so: all bytes that it brings end so after the items, each of which has its answer, and all that was
+-- written are the answers. A fault ended it only where the link counted one, and else it counted none.
 pub record IsVisit {C : Type 0} (infos : List RuleInfo) (wire : C → Option Wire) (faults : C → ℕ) (link : C) (v : Visit) : Type 0 where
   pub told : wire link ≡ Some v.wire
+  pub each : length v.said ≡ length v.items
   pub finishes : Finishes infos v.end v.wire.brought v.items v.said v.wire.written
-  pub failed : v.end ≡ LinkFault → Rose 0 (faults link)
+  pub counted : CountsFaults v.end 0 (faults link)
 
 -- ---- the links of a log
 
@@ -57,18 +56,18 @@ pub record Grows {C : Type 0} (before log more : List C) (old new : Doorway) : T
   pub count : old.allowed ≡ new.allowed + length more
 
 -- Where the log is told, it grew by links that were served. Where each of these tells its wire, all items of all of them were
--- answered one after another, from tables to tables where the keeper tells them. The keeper's faults and the books' calls go from
--- one number to another.
+-- answered one after another, from tables to tables where the keeper tells them. The keeper's count of faults, and how often each
+-- book judged, go from one to the other.
 abbrev pub ServesDoor : {C : Type 0} → Book → (C → Option Wire) → (C → ℕ) → Option (List C) → Doorway → Option Tables → Option (List C) → Doorway → Option Tables
-    → ℕ → ℕ → ℕ → ℕ → Type 0
+    → ℕ → ℕ → List ℕ → List ℕ → Type 0
 ServesDoor book wire faults old_log old kept new_log new now_kept from to calls now_calls =
     (log : List _) → new_log ≡ Some log → (before : List _) × (more : List _) × (old_log ≡ Some before) × Grows before log more old new
     × (AreTold wire more → (vs : List Visit) × AreVisits book.infos wire faults more vs
-    × OfSound book (Run book (all_items vs) (all_said vs) from to calls now_calls) kept now_kept)
+    × SettlesAll book (all_items vs) (all_said vs) kept now_kept from to calls now_calls)
 
 -- one link was served and given back to the log
-abbrev pub ServesOne : {C : Type 0} → Book → (C → Option Wire) → (C → ℕ) → Option (List C) → Option Tables → Option (List C) → Option Tables → ℕ → ℕ → ℕ → ℕ → Type 0
+abbrev pub ServesOne : {C : Type 0} → Book → (C → Option Wire) → (C → ℕ) → Option (List C) → Option Tables → Option (List C) → Option Tables → ℕ → ℕ → List ℕ → List ℕ → Type 0
 ServesOne book wire faults old_log kept new_log now_kept from to calls now_calls =
     (log : List _) → new_log ≡ Some log → (before : List _) × (link : _) × (old_log ≡ Some before) × (log ≡ before ++ link ∷ [])
     × ((w : Wire) → wire link ≡ Some w
-    → (v : Visit) × IsVisit book.infos wire faults link v × OfSound book (Run book v.items v.said from to calls now_calls) kept now_kept)
+    → (v : Visit) × IsVisit book.infos wire faults link v × SettlesAll book v.items v.said kept now_kept from to calls now_calls)

@@ -1,6 +1,7 @@
 -- How the service of a link ends, by the bytes that it had still to give, the items that were answered, the answers and
 -- what was written.
 use Rattle.std.specs.Prelude.{◌≡◌, ℕ, ◌<◌, ◌⊎◌, true, List, [], ◌∷◌, ◌++◌, length}
+use Rattle.counts.specs.Counts.{Rose}
 use Rattle.rule_core.specs.declared.info.RuleInfo.{RuleInfo}
 use Rattle.http_messages.specs.declared.item.Item.{Item}
 use Rattle.http_messages.specs.Talk.{End, ended, cut, closed, going, Talk}
@@ -40,3 +41,8 @@ Finishes infos Cut bytes is said out = Talk bytes is cut × (out ≡ answers inf
 Finishes infos Closed bytes is said out =
     (Talk bytes is closed × (out ≡ answers infos is said)) ⊎ (Goes bytes is × (out ≡ answers infos is said ++ full infos))
 Finishes infos LinkFault bytes is said out = Breaks infos bytes is said out
+
+-- how a link's count of faults stands after its service: it rose where the link failed, and else no call of it failed
+abbrev pub CountsFaults : LinkEnd → ℕ → ℕ → Type 0
+CountsFaults LinkFault before now = Rose before now
+CountsFaults other before now = now ≡ before

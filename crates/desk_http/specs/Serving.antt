@@ -1,15 +1,21 @@
 -- What serving does to a link and to what is kept. A link tells its bytes or doesn't, and a keeper its tables: what is told
 -- afterwards was told before.
-use Rattle.std.specs.Prelude.{◌≡◌, ℕ, ◌+◌, ◌≤◌, ◌⊎◌, Bool, List, ◌++◌, length, Option, Some, Result, Ok, Err}
+use Rattle.std.specs.Prelude.{◌≡◌, ℕ, ◌+◌, ◌≤◌, ◌⊎◌, Bool, List, ◌++◌, length, drop, sum, Option, Some, Result, Ok, Err}
+use Rattle.std.specs.List.{AllByRecursion}
+use Rattle.counts.specs.Counts.{Rose}
 use Rattle.links.specs.declared.failed.Failed.{Failed}
 use Rattle.links.specs.Wires.{Wire, Wrote, WroteFront}
 use Rattle.rule_core.specs.declared.info.RuleInfo.{RuleInfo}
 use Rattle.judge_core.specs.Books.{Book}
 use Rattle.keep_core.specs.Tables.{Tables}
+use Rattle.keep_core.specs.Keeping.{Stays}
+use Rattle.desk_core.specs.declared.refusal.Refusal.{Refusal}
+use Rattle.desk_core.specs.declared.refusal.Refusal.TheVariants.{KeeperFault}
 use Rattle.desk_core.specs.declared.reply.Reply.{Reply}
+use Rattle.desk_core.specs.declared.reply.Reply.TheVariants.{Refused}
 use Rattle.desk_core.specs.State.{state_of, site_at}
 use Rattle.desk_core.specs.Steps.{Request, site_of}
-use Rattle.desk_core.specs.Costs.{command_judgings}
+use Rattle.desk_core.specs.Costs.{IsImport, command_judgings}
 use Rattle.desk_core.specs.Runs.{Answers}
 use Rattle.desk_core.specs.Soundness.{IsSound}
 use Rattle.http_messages.specs.Talk.{going, Talk}
@@ -18,7 +24,7 @@ use Rattle.http_messages.specs.declared.item.Item.{Item}
 use Rattle.http_replies.specs.declared.answer.Answer.{Answer}
 use Rattle.http_replies.specs.declared.answer.Answer.TheVariants.{Replied}
 use Rattle.http_replies.specs.Answers.{answer_bytes}
-use Rattle.desk_http.specs.Answering.{AnswersSent, sent_judgings, Runs, answers}
+use Rattle.desk_http.specs.Answering.{AnswersSent, sent_judgings, Gets, Refuses, SparesOthers, Runs, AllGet, answers}
 use Rattle.desk_http.specs.declared.link_end.LinkEnd.{LinkEnd}
 use Rattle.desk_http.specs.declared.link_end.LinkEnd.TheVariants as end
 
@@ -34,31 +40,46 @@ OfSound book Q old new = (t : Tables) → new ≡ Some t → (s : Tables) × (ol
 
 -- ---- one thing that came
 
--- It was answered so, from these tables to those. Both pairs of counts, the keeper's faults and the books' calls, go from one
--- number to another.
-abbrev pub AnsweredBy : Book → Sent → Answer → ℕ → ℕ → ℕ → ℕ → Tables → Tables → Type 0
-AnsweredBy book sent answer from to calls now_calls s t =
-    AnswersSent book (state_of s) sent answer (state_of t) from to × (now_calls ≤ calls + sent_judgings book (state_of s) sent)
+-- how often the books judged, but the first: as often as before
+abbrev pub OthersRest : List ℕ → List ℕ → Type 0
+OthersRest calls now_calls = drop 1 now_calls ≡ drop 1 calls
 
--- it was answered by these bytes
-pub record Responds (book : Book) (sent : Sent) (closes : Bool) (old new : Option Tables) (from to calls now_calls : ℕ) (bytes : List ℕ) : Type 0 where
-  pub answer : Answer
-  pub bytes_are : bytes ≡ answer_bytes book.infos answer closes
+-- It was answered so, from these tables to those. The keeper's count of faults, and how often each book judged, go from one to the
+-- other.
+abbrev pub AnsweredBy : Book → Sent → Answer → ℕ → ℕ → List ℕ → List ℕ → Tables → Tables → Type 0
+AnsweredBy book sent answer from to calls now_calls s t =
+    AnswersSent book (state_of s) sent answer (state_of t) from to × (sum now_calls ≤ sum calls + sent_judgings book (state_of s) sent)
+
+-- It was answered so: as the machine does where the tables were sound; and whatever is kept, a refusal is the one that is due and
+-- leaves the tables, and only an import uses other books than the first.
+pub record Settles (book : Book) (sent : Sent) (answer : Answer) (old new : Option Tables) (from to : ℕ) (calls now_calls : List ℕ) : Type 0 where
   pub told : OfSound book (AnsweredBy book sent answer from to calls now_calls) old new
   pub never_falls : from ≤ to
+  pub gets : Gets book.infos sent answer from to
+  pub refused : Refuses answer → Stays old new
+  pub others : SparesOthers book.infos sent → OthersRest calls now_calls
+
+-- it was answered by these bytes
+pub record Responds (book : Book) (sent : Sent) (closes : Bool) (old new : Option Tables) (from to : ℕ) (calls now_calls : List ℕ) (bytes : List ℕ) : Type 0 where
+  pub answer : Answer
+  pub bytes_are : bytes ≡ answer_bytes book.infos answer closes
+  pub settles : Settles book sent answer old new from to calls now_calls
 
 -- the machine replied so to a request
-abbrev pub RepliedBy : Book → Request → Reply → ℕ → ℕ → ℕ → ℕ → Tables → Tables → Type 0
+abbrev pub RepliedBy : Book → Request → Reply → ℕ → ℕ → List ℕ → List ℕ → Tables → Tables → Type 0
 RepliedBy book request reply from to calls now_calls s t =
     Answers book (state_of s) request reply (state_of t) from to
-    × (now_calls ≤ calls + command_judgings book request.command (site_at (site_of request.command) (state_of s)))
+    × (sum now_calls ≤ sum calls + command_judgings book request.command (site_at (site_of request.command) (state_of s)))
 
 -- the machine answered a request by these bytes
-pub record RespondsTo (book : Book) (request : Request) (closes : Bool) (old new : Option Tables) (from to calls now_calls : ℕ) (bytes : List ℕ) : Type 0 where
+pub record RespondsTo (book : Book) (request : Request) (closes : Bool) (old new : Option Tables) (from to : ℕ) (calls now_calls : List ℕ) (bytes : List ℕ) : Type 0 where
   pub reply : Reply
   pub bytes_are : bytes ≡ answer_bytes book.infos (Replied reply) closes
   pub told : OfSound book (RepliedBy book request reply from to calls now_calls) old new
   pub never_falls : from ≤ to
+  pub failed : reply ≡ Refused KeeperFault → Rose from to
+  pub refused : (refusal : Refusal) → reply ≡ Refused refusal → Stays old new
+  pub others : (IsImport request.command → ⊥) → OthersRest calls now_calls
 
 -- these bytes, or those for want of memory
 abbrev pub IsEither : List ℕ → List ℕ → List ℕ → Type 0
@@ -76,24 +97,31 @@ WritesAll result bytes old new =
 
 -- an item was answered over a link
 pub record ServesItem {A : Type 0} (book : Book) (i : Item) (result : Result A Failed) (old_wire : Option Wire) (old : Option Tables) (wire : Option Wire)
-    (new : Option Tables) (from to calls now_calls : ℕ) : Type 0 where
+    (new : Option Tables) (from to : ℕ) (calls now_calls : List ℕ) : Type 0 where
   pub answer : Answer
   pub wrote : WritesAll result (answer_bytes book.infos answer i.closes) old_wire wire
-  pub told : OfSound book (AnsweredBy book i.sent answer from to calls now_calls) old new
-  pub never_falls : from ≤ to
+  pub settles : Settles book i.sent answer old new from to calls now_calls
 
 -- ---- all that came
 
 -- these items were answered so, from these tables to those
-pub record Run (book : Book) (items : List Item) (said : List Answer) (from to calls now_calls : ℕ) (s t : Tables) : Type 0 where
+pub record Run (book : Book) (items : List Item) (said : List Answer) (from to : ℕ) (calls now_calls : List ℕ) (s t : Tables) : Type 0 where
   pub most : ℕ
   pub runs : Runs book (state_of s) items said (state_of t) from to most
-  pub few : now_calls ≤ calls + most
+  pub few : sum now_calls ≤ sum calls + most
+
+-- They were answered so: as the machine does where the tables were sound; and whatever is kept, each gets the refusal that is due,
+-- where all are refused the tables stay, and where none asks for an import only the first book is used.
+pub record SettlesAll (book : Book) (items : List Item) (said : List Answer) (old new : Option Tables) (from to : ℕ) (calls now_calls : List ℕ) : Type 0 where
+  pub told : OfSound book (Run book items said from to calls now_calls) old new
+  pub get : AllGet book.infos items said from to
+  pub refused : AllByRecursion Refuses said → Stays old new
+  pub others : AllByRecursion (λ (i : Item). SparesOthers book.infos i.sent) items → OthersRest calls now_calls
 
 -- Items were answered over a link, each once. Of the bytes that it had still to give, those that it has, the items, the answers
 -- and what was written, this holds.
 pub record Served (book : Book) (P : List ℕ → List ℕ → List Item → List Answer → List ℕ → Type 0) (v w : Wire) (old new : Option Tables)
-    (from to calls now_calls : ℕ) : Type 0 where
+    (from to : ℕ) (calls now_calls : List ℕ) : Type 0 where
   pub items : List Item
   pub said : List Answer
   pub out : List ℕ
@@ -101,9 +129,10 @@ pub record Served (book : Book) (P : List ℕ → List ℕ → List Item → Lis
   pub each : length said ≡ length items
   pub written : w.written ≡ v.written ++ out
   pub holds : P v.left w.left items said out
-  pub told : OfSound book (Run book items said from to calls now_calls) old new
+  pub settles : SettlesAll book items said old new from to calls now_calls
 
-abbrev pub Serves : Book → (List ℕ → List ℕ → List Item → List Answer → List ℕ → Type 0) → Option Wire → Option Tables → Option Wire → Option Tables → ℕ → ℕ → ℕ → ℕ → Type 0
+abbrev pub Serves : Book → (List ℕ → List ℕ → List Item → List Answer → List ℕ → Type 0) → Option Wire → Option Tables → Option Wire → Option Tables → ℕ → ℕ → List ℕ
+    → List ℕ → Type 0
 Serves book P old_wire old wire new from to calls now_calls =
     (w : Wire) → wire ≡ Some w → (v : Wire) × (old_wire ≡ Some v) × Served book P v w old new from to calls now_calls
 

@@ -1,4 +1,4 @@
-ghost use Rattle.std.specs.Prelude.{◌≡◌, ◌<◌, ◌≤◌, List, [], length, sum_by, IfOk, IsTrue};
+ghost use Rattle.std.specs.Prelude.{◌≡◌, ◌<◌, ◌≤◌, List, [], length, map, IfOk, IsTrue};
 ghost use Rattle.std.specs.Vec.{vec_capacity};
 ghost use Rattle.rule_core.specs.declared.info.RuleInfo.{RuleInfo};
 ghost use Rattle.rule_core.specs.Infos.{is_orderly};
@@ -32,7 +32,7 @@ pub(crate) fn answer<R: Threads + Sync, K: Keeper, B: RuleBook + Send>(
 ) -> Printed
     requires some { 0 < length books.old }
     ensures { Responds (record { infos = B.infos; means = B.means }) sent.now closes (K.tables keeper.old) (K.tables keeper.new)
-        (K.faults keeper.old) (K.faults keeper.new) (sum_by B.calls books.old) (sum_by B.calls books.new) (bytes_of result) }
+        (K.faults keeper.old) (K.faults keeper.new) (map B.calls books.old) (map B.calls books.new) (bytes_of result) }
 {
     match sent {
         Sent::Refused(fault) => refuse(alloc, &books[0], Answer::Misread(*fault), closes),
@@ -50,7 +50,7 @@ fn answer_message<R: Threads + Sync, K: Keeper, B: RuleBook + Send>(
 ) -> Printed
     requires some { 0 < length books.old }
     ensures { Responds (record { infos = B.infos; means = B.means }) (came.Asked message.now) closes (K.tables keeper.old) (K.tables keeper.new)
-        (K.faults keeper.old) (K.faults keeper.new) (sum_by B.calls books.old) (sum_by B.calls books.new) (bytes_of result) }
+        (K.faults keeper.old) (K.faults keeper.new) (map B.calls books.old) (map B.calls books.new) (bytes_of result) }
 {
     match request_of(alloc, &books[0], &message.head, message.body.as_slice()) {
         Ok(Ok(asked)) => answer_request(rt, alloc, keeper, books, asked, closes),
@@ -119,7 +119,7 @@ fn answer_request<R: Threads + Sync, K: Keeper, B: RuleBook + Send>(
     requires some { 0 < length books.old }
     requires fits { FitsRequest (record { infos = B.infos; means = B.means }) (as_request asked) }
     ensures { RespondsTo (record { infos = B.infos; means = B.means }) (as_request asked) closes (K.tables keeper.old) (K.tables keeper.new)
-        (K.faults keeper.old) (K.faults keeper.new) (sum_by B.calls books.old) (sum_by B.calls books.new) (bytes_of result) }
+        (K.faults keeper.old) (K.faults keeper.new) (map B.calls books.old) (map B.calls books.new) (bytes_of result) }
 {
     match paper_for(alloc, &books[0]) {
         Ok(paper) => hand_over(rt, alloc, keeper, books, asked, paper, closes),
@@ -143,7 +143,7 @@ fn hand_over<R: Threads + Sync, K: Keeper, B: RuleBook + Send>(
     requires empty { paper.room.items ≡ [] }
     requires room { MOST_REPLY ≤ vec_capacity paper.room }
     ensures { RespondsTo (record { infos = B.infos; means = B.means }) (as_request asked) closes (K.tables keeper.old) (K.tables keeper.new)
-        (K.faults keeper.old) (K.faults keeper.new) (sum_by B.calls books.old) (sum_by B.calls books.new) (bytes_of result) }
+        (K.faults keeper.old) (K.faults keeper.new) (map B.calls books.old) (map B.calls books.new) (bytes_of result) }
 {
     let Asked { caller, command } = asked;
     let reply = handle(rt, alloc, books, keeper, &caller, command);

@@ -1,10 +1,8 @@
-ghost use Rattle.std.specs.Prelude.{◌≡◌, ◌<◌, ◌≤◌, List, length, sum_by, OnOk};
+ghost use Rattle.std.specs.Prelude.{◌≡◌, ◌<◌, ◌≤◌, List, length, map, OnOk};
 ghost use Rattle.rule_core.specs.declared.info.RuleInfo.{RuleInfo};
-ghost use Rattle.counts.specs.Counts.{Rose};
 ghost use Rattle.links.specs.Wires.{Counts, IsUntouched};
 ghost use Rattle.links.specs.Doors.{TookBack};
-ghost use Rattle.desk_http.specs.declared.link_end.LinkEnd.TheVariants.{LinkFault};
-ghost use Rattle.desk_http.specs.Linking.{Finishes, full};
+ghost use Rattle.desk_http.specs.Linking.{Finishes, CountsFaults, full};
 ghost use Rattle.desk_http.specs.Serving.{KeepsSound, ServesItem, Serves, Ends, IsFull};
 ghost use Rattle.desk_http.specs.Doors.{ServesDoor, ServesOne};
 
@@ -23,10 +21,11 @@ use std::thread::Threads;
 ///
 /// The log grows by as many links as the number of connections still allowed goes down. Where log, links and
 /// keeper tell what they hold and the tables were sound, they are sound, and the messages of these links, one
-/// link after the other, were answered by the machine: what was written to each is told as by `serve_link`.
-/// All of them cost no more judgings than the machine allows for each request.
+/// link after the other, were answered by the machine, each over the link that brought it: what was written to
+/// each is told as by `serve_link`. All of them cost no more judgings than the machine allows for each request.
+/// Whatever is kept, refusals are said of them as by `serve_link`.
 ///
-/// `Failed` comes only where the door met a fault.
+/// `Failed` comes only where the door met a fault, and Ok only where it met none.
 pub fn serve<R: Threads + Sync, D: Door, K: Keeper, B: RuleBook + Send>(
     rt: &R,
     alloc: Global,
@@ -36,7 +35,7 @@ pub fn serve<R: Threads + Sync, D: Door, K: Keeper, B: RuleBook + Send>(
 ) -> Result<(), Failed>
     requires some { 0 < length books.old }
     ensures served { ServesDoor (record { infos = B.infos; means = B.means }) D.Conn.wire D.Conn.faults (D.log door.old) (D.told door.old) (K.tables keeper.old)
-        (D.log door.new) (D.told door.new) (K.tables keeper.new) (K.faults keeper.old) (K.faults keeper.new) (sum_by B.calls books.old) (sum_by B.calls books.new) }
+        (D.log door.new) (D.told door.new) (K.tables keeper.new) (K.faults keeper.old) (K.faults keeper.new) (map B.calls books.old) (map B.calls books.new) }
     ensures sound { KeepsSound (record { infos = B.infos; means = B.means }) (K.tables keeper.old) (K.tables keeper.new) }
     ensures heard { (D.told door.new).heard ≡ (D.told door.old).heard }
     ensures given_back { (D.told door.new).out ≡ (D.told door.old).out }
@@ -66,7 +65,7 @@ fn serve_next<R: Threads + Sync, D: Door, K: Keeper, B: RuleBook + Send>(
     requires out { 0 < (D.told door.old).out }
     requires untouched { IsUntouched (D.Conn.wire link) (D.Conn.faults link) }
     ensures served { ServesOne (record { infos = B.infos; means = B.means }) D.Conn.wire D.Conn.faults (D.log door.old) (K.tables keeper.old)
-        (D.log door.new) (K.tables keeper.new) (K.faults keeper.old) (K.faults keeper.new) (sum_by B.calls books.old) (sum_by B.calls books.new) }
+        (D.log door.new) (K.tables keeper.new) (K.faults keeper.old) (K.faults keeper.new) (map B.calls books.old) (map B.calls books.new) }
     ensures sound { KeepsSound (record { infos = B.infos; means = B.means }) (K.tables keeper.old) (K.tables keeper.new) }
     ensures took { TookBack (D.told door.old) (D.told door.new) }
     ensures kept { K.faults keeper.old ≤ K.faults keeper.new }
@@ -81,8 +80,11 @@ fn serve_next<R: Threads + Sync, D: Door, K: Keeper, B: RuleBook + Send>(
 /// What the link still has to give is its connection. Where it tells its bytes, the end is that of the
 /// connection, and what is written are answers to its messages, in order; at a fault of the link a front of
 /// them. Where the keeper tells its tables too and they were sound, they are sound, and the answers are the
-/// machine's. `LinkFault` comes only where the link met a fault. Of a message that can't be held for want of
-/// memory the machine hears nothing: it is answered so, and the link is closed.
+/// machine's. Sound or not, a head that is refused and a message that makes no request get their refusals;
+/// where all are refused, the tables stay; and where none asks for an import, only the first book is used.
+///
+/// `LinkFault` comes only where the link met a fault, and every other end only where it met none. Of a message
+/// that can't be held for want of memory the machine hears nothing: it is answered so, and the link is closed.
 pub fn serve_link<R: Threads + Sync, L: Link, K: Keeper, B: RuleBook + Send>(
     rt: &R,
     alloc: Global,
@@ -92,9 +94,9 @@ pub fn serve_link<R: Threads + Sync, L: Link, K: Keeper, B: RuleBook + Send>(
 ) -> LinkEnd
     requires some { 0 < length books.old }
     ensures served { Serves (record { infos = B.infos; means = B.means }) (Ends (Finishes B.infos result)) (L.wire link.old) (K.tables keeper.old)
-        (L.wire link.new) (K.tables keeper.new) (K.faults keeper.old) (K.faults keeper.new) (sum_by B.calls books.old) (sum_by B.calls books.new) }
+        (L.wire link.new) (K.tables keeper.new) (K.faults keeper.old) (K.faults keeper.new) (map B.calls books.old) (map B.calls books.new) }
     ensures sound { KeepsSound (record { infos = B.infos; means = B.means }) (K.tables keeper.old) (K.tables keeper.new) }
-    ensures failed { result ≡ LinkFault → Rose (L.faults link.old) (L.faults link.new) }
+    ensures faults { CountsFaults result (L.faults link.old) (L.faults link.new) }
     ensures never_falls { L.faults link.old ≤ L.faults link.new }
     ensures kept { K.faults keeper.old ≤ K.faults keeper.new }
 {
@@ -130,7 +132,7 @@ fn serve_item<R: Threads + Sync, L: Link, K: Keeper, B: RuleBook + Send>(
 ) -> Result<(), Failed>
     requires some { 0 < length books.old }
     ensures served { ServesItem (record { infos = B.infos; means = B.means }) item result (L.wire link.old) (K.tables keeper.old)
-        (L.wire link.new) (K.tables keeper.new) (K.faults keeper.old) (K.faults keeper.new) (sum_by B.calls books.old) (sum_by B.calls books.new) }
+        (L.wire link.new) (K.tables keeper.new) (K.faults keeper.old) (K.faults keeper.new) (map B.calls books.old) (map B.calls books.new) }
     ensures sound { KeepsSound (record { infos = B.infos; means = B.means }) (K.tables keeper.old) (K.tables keeper.new) }
     ensures reads { L.reads link.new ≡ L.reads link.old }
     ensures counts { Counts (L.faults link.old) (L.faults link.new) result }
@@ -142,7 +144,7 @@ fn serve_item<R: Threads + Sync, L: Link, K: Keeper, B: RuleBook + Send>(
 // Answers a message that couldn't be held.
 fn close_full<L: Link>(link: &mut L) -> LinkEnd
     ensures closed { (infos : List RuleInfo) → IsFull (full infos) result (L.wire link.old) (L.wire link.new) }
-    ensures failed { result ≡ LinkFault → Rose (L.faults link.old) (L.faults link.new) }
+    ensures faults { CountsFaults result (L.faults link.old) (L.faults link.new) }
     ensures never_falls { L.faults link.old ≤ L.faults link.new }
 {
     match write_all(link, no_memory(true)) {

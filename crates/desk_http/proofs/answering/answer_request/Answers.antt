@@ -1,4 +1,4 @@
-use Rattle.std.proofs.Common.{sum_by}
+use Rattle.std.proofs.Common.{map}
 use Rattle.judge_core.specs.Books.{Book}
 use Rattle.desk_http.specs.Printed.{bytes_of}
 use Rattle.desk_http.specs.Answering.{as_request}
@@ -10,5 +10,5 @@ returns-in-Err g c =
     let keeper = g.K.Keeper in
     let calls = g.B.RuleBook.calls in
     let book : Book = record { infos = g.B.RuleBook.infos; means = g.B.RuleBook.means } in
-    unhandled book (as_request c.args.asked) c.args.closes (keeper.tables c.args.keeper.now) (keeper.faults c.args.keeper.now) (sum_by calls c.args.books.now)
+    unhandled book (as_request c.args.asked) c.args.closes (keeper.tables c.args.keeper.now) (keeper.faults c.args.keeper.now) (map calls c.args.books.now)
     (bytes_of c.drop_request.result) (c.drop_request.ensures book.infos)

@@ -1,4 +1,4 @@
-use Rattle.std.proofs.Common.{◌∙◌, refl, arith, sum_by}
+use Rattle.std.proofs.Common.{◌∙◌, refl, arith, map}
 use Rattle.counts.proofs.CountLaws.{rose_after}
 use Rattle.judge_core.specs.Books.{Book}
 use Rattle.desk_http.proofs.Tables.{keeps_join}
@@ -12,12 +12,12 @@ loop-link-init g c =
     let keeper = g.K.Keeper in
     let book : Book = record { infos = g.B.RuleBook.infos; means = g.B.RuleBook.means } in
     record {
-      served = door_none book link.wire link.faults (door.log c.args.door.now) (door.told c.args.door.now) (keeper.tables c.args.keeper.now) (keeper.faults c.args.keeper.now) (sum_by g.B.RuleBook.calls c.args.books.now);
+      served = door_none book link.wire link.faults (door.log c.args.door.now) (door.told c.args.door.now) (keeper.tables c.args.keeper.now) (keeper.faults c.args.keeper.now) (map g.B.RuleBook.calls c.args.books.now);
       sound = λ t is. (t, is, λ sound. sound);
       heard = refl;
       given_back = refl;
       kept = omega arith;
-      never_falls = omega arith;
+      faults = refl;
     }
 
 pub serve_next-requires-clause-out : goal.serve_next-requires-clause-out
@@ -46,13 +46,13 @@ loop-link-preserved g c =
           (door.told c.args.door.now) (door.told c.loop-link.door) (door.told c.next.new.self) (door.told c.serve_next.new.door)
           (keeper.tables c.args.keeper.now) (keeper.tables c.loop-link.keeper) (keeper.tables c.serve_next.new.keeper)
           (keeper.faults c.args.keeper.now) (keeper.faults c.loop-link.keeper) (keeper.faults c.serve_next.new.keeper)
-          (sum_by calls c.args.books.now) (sum_by calls c.loop-link.books) (sum_by calls c.serve_next.new.books)
+          (map calls c.args.books.now) (map calls c.loop-link.books) (map calls c.serve_next.new.books)
           i.served c.next.ensures.log gave one.served one.took;
       sound = keeps_join book (keeper.tables c.args.keeper.now) (keeper.tables c.loop-link.keeper) (keeper.tables c.serve_next.new.keeper) i.sound one.sound;
       heard = one.took.heard ∙ gave.heard ∙ i.heard;
       given_back = omega (arith, i.given_back, gave.out, one.took.out);
       kept = omega (arith, i.kept, one.kept);
-      never_falls = omega (arith, i.never_falls, c.next.ensures.counts.never_falls, one.took.faults);
+      faults = one.took.faults ∙ (c.in-Ok-Some.ensures.counts.same ∙ i.faults);
     }
 
 pub returns-in-Ok-None-clause-served : goal.returns-in-Ok-None-clause-served
@@ -65,7 +65,7 @@ returns-in-Ok-None-clause-served g c =
     let ended = rw c.in-Ok-None.field-0-is at c.in-Ok-None.ensures.gives in
     door_keeps book link.wire link.faults (door.log c.args.door.now) (door.log c.loop-link.door) (door.log c.next.new.self)
     (door.told c.args.door.now) (door.told c.loop-link.door) (door.told c.next.new.self) (keeper.tables c.args.keeper.now) (keeper.tables c.loop-link.keeper)
-    (keeper.faults c.args.keeper.now) (keeper.faults c.loop-link.keeper) (sum_by calls c.args.books.now) (sum_by calls c.loop-link.books)
+    (keeper.faults c.args.keeper.now) (keeper.faults c.loop-link.keeper) (map calls c.args.books.now) (map calls c.loop-link.books)
     c.loop-link.invariant.served c.next.ensures.log ended.0.allowed
 
 pub returns-in-Ok-None-clause-sound : goal.returns-in-Ok-None-clause-sound
@@ -84,7 +84,11 @@ pub returns-in-Ok-None-clause-kept : goal.returns-in-Ok-None-clause-kept
 returns-in-Ok-None-clause-kept g c = c.loop-link.invariant.kept
 
 pub returns-in-Ok-None-clause-counts : goal.returns-in-Ok-None-clause-counts
-returns-in-Ok-None-clause-counts g c = record { never_falls = omega (arith, c.loop-link.invariant.never_falls, c.next.ensures.counts.never_falls); rose = tt }
+returns-in-Ok-None-clause-counts g c = record {
+  never_falls = omega (arith, c.loop-link.invariant.faults, c.next.ensures.counts.never_falls);
+  rose = tt;
+  same = c.in-Ok-None.ensures.counts.same ∙ c.loop-link.invariant.faults;
+}
 
 pub returns-in-Err-clause-served : goal.returns-in-Err-clause-served
 returns-in-Err-clause-served g c =
@@ -95,7 +99,7 @@ returns-in-Err-clause-served g c =
     let book : Book = record { infos = g.B.RuleBook.infos; means = g.B.RuleBook.means } in
     door_keeps book link.wire link.faults (door.log c.args.door.now) (door.log c.loop-link.door) (door.log c.next.new.self)
     (door.told c.args.door.now) (door.told c.loop-link.door) (door.told c.next.new.self) (keeper.tables c.args.keeper.now) (keeper.tables c.loop-link.keeper)
-    (keeper.faults c.args.keeper.now) (keeper.faults c.loop-link.keeper) (sum_by calls c.args.books.now) (sum_by calls c.loop-link.books)
+    (keeper.faults c.args.keeper.now) (keeper.faults c.loop-link.keeper) (map calls c.args.books.now) (map calls c.loop-link.books)
     c.loop-link.invariant.served c.next.ensures.log c.in-Err.ensures.gives.allowed
 
 pub returns-in-Err-clause-sound : goal.returns-in-Err-clause-sound
@@ -118,6 +122,7 @@ returns-in-Err-clause-counts g c =
     let i = c.loop-link.invariant in
     let now = c.in-Err.ensures.counts in
     record {
-      never_falls = omega (arith, i.never_falls, now.never_falls);
-      rose = rose_after (g.D.Door.told c.args.door.now).faults (g.D.Door.told c.loop-link.door).faults (g.D.Door.told c.next.new.self).faults i.never_falls now.rose;
+      never_falls = omega (arith, i.faults, now.never_falls);
+      rose = rose_after (g.D.Door.told c.args.door.now).faults (g.D.Door.told c.loop-link.door).faults (g.D.Door.told c.next.new.self).faults (omega (arith, i.faults)) now.rose;
+      same = tt;
     }

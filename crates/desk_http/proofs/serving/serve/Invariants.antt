@@ -1,4 +1,4 @@
-use Rattle.std.proofs.Common.{◌≡◌, ◌≤◌, sum_by}
+use Rattle.std.proofs.Common.{◌≡◌, ◌≤◌, map}
 use Rattle.judge_core.specs.Books.{Book}
 use Rattle.desk_http.specs.Serving.{KeepsSound}
 use Rattle.desk_http.specs.Doors.{ServesDoor}
@@ -13,12 +13,12 @@ invariant-loop-link g l =
     let book : Book = record { infos = g.B.RuleBook.infos; means = g.B.RuleBook.means } in
     record {
       served : ServesDoor book link.wire link.faults (door.log l.initial.door) (door.told l.initial.door) (keeper.tables l.initial.keeper)
-          (door.log l.door) (door.told l.door) (keeper.tables l.keeper) (keeper.faults l.initial.keeper) (keeper.faults l.keeper) (sum_by calls l.initial.books) (sum_by calls l.books);
+          (door.log l.door) (door.told l.door) (keeper.tables l.keeper) (keeper.faults l.initial.keeper) (keeper.faults l.keeper) (map calls l.initial.books) (map calls l.books);
       sound : KeepsSound book (keeper.tables l.initial.keeper) (keeper.tables l.keeper);
       heard : (door.told l.door).heard ≡ (door.told l.initial.door).heard;
       given_back : (door.told l.door).out ≡ (door.told l.initial.door).out;
       kept : keeper.faults l.initial.keeper ≤ keeper.faults l.keeper;
-      never_falls : (door.told l.initial.door).faults ≤ (door.told l.door).faults;
+      faults : (door.told l.door).faults ≡ (door.told l.initial.door).faults;
     }
 
 abbrev pub decreases-loop-link : goal.decreases-loop-link

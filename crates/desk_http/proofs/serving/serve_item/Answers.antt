@@ -1,4 +1,4 @@
-use Rattle.std.proofs.Common.{sum_by}
+use Rattle.std.proofs.Common.{map}
 use Rattle.judge_core.specs.Books.{Book}
 use Rattle.desk_http.specs.Printed.{bytes_of}
 use Rattle.desk_http.specs.Serving.{AnsweredBy}
@@ -13,7 +13,7 @@ returns-clause-served g c =
     let calls = g.B.RuleBook.calls in
     let book : Book = record { infos = g.B.RuleBook.infos; means = g.B.RuleBook.means } in
     item_served book c.args.item c.write.result (link.wire c.args.link.now) (link.wire c.write.new.link) (keeper.tables c.args.keeper.now) (keeper.tables c.answer-printed.new.keeper)
-    (keeper.faults c.args.keeper.now) (keeper.faults c.answer-printed.new.keeper) (sum_by calls c.args.books.now) (sum_by calls c.answer-printed.new.books)
+    (keeper.faults c.args.keeper.now) (keeper.faults c.answer-printed.new.keeper) (map calls c.args.books.now) (map calls c.answer-printed.new.books)
     (bytes_of c.answer-printed.result) c.answer-printed.ensures c.write.ensures.wrote c.write.ensures.broke_off
 
 pub returns-clause-sound : goal.returns-clause-sound
@@ -22,7 +22,7 @@ returns-clause-sound g c =
     let calls = g.B.RuleBook.calls in
     let book : Book = record { infos = g.B.RuleBook.infos; means = g.B.RuleBook.means } in
     keeps_sound book (AnsweredBy book c.args.item.sent c.answer-printed.ensures.answer (keeper.faults c.args.keeper.now) (keeper.faults c.answer-printed.new.keeper)
-    (sum_by calls c.args.books.now) (sum_by calls c.answer-printed.new.books)) (keeper.tables c.args.keeper.now) (keeper.tables c.answer-printed.new.keeper) c.answer-printed.ensures.told
+    (map calls c.args.books.now) (map calls c.answer-printed.new.books)) (keeper.tables c.args.keeper.now) (keeper.tables c.answer-printed.new.keeper) c.answer-printed.ensures.settles.told
 
 pub returns-clause-reads : goal.returns-clause-reads
 returns-clause-reads g c = c.write.ensures.kept

@@ -1,8 +1,8 @@
-use Rattle.std.proofs.Common.{◌≤◌, Ok, Err, refl, arith, sum_by}
+use Rattle.std.proofs.Common.{ℕ, ◌≤◌, map, Ok, Err, refl, ◌∙◌, subst, arith}
 use Rattle.counts.proofs.CountLaws.{rose_after}
 use Rattle.judge_core.specs.Books.{Book}
 use Rattle.desk_http.specs.declared.link_end.LinkEnd.TheVariants as end
-use Rattle.desk_http.specs.Linking.{Finishes}
+use Rattle.desk_http.specs.Linking.{Finishes, CountsFaults}
 use Rattle.desk_http.specs.Serving.{SoFar, Ends}
 use Rattle.desk_http.proofs.Tables.{keeps_join}
 use Rattle.desk_http.proofs.Served.{begins, one_more, goes_on, closes, breaks, ended_between, ended_within, failed_between, not_held}
@@ -15,9 +15,9 @@ loop-held-init g c =
     let calls = g.B.RuleBook.calls in
     let book : Book = record { infos = g.B.RuleBook.infos; means = g.B.RuleBook.means } in
     record {
-      served = begins book c.new-held.result.items (link.wire c.args.link.now) (keeper.tables c.args.keeper.now) (keeper.faults c.args.keeper.now) (sum_by calls c.args.books.now) c.new-held.ensures.items;
+      served = begins book c.new-held.result.items (link.wire c.args.link.now) (keeper.tables c.args.keeper.now) (keeper.faults c.args.keeper.now) (map calls c.args.books.now) c.new-held.ensures.items;
       sound = λ t is. (t, is, λ sound. sound);
-      never_falls = omega arith;
+      faults = refl;
       kept = omega arith;
     }
 
@@ -28,17 +28,17 @@ returns-in-Ok-Ended-clause-served g c =
     let calls = g.B.RuleBook.calls in
     let book : Book = record { infos = g.B.RuleBook.infos; means = g.B.RuleBook.means } in
     ended_between book c.loop-held.held.items c.read_item.new.held.items (link.wire c.args.link.now) (link.wire c.loop-held.link) (link.wire c.read_item.new.link)
-    (keeper.tables c.args.keeper.now) (keeper.tables c.loop-held.keeper) (keeper.faults c.args.keeper.now) (keeper.faults c.loop-held.keeper) (sum_by calls c.args.books.now) (sum_by calls c.loop-held.books)
+    (keeper.tables c.args.keeper.now) (keeper.tables c.loop-held.keeper) (keeper.faults c.args.keeper.now) (keeper.faults c.loop-held.keeper) (map calls c.args.books.now) (map calls c.loop-held.books)
     c.loop-held.invariant.served (rw c.in-Ok-Ended.field-0-is at c.in-Ok-Ended.ensures.says)
 
 pub returns-in-Ok-Ended-clause-sound : goal.returns-in-Ok-Ended-clause-sound
 returns-in-Ok-Ended-clause-sound g c = c.loop-held.invariant.sound
 
-pub returns-in-Ok-Ended-clause-failed : goal.returns-in-Ok-Ended-clause-failed
-returns-in-Ok-Ended-clause-failed g c = λ e. absurd (cc)
+pub returns-in-Ok-Ended-clause-faults : goal.returns-in-Ok-Ended-clause-faults
+returns-in-Ok-Ended-clause-faults g c = c.in-Ok-Ended.ensures.counted.same ∙ c.loop-held.invariant.faults
 
 pub returns-in-Ok-Ended-clause-never_falls : goal.returns-in-Ok-Ended-clause-never_falls
-returns-in-Ok-Ended-clause-never_falls g c = omega (arith, c.loop-held.invariant.never_falls, c.read_item.ensures.counted.never_falls)
+returns-in-Ok-Ended-clause-never_falls g c = omega (arith, c.loop-held.invariant.faults, c.read_item.ensures.counted.never_falls)
 
 pub returns-in-Ok-Ended-clause-kept : goal.returns-in-Ok-Ended-clause-kept
 returns-in-Ok-Ended-clause-kept g c = c.loop-held.invariant.kept
@@ -50,17 +50,17 @@ returns-in-Ok-Cut-clause-served g c =
     let calls = g.B.RuleBook.calls in
     let book : Book = record { infos = g.B.RuleBook.infos; means = g.B.RuleBook.means } in
     ended_within book c.loop-held.held.items c.read_item.new.held.items (link.wire c.args.link.now) (link.wire c.loop-held.link) (link.wire c.read_item.new.link)
-    (keeper.tables c.args.keeper.now) (keeper.tables c.loop-held.keeper) (keeper.faults c.args.keeper.now) (keeper.faults c.loop-held.keeper) (sum_by calls c.args.books.now) (sum_by calls c.loop-held.books)
+    (keeper.tables c.args.keeper.now) (keeper.tables c.loop-held.keeper) (keeper.faults c.args.keeper.now) (keeper.faults c.loop-held.keeper) (map calls c.args.books.now) (map calls c.loop-held.books)
     c.loop-held.invariant.served (rw c.in-Ok-Cut.field-0-is at c.in-Ok-Cut.ensures.says)
 
 pub returns-in-Ok-Cut-clause-sound : goal.returns-in-Ok-Cut-clause-sound
 returns-in-Ok-Cut-clause-sound g c = c.loop-held.invariant.sound
 
-pub returns-in-Ok-Cut-clause-failed : goal.returns-in-Ok-Cut-clause-failed
-returns-in-Ok-Cut-clause-failed g c = λ e. absurd (cc)
+pub returns-in-Ok-Cut-clause-faults : goal.returns-in-Ok-Cut-clause-faults
+returns-in-Ok-Cut-clause-faults g c = c.in-Ok-Cut.ensures.counted.same ∙ c.loop-held.invariant.faults
 
 pub returns-in-Ok-Cut-clause-never_falls : goal.returns-in-Ok-Cut-clause-never_falls
-returns-in-Ok-Cut-clause-never_falls g c = omega (arith, c.loop-held.invariant.never_falls, c.read_item.ensures.counted.never_falls)
+returns-in-Ok-Cut-clause-never_falls g c = omega (arith, c.loop-held.invariant.faults, c.read_item.ensures.counted.never_falls)
 
 pub returns-in-Ok-Cut-clause-kept : goal.returns-in-Ok-Cut-clause-kept
 returns-in-Ok-Cut-clause-kept g c = c.loop-held.invariant.kept
@@ -72,20 +72,19 @@ returns-in-Err-Failed-clause-served g c =
     let calls = g.B.RuleBook.calls in
     let book : Book = record { infos = g.B.RuleBook.infos; means = g.B.RuleBook.means } in
     failed_between book c.loop-held.held.items c.read_item.new.held.items (link.wire c.args.link.now) (link.wire c.loop-held.link) (link.wire c.read_item.new.link)
-    (keeper.tables c.args.keeper.now) (keeper.tables c.loop-held.keeper) (keeper.faults c.args.keeper.now) (keeper.faults c.loop-held.keeper) (sum_by calls c.args.books.now) (sum_by calls c.loop-held.books)
+    (keeper.tables c.args.keeper.now) (keeper.tables c.loop-held.keeper) (keeper.faults c.args.keeper.now) (keeper.faults c.loop-held.keeper) (map calls c.args.books.now) (map calls c.loop-held.books)
     c.loop-held.invariant.served (rw c.in-Err-Failed.field-0-is at c.in-Err-Failed.ensures.says)
 
 pub returns-in-Err-Failed-clause-sound : goal.returns-in-Err-Failed-clause-sound
 returns-in-Err-Failed-clause-sound g c = c.loop-held.invariant.sound
 
-pub returns-in-Err-Failed-clause-failed : goal.returns-in-Err-Failed-clause-failed
-returns-in-Err-Failed-clause-failed g c =
-    λ _.
+pub returns-in-Err-Failed-clause-faults : goal.returns-in-Err-Failed-clause-faults
+returns-in-Err-Failed-clause-faults g c =
     let counted = rw c.in-Err-Failed.field-0-is at c.in-Err-Failed.ensures.counted in
-    rose_after (g.L.Link.faults c.args.link.now) (g.L.Link.faults c.loop-held.link) (g.L.Link.faults c.read_item.new.link) c.loop-held.invariant.never_falls (counted.rose refl)
+    rose_after (g.L.Link.faults c.args.link.now) (g.L.Link.faults c.loop-held.link) (g.L.Link.faults c.read_item.new.link) (omega (arith, c.loop-held.invariant.faults)) (counted.rose refl)
 
 pub returns-in-Err-Failed-clause-never_falls : goal.returns-in-Err-Failed-clause-never_falls
-returns-in-Err-Failed-clause-never_falls g c = omega (arith, c.loop-held.invariant.never_falls, c.read_item.ensures.counted.never_falls)
+returns-in-Err-Failed-clause-never_falls g c = omega (arith, c.loop-held.invariant.faults, c.read_item.ensures.counted.never_falls)
 
 pub returns-in-Err-Failed-clause-kept : goal.returns-in-Err-Failed-clause-kept
 returns-in-Err-Failed-clause-kept g c = c.loop-held.invariant.kept
@@ -98,7 +97,7 @@ returns-in-Err-clause-served g c =
     let book : Book = record { infos = g.B.RuleBook.infos; means = g.B.RuleBook.means } in
     one_more book c.in-Ok-Came.item (Err c.in-Err.field-0) c.loop-held.held.items c.read_item.new.held.items (link.wire c.args.link.now) (link.wire c.loop-held.link) (link.wire c.read_item.new.link) (link.wire c.serve_item.new.link)
     (keeper.tables c.args.keeper.now) (keeper.tables c.loop-held.keeper) (keeper.tables c.serve_item.new.keeper) (keeper.faults c.args.keeper.now) (keeper.faults c.loop-held.keeper) (keeper.faults c.serve_item.new.keeper)
-    (sum_by calls c.args.books.now) (sum_by calls c.loop-held.books) (sum_by calls c.serve_item.new.books) (Ends (Finishes book.infos end.LinkFault))
+    (map calls c.args.books.now) (map calls c.loop-held.books) (map calls c.serve_item.new.books) (Ends (Finishes book.infos end.LinkFault))
     c.loop-held.invariant.served (rw c.in-Ok-Came.field-0-is at c.in-Ok-Came.ensures.says) c.in-Err.ensures.served (breaks (Unit {0}) book c.in-Ok-Came.item c.read_item.new.held.items c.in-Err.field-0)
 
 pub returns-in-Err-clause-sound : goal.returns-in-Err-clause-sound
@@ -107,17 +106,16 @@ returns-in-Err-clause-sound g c =
     let book : Book = record { infos = g.B.RuleBook.infos; means = g.B.RuleBook.means } in
     keeps_join book (keeper.tables c.args.keeper.now) (keeper.tables c.loop-held.keeper) (keeper.tables c.serve_item.new.keeper) c.loop-held.invariant.sound c.serve_item.ensures.sound
 
-pub returns-in-Err-clause-failed : goal.returns-in-Err-clause-failed
-returns-in-Err-clause-failed g c =
-    λ _.
-    let before : g.L.Link.faults c.args.link.now ≤ g.L.Link.faults c.read_item.new.link = omega (arith, c.loop-held.invariant.never_falls, c.read_item.ensures.counted.never_falls) in
+pub returns-in-Err-clause-faults : goal.returns-in-Err-clause-faults
+returns-in-Err-clause-faults g c =
+    let before : g.L.Link.faults c.args.link.now ≤ g.L.Link.faults c.read_item.new.link = omega (arith, c.loop-held.invariant.faults, c.read_item.ensures.counted.never_falls) in
     rose_after (g.L.Link.faults c.args.link.now) (g.L.Link.faults c.read_item.new.link) (g.L.Link.faults c.serve_item.new.link) before c.in-Err.ensures.counts.rose
 
 pub returns-in-Err-clause-never_falls : goal.returns-in-Err-clause-never_falls
-returns-in-Err-clause-never_falls g c = omega (arith, c.loop-held.invariant.never_falls, c.read_item.ensures.counted.never_falls, c.serve_item.ensures.counts.never_falls)
+returns-in-Err-clause-never_falls g c = omega (arith, c.loop-held.invariant.faults, c.read_item.ensures.counted.never_falls, c.serve_item.ensures.counts.never_falls)
 
 pub returns-in-Err-clause-kept : goal.returns-in-Err-clause-kept
-returns-in-Err-clause-kept g c = omega (arith, c.loop-held.invariant.kept, c.serve_item.ensures.served.never_falls)
+returns-in-Err-clause-kept g c = omega (arith, c.loop-held.invariant.kept, c.serve_item.ensures.served.settles.never_falls)
 
 pub returns-then-closes-clause-served : goal.returns-then-closes-clause-served
 returns-then-closes-clause-served g c =
@@ -127,7 +125,7 @@ returns-then-closes-clause-served g c =
     let book : Book = record { infos = g.B.RuleBook.infos; means = g.B.RuleBook.means } in
     one_more book c.in-Ok-Came.item (Ok c.in-Ok.field-0) c.loop-held.held.items c.read_item.new.held.items (link.wire c.args.link.now) (link.wire c.loop-held.link) (link.wire c.read_item.new.link) (link.wire c.serve_item.new.link)
     (keeper.tables c.args.keeper.now) (keeper.tables c.loop-held.keeper) (keeper.tables c.serve_item.new.keeper) (keeper.faults c.args.keeper.now) (keeper.faults c.loop-held.keeper) (keeper.faults c.serve_item.new.keeper)
-    (sum_by calls c.args.books.now) (sum_by calls c.loop-held.books) (sum_by calls c.serve_item.new.books) (Ends (Finishes book.infos end.Closed))
+    (map calls c.args.books.now) (map calls c.loop-held.books) (map calls c.serve_item.new.books) (Ends (Finishes book.infos end.Closed))
     c.loop-held.invariant.served (rw c.in-Ok-Came.field-0-is at c.in-Ok-Came.ensures.says) c.in-Ok.ensures.served (closes book c.in-Ok-Came.item c.read_item.new.held.items c.in-Ok.field-0 c.if-closes.true)
 
 pub returns-then-closes-clause-sound : goal.returns-then-closes-clause-sound
@@ -136,14 +134,14 @@ returns-then-closes-clause-sound g c =
     let book : Book = record { infos = g.B.RuleBook.infos; means = g.B.RuleBook.means } in
     keeps_join book (keeper.tables c.args.keeper.now) (keeper.tables c.loop-held.keeper) (keeper.tables c.serve_item.new.keeper) c.loop-held.invariant.sound c.serve_item.ensures.sound
 
-pub returns-then-closes-clause-failed : goal.returns-then-closes-clause-failed
-returns-then-closes-clause-failed g c = λ e. absurd (cc)
+pub returns-then-closes-clause-faults : goal.returns-then-closes-clause-faults
+returns-then-closes-clause-faults g c = c.in-Ok.ensures.counts.same ∙ (c.in-Ok-Came.ensures.counted.same ∙ c.loop-held.invariant.faults)
 
 pub returns-then-closes-clause-never_falls : goal.returns-then-closes-clause-never_falls
-returns-then-closes-clause-never_falls g c = omega (arith, c.loop-held.invariant.never_falls, c.read_item.ensures.counted.never_falls, c.serve_item.ensures.counts.never_falls)
+returns-then-closes-clause-never_falls g c = omega (arith, c.loop-held.invariant.faults, c.read_item.ensures.counted.never_falls, c.serve_item.ensures.counts.never_falls)
 
 pub returns-then-closes-clause-kept : goal.returns-then-closes-clause-kept
-returns-then-closes-clause-kept g c = omega (arith, c.loop-held.invariant.kept, c.serve_item.ensures.served.never_falls)
+returns-then-closes-clause-kept g c = omega (arith, c.loop-held.invariant.kept, c.serve_item.ensures.served.settles.never_falls)
 
 pub loop-held-smaller : goal.loop-held-smaller
 loop-held-smaller g c =
@@ -159,11 +157,11 @@ loop-held-preserved g c =
     record {
       served = one_more book c.in-Ok-Came.item (Ok c.in-Ok.field-0) c.loop-held.held.items c.read_item.new.held.items (link.wire c.args.link.now) (link.wire c.loop-held.link) (link.wire c.read_item.new.link) (link.wire c.serve_item.new.link)
           (keeper.tables c.args.keeper.now) (keeper.tables c.loop-held.keeper) (keeper.tables c.serve_item.new.keeper) (keeper.faults c.args.keeper.now) (keeper.faults c.loop-held.keeper) (keeper.faults c.serve_item.new.keeper)
-          (sum_by calls c.args.books.now) (sum_by calls c.loop-held.books) (sum_by calls c.serve_item.new.books) (SoFar book.infos c.read_item.new.held.items)
+          (map calls c.args.books.now) (map calls c.loop-held.books) (map calls c.serve_item.new.books) (SoFar book.infos c.read_item.new.held.items)
           c.loop-held.invariant.served (rw c.in-Ok-Came.field-0-is at c.in-Ok-Came.ensures.says) c.in-Ok.ensures.served (goes_on book c.in-Ok-Came.item c.read_item.new.held.items c.in-Ok.field-0 c.if-closes.false);
       sound = keeps_join book (keeper.tables c.args.keeper.now) (keeper.tables c.loop-held.keeper) (keeper.tables c.serve_item.new.keeper) c.loop-held.invariant.sound c.serve_item.ensures.sound;
-      never_falls = omega (arith, c.loop-held.invariant.never_falls, c.read_item.ensures.counted.never_falls, c.serve_item.ensures.counts.never_falls);
-      kept = omega (arith, c.loop-held.invariant.kept, c.serve_item.ensures.served.never_falls);
+      faults = c.in-Ok.ensures.counts.same ∙ (c.in-Ok-Came.ensures.counted.same ∙ c.loop-held.invariant.faults);
+      kept = omega (arith, c.loop-held.invariant.kept, c.serve_item.ensures.served.settles.never_falls);
     }
 
 pub returns-in-Err-OutOfMemory-clause-served : goal.returns-in-Err-OutOfMemory-clause-served
@@ -173,20 +171,20 @@ returns-in-Err-OutOfMemory-clause-served g c =
     let calls = g.B.RuleBook.calls in
     let book : Book = record { infos = g.B.RuleBook.infos; means = g.B.RuleBook.means } in
     not_held book c.close_full.result c.loop-held.held.items c.read_item.new.held.items (link.wire c.args.link.now) (link.wire c.loop-held.link) (link.wire c.read_item.new.link) (link.wire c.close_full.new.link)
-    (keeper.tables c.args.keeper.now) (keeper.tables c.loop-held.keeper) (keeper.faults c.args.keeper.now) (keeper.faults c.loop-held.keeper) (sum_by calls c.args.books.now) (sum_by calls c.loop-held.books)
+    (keeper.tables c.args.keeper.now) (keeper.tables c.loop-held.keeper) (keeper.faults c.args.keeper.now) (keeper.faults c.loop-held.keeper) (map calls c.args.books.now) (map calls c.loop-held.books)
     c.loop-held.invariant.served (rw c.in-Err-OutOfMemory.field-0-is at c.in-Err-OutOfMemory.ensures.says) (c.close_full.ensures.closed book.infos)
 
 pub returns-in-Err-OutOfMemory-clause-sound : goal.returns-in-Err-OutOfMemory-clause-sound
 returns-in-Err-OutOfMemory-clause-sound g c = c.loop-held.invariant.sound
 
-pub returns-in-Err-OutOfMemory-clause-failed : goal.returns-in-Err-OutOfMemory-clause-failed
-returns-in-Err-OutOfMemory-clause-failed g c =
-    λ fault.
-    let before : g.L.Link.faults c.args.link.now ≤ g.L.Link.faults c.read_item.new.link = omega (arith, c.loop-held.invariant.never_falls, c.read_item.ensures.counted.never_falls) in
-    rose_after (g.L.Link.faults c.args.link.now) (g.L.Link.faults c.read_item.new.link) (g.L.Link.faults c.close_full.new.link) before (c.close_full.ensures.failed fault)
+pub returns-in-Err-OutOfMemory-clause-faults : goal.returns-in-Err-OutOfMemory-clause-faults
+returns-in-Err-OutOfMemory-clause-faults g c =
+    let counted = rw c.in-Err-OutOfMemory.field-0-is at c.in-Err-OutOfMemory.ensures.counted in
+    let P : ℕ → Type 0 = λ n. CountsFaults c.close_full.result n (g.L.Link.faults c.close_full.new.link) in
+    subst P (counted.same ∙ c.loop-held.invariant.faults) c.close_full.ensures.faults
 
 pub returns-in-Err-OutOfMemory-clause-never_falls : goal.returns-in-Err-OutOfMemory-clause-never_falls
-returns-in-Err-OutOfMemory-clause-never_falls g c = omega (arith, c.loop-held.invariant.never_falls, c.read_item.ensures.counted.never_falls, c.close_full.ensures.never_falls)
+returns-in-Err-OutOfMemory-clause-never_falls g c = omega (arith, c.loop-held.invariant.faults, c.read_item.ensures.counted.never_falls, c.close_full.ensures.never_falls)
 
 pub returns-in-Err-OutOfMemory-clause-kept : goal.returns-in-Err-OutOfMemory-clause-kept
 returns-in-Err-OutOfMemory-clause-kept g c = c.loop-held.invariant.kept

@@ -1,4 +1,4 @@
-use Rattle.std.proofs.Common.{◌≤◌, sum_by}
+use Rattle.std.proofs.Common.{◌≡◌, ◌≤◌, map}
 use Rattle.judge_core.specs.Books.{Book}
 use Rattle.http_messages.specs.Reading.{weight}
 use Rattle.desk_http.specs.Serving.{KeepsSound, Serves, SoFar}
@@ -12,9 +12,9 @@ invariant-loop-held g l =
     let book : Book = record { infos = g.B.RuleBook.infos; means = g.B.RuleBook.means } in
     record {
       served : Serves book (SoFar book.infos l.held.items) (link.wire l.initial.link) (keeper.tables l.initial.keeper) (link.wire l.link) (keeper.tables l.keeper)
-          (keeper.faults l.initial.keeper) (keeper.faults l.keeper) (sum_by calls l.initial.books) (sum_by calls l.books);
+          (keeper.faults l.initial.keeper) (keeper.faults l.keeper) (map calls l.initial.books) (map calls l.books);
       sound : KeepsSound book (keeper.tables l.initial.keeper) (keeper.tables l.keeper);
-      never_falls : link.faults l.initial.link ≤ link.faults l.link;
+      faults : link.faults l.link ≡ link.faults l.initial.link;
       kept : keeper.faults l.initial.keeper ≤ keeper.faults l.keeper;
     }
 

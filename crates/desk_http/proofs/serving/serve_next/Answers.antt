@@ -1,4 +1,4 @@
-use Rattle.std.proofs.Common.{sum_by}
+use Rattle.std.proofs.Common.{map}
 use Rattle.judge_core.specs.Books.{Book}
 use Rattle.desk_http.proofs.DoorLaws.{one_served}
 use Rattle.desk_http.proofs.serving.serve_next.Goals as goal
@@ -12,7 +12,7 @@ returns-clause-served g c =
     let book : Book = record { infos = g.B.RuleBook.infos; means = g.B.RuleBook.means } in
     one_served book link.wire link.faults c.serve_link.new.link c.serve_link.result (link.wire c.args.link) (link.faults c.args.link) (door.log c.args.door.now) (door.log c.done.new.self)
     (keeper.tables c.args.keeper.now) (keeper.tables c.serve_link.new.keeper) (keeper.faults c.args.keeper.now) (keeper.faults c.serve_link.new.keeper)
-    (sum_by calls c.args.books.now) (sum_by calls c.serve_link.new.books) c.requires.untouched c.serve_link.ensures.served c.serve_link.ensures.failed c.done.ensures.log
+    (map calls c.args.books.now) (map calls c.serve_link.new.books) c.requires.untouched c.serve_link.ensures.served c.serve_link.ensures.faults c.done.ensures.log
 
 pub returns-clause-sound : goal.returns-clause-sound
 returns-clause-sound g c = c.serve_link.ensures.sound
