@@ -79,7 +79,8 @@ static STEPS: [(Step, Seen); 7] = [
     (Step::Drop, (Some(0), None, 0, 0, 0)),
 ];
 
-fn one<T: Drop>(alloc: Global, item: T) -> Result<List<T>, OutOfMemory>
+/// A list of one item.
+pub fn one<T: Drop>(alloc: Global, item: T) -> Result<List<T>, OutOfMemory>
     ensures { IfOk result (λ items. items ≡ item ∷ []) }
 {
     let mut items = Vec::new(alloc);
