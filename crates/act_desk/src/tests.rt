@@ -7,7 +7,7 @@ use crate::run::run;
 use crate::start::made_books;
 use keep_core::MemoryKeeper;
 use links::{MemDoor, MemLink};
-use fixture_books::{Meeting, fixture_books};
+use fixture_books::{Meeting, meeting_books};
 use rule_core::RuleBook;
 use snap_tree::{List, OutOfMemory, Text};
 use std::alloc::{AllocError, Global};
@@ -590,7 +590,7 @@ const BY_TWO: Case = Case {
 fn two_books(alloc: Global) -> Result<Vec<Meeting>, OutOfMemory>
     ensures { IfOk result (λ books. 0 < vec_len books) }
 {
-    let (one, other) = fixture_books(alloc)?;
+    let (one, other) = meeting_books(alloc)?;
     let mut books = Vec::new(alloc);
     books.push(one)?;
     books.push(other)?;

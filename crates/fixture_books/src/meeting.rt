@@ -110,7 +110,7 @@ fn flag(alloc: Global) -> Result<Flag, OutOfMemory> {
 }
 
 /// Two books that look for each other, and haven't judged yet. Fails only for want of memory.
-pub fn fixture_books(alloc: Global) -> Result<(Meeting, Meeting), OutOfMemory>
+pub fn meeting_books(alloc: Global) -> Result<(Meeting, Meeting), OutOfMemory>
     ensures { IfOk result (λ books. books ≡ ((false, 0), (false, 0))) }
 {
     let one = flag(alloc)?;

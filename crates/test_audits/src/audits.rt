@@ -1,9 +1,9 @@
 use crate::samples::{Node, lines, page, work};
+use fixture_rules::{Judged, Marks, judgements};
 use judge_core::infos_of;
 use reaudit::{after_judgement, audit_page, audit_pages};
 use rule_core::Auto::{CantTell, Failed, Passed};
 use rule_core::RuleBook;
-use fixture_rules::{Judged, Marks, judgements};
 use std::test::Fail;
 
 // A page on which documents' order isn't that of the numbers.

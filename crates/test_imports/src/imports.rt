@@ -1,7 +1,6 @@
 //! Imports: many pages at once, all or none.
 
 use crate::sending::{Kept, Sent, are_stored, import_of, keeper_of};
-use keep_core::MemoryKeeper;
 use fixture_rules::Marks;
 use fixture_sites::Kind::Refused;
 use fixture_sites::Why::Stale;
@@ -9,6 +8,7 @@ use fixture_sites::{
     ASTRAY, Brief, KEEPER_FAULT, Kind, LOST, NEEDS_EDITOR, NO_SITE, PAGE, PAGE_SUMS, answer, brief,
     keeper_failing,
 };
+use keep_core::MemoryKeeper;
 use std::alloc::Global;
 use std::test::Fail;
 use std::thread::Threads;

@@ -1,13 +1,7 @@
 //! Judgements of the thirty rules' outcomes.
 
 use desk_core::Summary;
-use judge_core::OutRow;
-use keep_core::{Keeper, MemberRole, MemoryKeeper};
 use fixture_pages::Node::{Html, Stop, Words};
-use rule_book::Thirty;
-use rule_core::Auto::{self, CantTell, Passed};
-use rule_core::Reason::{self, JudgeHeading, JudgeHeadingStart, Merged};
-use rule_core::RuleNo;
 use fixture_sites::Alter::{Cut, Say};
 use fixture_sites::Ask::{self, Alter, Judge, JudgeBy, NewSite, Put, Role};
 use fixture_sites::Kind::Refused;
@@ -15,6 +9,12 @@ use fixture_sites::Why::Moved;
 use fixture_sites::{
     Brief, IS_PASSED, Kind, NO_TARGET, Nodes, SAME_HAND, asked, brief, keeper_failing,
 };
+use judge_core::OutRow;
+use keep_core::{Keeper, MemberRole, MemoryKeeper};
+use rule_book::Thirty;
+use rule_core::Auto::{self, CantTell, Passed};
+use rule_core::Reason::{self, JudgeHeading, JudgeHeadingStart, Merged};
+use rule_core::RuleNo;
 use snap_tree::{NodeId, Text};
 use std::alloc::Global;
 use std::test::Fail;

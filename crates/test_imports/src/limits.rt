@@ -2,7 +2,6 @@
 
 use crate::sending::series;
 use desk_core::Command;
-use keep_core::{Batch, Change, Keeper, MOST_REVISION, MemberRole, MemoryKeeper};
 use fixture_rules::Marks;
 use fixture_sites::Alter::Mark;
 use fixture_sites::Ask::{Alter, Gone, Put, Role};
@@ -12,6 +11,7 @@ use fixture_sites::{
     ASTRAY, Brief, Case, Kind, NEEDS_EDITOR, NO_MORE_PAGES, NO_MORE_REVISIONS, NO_PAGE, PAGE,
     PAGE_SUMS, answer, brief, first_otherwise, keeper_failing, site_at,
 };
+use keep_core::{Batch, Change, Keeper, MOST_REVISION, MemberRole, MemoryKeeper};
 use std::alloc::Global;
 use std::process::Abort;
 use std::test::Fail;

@@ -1,10 +1,10 @@
 //! Imports as tables, and what they store.
 
 use desk_core::{Command, Reply, Summary};
-use keep_core::{MemberRole, MemoryKeeper};
 use fixture_rules::Marks;
 use fixture_sites::Ask::{NewSite, Role};
 use fixture_sites::{Case, Kind, Nodes, entry_of, first_otherwise, keeper_failing, stored_in};
+use keep_core::{MemberRole, MemoryKeeper};
 use snap_tree::{List, OutOfMemory, Text};
 use std::alloc::Global;
 use std::test::Fail;

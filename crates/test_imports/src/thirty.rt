@@ -2,10 +2,10 @@
 
 use crate::sending::keeper_of;
 use desk_core::{Command, Reply, Summary};
-use keep_core::{Keeper, MemoryKeeper};
 use fixture_pages::Node::{self, Facts, Html, Stop, Text as Hidden, Words};
-use rule_book::Thirty;
 use fixture_sites::{Kind, Nodes, Why, answer, brief, entry_of, page_name, stored_in};
+use keep_core::{Keeper, MemoryKeeper};
+use rule_book::Thirty;
 use snap_tree::{List, NodeId, OutOfMemory, Text};
 use std::alloc::Global;
 use std::process::Abort;

@@ -2,7 +2,7 @@
 
 use crate::sending::{are_stored, import_of, keeper_of};
 use desk_core::Summary;
-use fixture_books::fixture_books;
+use fixture_books::meeting_books;
 use fixture_pages::Node::Html;
 use fixture_sites::{Nodes, answer};
 use std::test::Fail;
@@ -21,7 +21,7 @@ const SUMS: Summary = Summary {
 #[test]
 fn two_workers_are_at_work_at_once(rt: HostRuntime) -> Result<(), Fail> {
     let alloc = rt.alloc();
-    let (one, other) = fixture_books(alloc)?;
+    let (one, other) = meeting_books(alloc)?;
     let mut books = [one, other];
     let mut keeper = keeper_of(&rt, alloc, &[])?;
     let import = import_of(alloc, &[(1, 0, PAGE), (2, 0, PAGE)])?;

@@ -2,7 +2,6 @@
 
 use crate::doubtful::{Call, Doubtful};
 use crate::keeping::look;
-use keep_core::MemberRole;
 use fixture_rules::Marks;
 use fixture_sites::Alter::Mark;
 use fixture_sites::Ask::{Alter, Get, NewSite, Put, Role};
@@ -12,6 +11,7 @@ use fixture_sites::{
     Brief, Case, KEEPER_FAULT, Kind, PAGE, PAGE_SUMS, SITE_EXISTS, View, first_otherwise,
     keeper_failing,
 };
+use keep_core::MemberRole;
 use std::test::Fail;
 
 const MADE: Brief<'static> = (Kind::Site, "acme");

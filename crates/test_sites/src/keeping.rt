@@ -5,15 +5,15 @@ ghost use Rattle.keep_core.specs.Fits.{Fits, FitsPage};
 
 use crate::doubtful::Doubtful;
 use crate::soundness::is_sound;
+use fixture_pages::Node::Html;
+use fixture_sites::{Unasked, keeper_failing, named, site_at};
 use judge_core::{Judgement, OutRow, Outcomes};
 use keep_core::{
     Batch, Change, Keeper, MemoryKeeper, Page, PageHead, PagePut, SitePage, is_name,
     laws_of_changes,
 };
-use fixture_pages::Node::Html;
 use rule_core::Auto::{CantTell, Passed};
 use rule_core::{Reason, RuleNo};
-use fixture_sites::{Unasked, keeper_failing, named, site_at};
 use snap_tree::{Duplicate, List, NodeId, OutOfMemory, Text};
 use std::alloc::Global;
 use std::process::Abort;
@@ -79,7 +79,8 @@ static STEPS: [(Step, Seen); 7] = [
     (Step::Drop, (Some(0), None, 0, 0, 0)),
 ];
 
-fn one<T: Drop>(alloc: Global, item: T) -> Result<List<T>, OutOfMemory>
+/// A list of one item.
+pub fn one<T: Drop>(alloc: Global, item: T) -> Result<List<T>, OutOfMemory>
     ensures { IfOk result (λ items. items ≡ item ∷ []) }
 {
     let mut items = Vec::new(alloc);

@@ -9,6 +9,8 @@ mod faults;
 #[cfg(test)]
 mod keeping;
 #[cfg(test)]
+mod overfull;
+#[cfg(test)]
 mod random;
 #[cfg(test)]
 mod scripts;

@@ -2,16 +2,16 @@
 
 use crate::soundness::is_sound;
 use desk_core::{Command, Entry};
-use keep_core::{Keeper, MemberRole, MemoryKeeper};
 use fixture_pages::Node::Html;
 use fixture_pages::raw;
-use rule_core::Auto::{CantTell, Failed, Passed};
 use fixture_rules::Marks;
 use fixture_sites::Alter::{Cut, Mark};
 use fixture_sites::Ask::{self, Alter, Gone, Judge, NewSite, Put, Role};
 use fixture_sites::{
     ASTRAY, Alter as Edit, Brief, Kind, Nodes, PAGE, Why, answer, brief, command_of, keeper_failing,
 };
+use keep_core::{Keeper, MemberRole, MemoryKeeper};
+use rule_core::Auto::{CantTell, Failed, Passed};
 use snap_tree::{List, Text};
 use std::alloc::Global;
 use std::test::Fail;

@@ -1,9 +1,7 @@
 //! Requests one after another, by the book of marks.
 
 use desk_core::Summary;
-use keep_core::{MemberRole, MemoryKeeper, SitePage};
 use fixture_pages::ADDRESS;
-use rule_core::Auto::{Failed, Passed};
 use fixture_rules::Marks;
 use fixture_sites::Alter::Mark;
 use fixture_sites::Ask::{self, Alter, Csv, Earl, Get, Gone, Judge, NewSite, Put, Report, Role};
@@ -15,6 +13,8 @@ use fixture_sites::{
     PAGE_SUMS, SAME_HAND, SITE_EXISTS, Unasked, View, asked, first_otherwise, keeper_failing,
     pages_in,
 };
+use keep_core::{MemberRole, MemoryKeeper, SitePage};
+use rule_core::Auto::{Failed, Passed};
 use std::alloc::Global;
 use std::test::Fail;
 use std::thread::Threads;
