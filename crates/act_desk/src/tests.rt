@@ -5,9 +5,9 @@ ghost use Rattle.links.specs.Memory.{IsUntouchedLink};
 
 use crate::run::run;
 use crate::start::made_books;
+use fixture_books::{Meeting, meeting_books};
 use keep_core::MemoryKeeper;
 use links::{MemDoor, MemLink};
-use fixture_books::{Meeting, meeting_books};
 use rule_core::RuleBook;
 use snap_tree::{List, OutOfMemory, Text};
 use std::alloc::{AllocError, Global};

@@ -5,8 +5,8 @@ ghost use Rattle.rule_core.specs.Brief.{digest};
 ghost use Rattle.fixture_sites.specs.Asks.{edit_of, view_of, command_of, page_name};
 
 use desk_core::{Command, Entry};
-use keep_core::MemberRole;
 use fixture_pages::{Node, raw};
+use keep_core::MemberRole;
 use rule_core::{Auto, RuleNo, digest};
 use snap_edit::Edit;
 use snap_tree::{List, NodeId, OutOfMemory, Text};

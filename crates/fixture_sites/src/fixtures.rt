@@ -6,8 +6,8 @@ ghost use Rattle.keep_core.specs.declared.member.MemberRole.TheVariants.{Owner};
 use crate::asks::Nodes;
 use crate::unasked::Unasked;
 use desk_core::Summary;
-use keep_core::{MOST_REVISION, Member, MemberRole, MemoryKeeper, Site, is_name};
 use fixture_pages::Node::Html;
+use keep_core::{MOST_REVISION, Member, MemberRole, MemoryKeeper, Site, is_name};
 use snap_tree::{List, OutOfMemory, Text};
 use std::alloc::Global;
 

@@ -1,9 +1,9 @@
 use fixture_pages::Attrs;
 use fixture_pages::Node::{Facts, Html};
+use fixture_rules::{Told, tells};
 use rule_core::Auto::{CantTell, Failed, Passed};
 use rule_core::Reason::{LaterAttr, Met, UnknownAttr};
 use rule_core::Rule;
-use fixture_rules::{Told, tells};
 use rules_aria::AriaAttributeIsDefined;
 use std::test::Fail;
 

@@ -1,8 +1,8 @@
 use fixture_pages::Node::{self, Facts, Html, Text, Words};
+use fixture_rules::{Told, tells};
 use rule_core::Auto::{Failed, Passed};
 use rule_core::Reason::{FocusableInside, Met};
 use rule_core::Rule;
-use fixture_rules::{Told, tells};
 use rules_aria::HiddenHoldsNoFocus;
 use std::test::Fail;
 

@@ -1,9 +1,9 @@
 use fixture_pages::Node::{Facts, Html};
 use fixture_pages::{Attrs, page};
+use fixture_rules::{Told, tells};
 use rule_core::Auto::{Failed, Passed};
 use rule_core::Reason::{BadValue, DeadReference, Met};
 use rule_core::Rule;
-use fixture_rules::{Told, tells};
 use rules_aria::AriaValueIsValid;
 use snap_tree::NodeId;
 use std::test::Fail;

@@ -1,7 +1,7 @@
 use fixture_pages::Node::{self, Facts, Html, Svg};
+use fixture_rules::tells;
 use rule_core::Auto::{Failed, Passed};
 use rule_core::{Reason, Rule};
-use fixture_rules::tells;
 use rules_aria::AutocompleteIsValid;
 use std::test::Fail;
 

@@ -1,8 +1,8 @@
 use fixture_pages::Node::{self, Facts, Html, Words};
+use fixture_rules::{Told, tells};
 use rule_core::Auto::{CantTell, Failed, Passed};
 use rule_core::Reason::{BadOwned, Met, NothingOwned};
 use rule_core::Rule;
-use fixture_rules::{Told, tells};
 use rules_aria::OwnsRequiredElements;
 use std::test::Fail;
 

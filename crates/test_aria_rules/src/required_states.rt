@@ -1,8 +1,8 @@
 use fixture_pages::Node::{self, Facts, Html};
+use fixture_rules::{Told, tells};
 use rule_core::Auto::{Failed, Passed};
 use rule_core::Reason::{Met, MissingState};
 use rule_core::Rule;
-use fixture_rules::{Told, tells};
 use rules_aria::HasRequiredStates;
 use std::test::Fail;
 

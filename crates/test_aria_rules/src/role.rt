@@ -1,8 +1,8 @@
 use fixture_pages::Node::{self, Facts, Html};
+use fixture_rules::{Told, tells};
 use rule_core::Auto::{CantTell, Failed, Passed};
 use rule_core::Reason::{Met, NoKnownRole, OutsideRole};
 use rule_core::Rule;
-use fixture_rules::{Told, tells};
 use rules_aria::RoleIsValid;
 use std::test::Fail;
 

@@ -1,4 +1,5 @@
 use fixture_pages::{Node, page};
+use fixture_rules::is_told;
 use rule_book::Thirty;
 use rule_core::Auto::{self, CantTell, Failed, Passed};
 use rule_core::Reason::{
@@ -6,7 +7,6 @@ use rule_core::Reason::{
     JudgeLandmark, JudgeSkipLink, JudgeTitle, Met, MissingState, NoName, NoZoom, NothingOwned,
 };
 use rule_core::{RuleBook, RuleNo};
-use fixture_rules::is_told;
 use snap_tree::NodeId;
 use std::test::Fail;
 

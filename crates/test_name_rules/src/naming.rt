@@ -1,9 +1,9 @@
 use crate::samples::{Case, each_is_told};
 use fixture_pages::page_in;
+use fixture_rules::says;
 use rule_core::Auto::{Failed, Passed};
 use rule_core::Reason::{Met, NoName};
 use rule_core::Rule;
-use fixture_rules::says;
 use rules_names::{ButtonHasName, FormFieldHasName, HeadingHasName, ImageHasName, LinkHasName};
 use snap_tree::{Text, Tree};
 use std::alloc::Global;

@@ -1,8 +1,8 @@
 //! Small pages for the tests of the rules.
 
 use fixture_pages::page_in;
-use rule_core::Rule;
 use fixture_rules::{Told, says};
+use rule_core::Rule;
 use std::alloc::Global;
 use std::process::Abort;
 use std::test::Fail;

@@ -1,10 +1,10 @@
 use fixture_pages::Node::{self, Html, Stop, Words};
+use fixture_rules::{Told, tells};
 use rule_core::Auto::{CantTell, Failed};
 use rule_core::Reason::{
     JudgeCollapse, JudgeHeadingStart, JudgeLandmark, JudgeSkipLink, NoCollapse, NoHeading,
     NoLandmark, NoSkipLink,
 };
-use fixture_rules::{Told, tells};
 use rules_page::{HasCollapse, HasHeadingToStart, HasLandmark, HasSkipLink};
 use std::test::Fail;
 

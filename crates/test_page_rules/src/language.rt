@@ -1,8 +1,8 @@
 use fixture_pages::Node::{self, Element, Html};
+use fixture_rules::{Told, tells};
 use rule_core::Auto::{Failed, Passed};
 use rule_core::Reason::{EmptyLang, Met, NoLang};
 use rule_core::Rule;
-use fixture_rules::{Told, tells};
 use rules_page::PageHasLang;
 use snap_tree::Space::Other;
 use std::test::Fail;

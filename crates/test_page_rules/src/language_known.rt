@@ -1,7 +1,7 @@
 use fixture_pages::Node::{self, Html};
+use fixture_rules::{Told, tells};
 use rule_core::Auto::{CantTell, Failed, Passed};
 use rule_core::Reason::{Met, ThreeLetter, UnknownLang};
-use fixture_rules::{Told, tells};
 use rules_page::LanguageIsKnown;
 use std::test::Fail;
 

@@ -1,7 +1,7 @@
 use fixture_pages::Node::{self, Element, Html, Svg, Text, Words};
+use fixture_rules::{Told, tells};
 use rule_core::Auto::{CantTell, Failed, Passed};
 use rule_core::Reason::{Met, ThreeLetter, UnknownLang};
-use fixture_rules::{Told, tells};
 use rules_page::LanguageOfPartIsKnown;
 use std::test::Fail;
 

@@ -1,8 +1,8 @@
 use fixture_pages::Node::{self, Element, Html, Svg, Words};
+use fixture_rules::{Told, tells};
 use rule_core::Auto::{Failed, Passed};
 use rule_core::Reason::{EmptyTitle, Met, NoTitle};
 use rule_core::Rule;
-use fixture_rules::{Told, tells};
 use rules_page::PageHasTitle;
 use snap_tree::Space::Other;
 use std::test::Fail;

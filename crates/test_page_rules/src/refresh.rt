@@ -1,8 +1,8 @@
 use fixture_pages::Node::{self, Html};
+use fixture_rules::{Told, tells};
 use rule_core::Auto::{Failed, Passed};
 use rule_core::Reason;
 use rule_core::Reason::{Delay, Met};
-use fixture_rules::{Told, tells};
 use rules_page::PageHasNoDelay;
 use std::test::Fail;
 

@@ -1,7 +1,7 @@
 use fixture_pages::Node::{self, Html, Words};
+use fixture_rules::{Told, tells};
 use rule_core::Auto::CantTell;
 use rule_core::Reason::JudgeTitle;
-use fixture_rules::{Told, tells};
 use rules_page::TitleIsDescriptive;
 use std::test::Fail;
 

@@ -1,8 +1,8 @@
 use fixture_pages::Node::{self, Element};
+use fixture_rules::{Told, tells};
 use rule_core::Auto::{Failed, Passed};
 use rule_core::Reason;
 use rule_core::Reason::{Met, NoZoom, SmallScale};
-use fixture_rules::{Told, tells};
 use rules_page::ViewportAllowsZoom;
 use snap_tree::Space::{self, Html, Svg};
 use std::alloc::Global;

@@ -1,12 +1,12 @@
 //! What a message asks, as a short text.
 
 use desk_core::{Command, Entry};
+use fixture_rules::Marks;
 use http_commands::{Asked, request_of};
 use http_messages::read_head;
 use keep_core::MemberRole;
 use request_faults::RequestFault;
 use rule_core::Auto;
-use fixture_rules::Marks;
 use snap_edit::Edit;
 use snap_tree::{Facts, Raw, Text};
 use std::alloc::Global;

@@ -1,9 +1,9 @@
 use fixture_pages::Node::{self, Facts, Html};
 use fixture_pages::{built, page, row};
+use fixture_rules::{Told, says};
 use rule_core::Auto::{CantTell, Failed, Passed};
 use rule_core::Reason::{LargeGrid, Met, NoCells};
 use rule_core::Rule;
-use fixture_rules::{Told, says};
 use rules_tables::HeaderHasCells;
 use snap_tree::{Space, Tree};
 use std::alloc::Global;

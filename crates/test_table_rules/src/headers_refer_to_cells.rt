@@ -1,9 +1,9 @@
 use fixture_pages::Node::{self, Facts, Html, Svg};
 use fixture_pages::page;
+use fixture_rules::{Told, says};
 use rule_core::Auto::{Failed, Passed};
 use rule_core::Reason::{HeadersOutside, Met};
 use rule_core::Rule;
-use fixture_rules::{Told, says};
 use rules_tables::HeadersReferToCells;
 use std::alloc::Global;
 use std::test::Fail;
