@@ -213,8 +213,8 @@ command_complete book words old new before now planned status writing cause told
     (outputs_none book words old new before now planned writing cause serving is) err told
 
 pub runs : {L : Type 0} (book : Book) (words : List (List ℕ)) (old new : Outside) (before now : Desk L) (planned status : Status) (writing : Writing) (number : ℕ) → Cause book words old.input new.input before now planned writing →
-    old.input.faults ≤ new.input.faults → ReadsAtMost MOST_READ old.input new.input → Tells planned writing old.out new.out old.err new.err status → number ≡ status_number status → Runs book words old new before now number
-runs book words old new before now planned status writing number cause falls stops told is =
+    old.input.faults ≤ new.input.faults → length now.calls ≡ length before.calls → ReadsAtMost MOST_READ old.input new.input → Tells planned writing old.out new.out old.err new.err status → number ≡ status_number status → Runs book words old new before now number
+runs book words old new before now planned status writing number cause falls same_books stops told is =
     let in_ = ends_in planned status writing old.out new.out old.err new.err told in
     record {
       status = status;
@@ -224,6 +224,7 @@ runs book words old new before now planned status writing number cause falls sto
       cause = cause;
       told = told;
       never_falls = falls;
+      same_books = same_books;
       stops = stops;
       bounded = record {
         other_words = λ other. bound_words planned status (usage book words old new before now planned writing cause other) in_;

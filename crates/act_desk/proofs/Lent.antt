@@ -1,5 +1,6 @@
 -- A run lends its books as a slice, whose counts are those of the books.
-use Rattle.std.proofs.Common.{◌≡◌, ℕ, List, map, Option, sym, subst}
+use Rattle.std.proofs.Common.{◌≡◌, ℕ, List, length, map, Option, sym, ap, ◌∙◌, subst}
+use Rattle.std.proofs.lemmas.List.{length-map}
 use Rattle.links.specs.Wires.{Wire}
 use Rattle.links.specs.Doors.{Doorway}
 use Rattle.judge_core.specs.Books.{Book}
@@ -17,3 +18,7 @@ lent {L = L} book words old new wire broken door door' log log' tables tables' f
     let before : List _ → Desk L = λ books. record { wire = wire; broken = broken; door = door; log = log; tables = tables; faults = faults; calls = map calls books } in
     let after : List _ → Desk L = λ books. record { wire = wire; broken = broken; door = door'; log = log'; tables = tables'; faults = faults'; calls = map calls books } in
     subst (λ books. Cause book words old new (before books) (after left) planned writing) same (subst (λ books. Cause book words old new (before borrowed) (after books) planned writing) (sym back) cause)
+
+-- as many books are given back as were lent
+pub as_many : {B : Type 0} (calls : B → ℕ) (held borrowed given left : List B) → borrowed ≡ held → left ≡ given → length given ≡ length borrowed → length (map calls left) ≡ length (map calls held)
+as_many calls held borrowed given left same back kept = length-map left calls ∙ (ap length back ∙ (kept ∙ (ap length same ∙ sym (length-map held calls))))

@@ -1,5 +1,5 @@
 -- What a run does, whatever its words are.
-use Rattle.std.specs.Prelude.{◌≡◌, ℕ, ◌≤◌, List, [], ◌∷◌, ◌⊎◌, Some, None}
+use Rattle.std.specs.Prelude.{◌≡◌, ℕ, ◌≤◌, List, [], ◌∷◌, length, ◌⊎◌, Some, None}
 use Rattle.judge_core.specs.Books.{Book}
 use Rattle.act_desk.specs.declared.audit.TheConstants.{MOST_READ}
 use Rattle.desk_words.specs.Words.{command_in}
@@ -54,7 +54,8 @@ pub record IsComplete {L : Type 0} (book : Book) (words : List (List ℕ)) (old 
 
 -- What a run with books of one type and these words does to the outside and to the desk, and what the number
 -- says that it gives. It was to end with a status that has its cause, and ends so where all could be written,
--- and else with that of a write fault. Whatever comes, it stops reading after 8,388,609 bytes.
+-- and else with that of a write fault. Whatever comes, it stops reading after 8,388,609 bytes, and there are as
+-- many books as before.
 pub record Runs {L : Type 0} (book : Book) (words : List (List ℕ)) (old new : Outside) (before now : Desk L) (number : ℕ) : Type 0 where
   pub status : Status
   pub number_is : number ≡ status_number status
@@ -63,6 +64,7 @@ pub record Runs {L : Type 0} (book : Book) (words : List (List ℕ)) (old new : 
   pub cause : Cause book words old.input new.input before now planned writing
   pub told : Tells planned writing old.out new.out old.err new.err status
   pub never_falls : old.input.faults ≤ new.input.faults
+  pub same_books : length now.calls ≡ length before.calls
   pub stops : ReadsAtMost MOST_READ old.input new.input
   pub bounded : IsBounded words old before status
   pub complete : IsComplete book words old new before now status

@@ -1,5 +1,5 @@
 -- The command `serve`: why it ends with each status, and what it writes then.
-use Rattle.std.specs.Prelude.{◌≡◌, ℕ, ◌<◌, ◌≤◌, ◌⊎◌, List, [], ◌∷◌, length, take, sum, Option}
+use Rattle.std.specs.Prelude.{◌≡◌, ℕ, ◌<◌, ◌≤◌, ◌⊎◌, List, [], ◌∷◌, length, take, Option}
 use Rattle.counts.specs.Counts.{Rose, StoodStill}
 use Rattle.links.specs.declared.door.Heard.{Heard}
 use Rattle.links.specs.Doors.{Doorway, Stays, Opened, KeepsLog}
@@ -26,25 +26,21 @@ pub record IsDeaf {L : Type 0} (serving : Serving) (old new : Desk L) : Type 0 w
   pub faults : new.faults ≡ old.faults
   pub calls : new.calls ≡ old.calls
 
--- how often the first n books judged
-abbrev pub judged : ℕ → List ℕ → ℕ
-judged n calls = sum (take n calls)
-
--- The door listened, at this port and for so many connections, and was then served by the first books: the links
--- in its log, as many as the number of connections still allowed went down, were served one after another, by
--- the machine of the book, within the bound on judgings. The door and its log in between are those after
--- `listen`. What was sound stays so.
+-- The door listened without a fault, at this port and for so many connections, and was then served by the first
+-- books: the links in its log, as many as the number of connections still allowed went down, were served one after
+-- another, by the machine of the book, within the bound on judgings. The door and its log in between are those
+-- after `listen`. What was sound stays so.
 pub record IsServed {L : Type 0} (book : Book) (serving : Serving) (old new : Desk L) : Type 0 where
   pub door : Doorway
   pub log : Option (List L)
   pub opened : Opened old.door door (heard_of serving)
-  pub never_falls : old.door.faults ≤ door.faults
+  pub no_fault : door.faults ≡ old.door.faults
   pub kept : KeepsLog old.log log
   pub enough : serving.workers ≤ length old.calls
   pub heard : new.door.heard ≡ door.heard
   pub given_back : new.door.out ≡ door.out
   pub served :
-      ServesDoor book old.wire old.broken log door old.tables new.log new.door new.tables old.faults new.faults (judged serving.workers old.calls) (judged serving.workers new.calls)
+      ServesDoor book old.wire old.broken log door old.tables new.log new.door new.tables old.faults new.faults (take serving.workers old.calls) (take serving.workers new.calls)
   pub sound : KeepsSound book old.tables new.tables
   pub spares : Spares serving.workers old.calls new.calls
 

@@ -1,10 +1,10 @@
-ghost use Rattle.std.specs.Prelude.{◌≡◌, ◌<◌, ◌≤◌, None, OnOk, map, length};
+ghost use Rattle.std.specs.Prelude.{◌≡◌, ◌<◌, ◌≤◌, None, OnOk, map, length, take};
 ghost use Rattle.links.specs.Wires.{Counts};
 ghost use Rattle.desk_http.specs.Serving.{KeepsSound};
 ghost use Rattle.desk_http.specs.Doors.{ServesDoor};
 ghost use Rattle.act_desk.specs.Telling.{status_of, writing_of};
 ghost use Rattle.act_desk.specs.Desk.{Spares};
-ghost use Rattle.act_desk.specs.Serve.{ServeCause, judged};
+ghost use Rattle.act_desk.specs.Serve.{ServeCause};
 
 use crate::found::Found;
 use desk_words::Serving;
@@ -56,7 +56,7 @@ fn serve_by<R: Threads + Sync, K: Keeper, D: Door, B: RuleBook + Send>(
     requires enough { workers ≤ length books.old }
     ensures served { ServesDoor (record { infos = B.infos; means = B.means }) D.Conn.wire D.Conn.faults (D.log door.old) (D.told door.old) (K.tables keeper.old)
         (D.log door.new) (D.told door.new) (K.tables keeper.new) (K.faults keeper.old) (K.faults keeper.new)
-        (judged workers (map B.calls books.old)) (judged workers (map B.calls books.new)) }
+        (take workers (map B.calls books.old)) (take workers (map B.calls books.new)) }
     ensures sound { KeepsSound (record { infos = B.infos; means = B.means }) (K.tables keeper.old) (K.tables keeper.new) }
     ensures heard { (D.told door.new).heard ≡ (D.told door.old).heard }
     ensures given_back { (D.told door.new).out ≡ (D.told door.old).out }

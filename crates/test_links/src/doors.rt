@@ -61,3 +61,40 @@ fn each_link_is_served_and_given_back(rt: HostRuntime) -> Result<(), Fail> {
     }
     Ok(())
 }
+
+// What each of two links brings, and what is written to it. The first has messages of two callers.
+static VISITS: [(&str, &str); 2] = [
+    (
+        "PUT /sites/acme HTTP/1.1\r\nx-caller: ann\r\ncontent-length: 0\r\n\r\nPOST /sites/acme/pages/home/edits HTTP/1.1\r\nx-caller: bob\r\nx-rev: 1\r\ncontent-length: 64\r\n\r\n{\"edits\":[{\"op\":\"setAttr\",\"node\":2,\"name\":\"class\",\"value\":\"x\"}]}",
+        "HTTP/1.1 201 Created\r\ncontent-type: application/json\r\ncontent-length: 15\r\n\r\n{\"site\":\"acme\"}HTTP/1.1 403 Forbidden\r\ncontent-type: application/json\r\ncontent-length: 54\r\n\r\n{\"needed\":\"editor\",\"number\":13,\"refused\":\"NotAllowed\"}",
+    ),
+    (
+        "PUT /sites/acme HTTP/1.1\r\nx-caller: ann\r\ncontent-length: 0\r\n\r\n",
+        "HTTP/1.1 409 Conflict\r\ncontent-type: application/json\r\ncontent-length: 36\r\n\r\n{\"number\":12,\"refused\":\"SiteExists\"}",
+    ),
+];
+
+fn two_visits(alloc: Global) -> Result<MemDoor, OutOfMemory>
+    ensures { IfOk result (λ door. door.heard ≡ None) }
+{
+    let mut links = Vec::new(alloc);
+    links.push(link(alloc, VISITS[0].0.as_bytes(), 7, &[])?)?;
+    links.push(link(alloc, VISITS[1].0.as_bytes(), 7, &[])?)?;
+    let fails = list(alloc, &[])?;
+    MemDoor::new(alloc, List::from_vec(links), fails)
+}
+
+#[test]
+fn each_reply_goes_to_the_link_that_asked(rt: HostRuntime) -> Result<(), Fail> {
+    let alloc = rt.alloc();
+    let mut door = two_visits(alloc)?;
+    let mut keeper = empty_keeper(alloc);
+    let mut books = [Thirty::new()];
+    assert!(rt; door.listen(80, 2).is_ok());
+    assert!(rt; serve(&rt, alloc, &mut door, &mut keeper, &mut books).is_ok());
+    assert_eq!(rt; door.log().len(), 2);
+    for (link, (_, due)) in door.log().iter().zip(VISITS.iter()) {
+        assert!(rt; link.written() == due.as_bytes());
+    }
+    Ok(())
+}

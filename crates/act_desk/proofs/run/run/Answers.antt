@@ -1,6 +1,6 @@
 use Rattle.std.proofs.Common.{arith}
 use Rattle.streams.proofs.Known.{whole}
-use Rattle.act_desk.proofs.Lent.{lent}
+use Rattle.act_desk.proofs.Lent.{lent, as_many}
 use Rattle.act_desk.proofs.Endings.{runs}
 use Rattle.act_desk.proofs.run.run.Goals as goal
 
@@ -8,4 +8,4 @@ pub returns : goal.returns
 returns g c =
     let left = whole c.find-found.new.books _ c.args.books.now.len (omega (arith, c.as_mut_slice.ensures.len, c.find-found.auto.books)) in
     let cause = lent _ _ _ _ _ _ _ _ _ _ _ _ _ _ g.B.RuleBook.calls _ _ _ _ _ _ c.as_mut_slice.ensures.value left c.find-found.ensures.cause in
-    runs _ _ _ _ _ _ _ c.tell.result _ c.number.result cause c.find-found.ensures.never_falls c.find-found.ensures.stops c.tell.ensures c.number.ensures
+    runs _ _ _ _ _ _ _ c.tell.result _ c.number.result cause c.find-found.ensures.never_falls (as_many g.B.RuleBook.calls _ _ _ _ c.as_mut_slice.ensures.value left c.find-found.auto.books) c.find-found.ensures.stops c.tell.ensures c.number.ensures
