@@ -30,6 +30,7 @@ class Options:
     headers: tuple[tuple[str, str], ...] = ()
     exact: bool = False
     follow: bool = False
+    shadow: bool = True
     shot: str | None = None
 
 
@@ -125,6 +126,7 @@ def parser() -> Parser:
     made.add_argument("--exact", action="store_true",
                       help="refuses a page that passes a limit, where else what no rule looks at is cut")
     made.add_argument("--follow", action="store_true", help="with --url, takes a page that moved on to another address")
+    made.add_argument("--no-shadow", action="store_true", help="leaves shadow trees out")
     made.add_argument("--shot", metavar="FILE", help="writes a picture of the page, and FILE.json with each node's box")
     made.add_argument("--shots", action="store_true", help="the same for each page of a list, in the folder pictures of --out")
     return made
@@ -140,7 +142,7 @@ def read_words(words: Sequence[str]) -> Command:
     if given.url is not None:
         check_written(given.url)
     options = Options(given.url, given.wait, given.timeout, given.settle, given.viewport,
-                      tuple(given.cookie), tuple(given.header), given.exact, given.follow, given.shot)
+                      tuple(given.cookie), tuple(given.header), given.exact, given.follow, not given.no_shadow, given.shot)
     return Command(given.page, given.list, given.out or "", given.jobs or 1, given.shots, options)
 
 

@@ -11,7 +11,7 @@ from .ends import End, Stop, first_line, write_file
 from .options import Options
 from .places import Place, place_of
 from .shots import Shot, take_shot
-from .taking import take
+from .taking import Wanted, take
 
 # What is entered with a browser for as long as it is at work.
 Holding = Callable[[Any], ContextManager[Any]]
@@ -38,7 +38,7 @@ def collect_in(browser: Any, place: Place, options: Options) -> Collected:
     before = loading.check(browser, place, options, traffic)
     wants_shot = options.shot is not None
     try:
-        taken = take(browser, options.url, options.exact, wants_shot)
+        taken = take(browser, options.url, Wanted(options.exact, options.shadow, wants_shot))
     except Stop as stop:
         # A page that moves on while it is read gives a fault of the driver.
         if stop.end is End.DOCUMENT:

@@ -3,7 +3,7 @@ from __future__ import annotations
 
 import pathlib
 from dataclasses import dataclass, field
-from typing import Any
+from typing import Any, NamedTuple
 
 from .ends import End, Stop, first_line
 
@@ -14,13 +14,24 @@ BOXES = HERE / "boxes.js"
 # The wrapped call tells a fault of the page from one of the driver. The boxes are
 # measured in the same turn, so that no node comes or goes in between.
 CALL = """
+const [address, wanted] = arguments;
 const cuts = [];
+let rows = [];
 try {
-  const text = (%s)(arguments[0], { exact: arguments[1], told: (line) => cuts.push(line) });
-  return { text, cuts, page: arguments[2] ? (%s)() : null };
+  const text = (%s)(address, { ...wanted, told: (line) => cuts.push(line), nodes: (list) => { rows = list; } });
+  return { text, cuts, page: wanted.boxes ? (%s)(rows) : null };
 } catch (error) { return { name: String(error && error.name), message: String(error && error.message), cuts }; }
 """
 FAULTS = {"SnapshotLimit": (End.LIMIT, "a limit is passed"), "SnapshotAddress": (End.USAGE, "wrong address")}
+
+
+class Wanted(NamedTuple):
+    """How a snapshot is taken: refused where else something is cut, with shadow trees, with boxes, and of which state."""
+
+    exact: bool = False
+    shadow: bool = False
+    boxes: bool = False
+    state: str | None = None
 
 
 @dataclass
@@ -32,13 +43,13 @@ class Taken:
     page: dict[str, Any] | None = None
 
 
-def take(browser: Any, address: str | None = None, exact: bool = False, boxes: bool = False) -> Taken:
+def take(browser: Any, address: str | None = None, wanted: Wanted = Wanted()) -> Taken:
     """The snapshot of the page that the browser shows, written under the address."""
     from selenium.common.exceptions import InvalidSessionIdException, TimeoutException, WebDriverException
 
     source = CALL % (SNAPSHOT.read_text(encoding="utf-8"), BOXES.read_text(encoding="utf-8"))
     try:
-        answer = browser.execute_script(source, address, exact, boxes)
+        answer = browser.execute_script(source, address, wanted._asdict())
     except TimeoutException:
         raise Stop(End.TIME, "the page leaves its browser no time in which it can be read") from None
     except InvalidSessionIdException:
