@@ -216,8 +216,8 @@ function silvervoleSnapshot(address, options) {
 
   // A slot is a place and no more where it has no box, and says nothing that
   // rules look at: it has no row, and what stands in it is its parent's.
-  const isPlace = (node) => trees.size > 0 && nodeType(node) === 1 && isHtml(node, 'slot') && treeOf(node) > 0
-    && /^(contents|none|)$/.test(style(node).display)
+  const isSlot = (node) => trees.size > 0 && nodeType(node) === 1 && isHtml(node, 'slot') && treeOf(node) > 0;
+  const isPlace = (node) => isSlot(node) && /^(contents|none|)$/.test(style(node).display)
     && [...attributes(node)].every(({ name }) => name === 'name' || !isLookedAt(asciiLower(name)));
 
   const listed = (above) => {
@@ -226,7 +226,7 @@ function silvervoleSnapshot(address, options) {
     return kids;
   };
   const kidsOf = (element) => {
-    const assigned = trees.size > 0 && isHtml(element, 'slot') ? assignedNodes(element) : [];
+    const assigned = isSlot(element) ? assignedNodes(element) : [];
     return assigned.length > 0 ? assigned : listed(openTree(element) || element);
   };
 
@@ -390,7 +390,7 @@ function silvervoleSnapshot(address, options) {
     const place = { tag, drawn: rendered, only: null, host: null, visible: css.visibility === 'visible',
       inSelect: within.inSelect || (ns === 'html' && tag === 'select'),
       inCanvas: within.inCanvas || (ns === 'html' && tag === 'canvas' && rendered),
-      passedOver: within.passedOver || (openTree(element) !== null && tabIndexOf(element) < 0) };
+      passedOver: within.passedOver || ((openTree(element) || isSlot(element)) && tabIndexOf(element) < 0) };
     if (!rendered) return place;
     if (ns === 'html' && HTML_CHILDLESS.has(tag)) place.drawn = false;
     else if (ns === 'html' && tag === 'object') place.drawn = showsContents(element);
@@ -473,12 +473,13 @@ function silvervoleSnapshot(address, options) {
   const whereOf = (node, isElement, parent, within) => {
     if (trees.size === 0) return '';
     const tree = treeOf(node);
-    const apart = isElement && parent > 0 && (within.holdsPlaces || parentNode(node) !== records[parent - 1].node);
+    const apart = isElement && parent > 0 && (within.mixed || parentNode(node) !== records[parent - 1].node);
     return (tree > 0 ? `,"in":${tree}` : '') + (apart ? `,"at":[${placesOf(node)}]` : '');
   };
-  const visitBelow = (element, n, depth, place) => {
+  // Rows are mixed where they have one parent, and their nodes may not.
+  const visitBelow = (element, n, depth, place, isMixed) => {
     const kids = kidsOf(element);
-    place.holdsPlaces = kids.some(isPlace);
+    place.mixed = isMixed || kids.some(isPlace);
     for (const kid of kids) visit(kid, n, depth, place);
   };
 
@@ -490,7 +491,7 @@ function silvervoleSnapshot(address, options) {
     if (isPlace(node)) {
       const css = style(node);
       const place = childrenOf(node, 'html', within.tag, isRendered(node, 'html', 'slot', css, within), css, within);
-      visitBelow(node, parent, depth, place);
+      visitBelow(node, parent, depth, place, true);
       return;
     }
     const n = records.length + 1;
@@ -516,7 +517,7 @@ function silvervoleSnapshot(address, options) {
     records.push({ row: `${row},"ns":"${ns}","tag":${quote(written)}`, attrs, node, n, parent, element: true,
       ns, tag, rendered, visible: rendered && css.visibility === 'visible', ownVisible: css.visibility === 'visible',
       inCanvas: within.inCanvas, passedOver: within.passedOver, focusable: false, tabbable: false });
-    visitBelow(node, n, depth + 1, childrenOf(node, ns, tag, rendered, css, within));
+    visitBelow(node, n, depth + 1, childrenOf(node, ns, tag, rendered, css, within), false);
   };
 
   // --- Image maps --------------------------------------------------------
@@ -657,7 +658,8 @@ function silvervoleSnapshot(address, options) {
         else if ((record.ns !== 'other' && NATIVE_STOPS.has(record.tag)) || (!shadow && shadowRoot(record.node))
           || (record.ns === 'html' && isContentEditable(record.node))) record.tabbable = true;
         else record.tabbable = !holdsStop.has(record.n);
-        if (record.passedOver) record.tabbable = false;
+        // Tab goes into a host and a slot or, with a negative tabindex, past all in it; a slot itself is no stop.
+        if (record.passedOver || isSlot(record.node)) record.tabbable = false;
         if (record.tabbable && record.group) {
           record.tabbable = record === (record.group.checked || record.group.first);
         }

@@ -7,6 +7,7 @@ from typing import Any, Callable, ContextManager
 
 from . import loading
 from .browser import kill_browser, start_browser
+from .closed import closed_note
 from .ends import End, Stop, first_line, write_file
 from .options import Options
 from .places import Place, place_of
@@ -19,7 +20,7 @@ Holding = Callable[[Any], ContextManager[Any]]
 
 @dataclass(frozen=True)
 class Collected:
-    """What was taken of a page: its snapshot, a line for each cut, and its picture where one is wanted."""
+    """What was taken of a page: its snapshot, a line for each thing to tell of it, and its picture where one is wanted."""
 
     text: str
     notes: tuple[str, ...]
@@ -46,8 +47,8 @@ def collect_in(browser: Any, place: Place, options: Options) -> Collected:
         raise
     refuse_moved(browser, place, options, before)
     shot = take_shot(browser, taken) if wants_shot else None
-    notes = [*taken.cuts, *([shot.cut] if shot and shot.cut else [])]
-    return Collected(taken.text, tuple(notes), shot)
+    notes = [*taken.cuts, shot.cut if shot else "", closed_note(browser, False) if options.shadow else ""]
+    return Collected(taken.text, tuple(filter(None, notes)), shot)
 
 
 def refuse_moved(browser: Any, place: Place, options: Options, before: loading.Shown) -> None:
