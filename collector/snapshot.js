@@ -19,6 +19,8 @@
  *           attributes what scripts say in ElementInternals, of which
  *           internals.js took note. Otherwise shadow trees are left out.
  *   state   a name for the state the page is in, written beside its address.
+ *   unchanged  is called with each field whose change event the page won't hear
+ *           any more, since the focus left an edit that wasn't committed.
  *   nodes   is called with a list that has, for each row, its node and its
  *           parent's number.
  *
@@ -570,6 +572,7 @@ function silvervoleSnapshot(address, options) {
   // the page was found, and puts the focus, the selection and with
   // preventScroll the scroll positions back. Listeners of the page hear none
   // of it, except those it set on the window for the capturing phase before.
+  const unheard = new Set();
   const probeFocus = () => {
     const first = activeElement();
     // What the document names as active when nothing has the focus.
@@ -586,7 +589,10 @@ function silvervoleSnapshot(address, options) {
       if (first !== null && first !== resting) give(focusOf, first, { preventScroll: true });
       else if (now !== null) give(blurOf, now);
     };
-    const hush = (event) => event.stopImmediatePropagation();
+    const hush = (event) => {
+      event.stopImmediatePropagation();
+      if (event.type === 'change') unheard.add(event.composedPath()[0]);
+    };
     const heard = ['focus', 'blur', 'focusin', 'focusout', 'DOMFocusIn', 'DOMFocusOut', 'change', 'select'];
     // Where the focus moves within one shadow tree, the window hears nothing of it.
     const places = [window, ...trees.keys()];
@@ -699,6 +705,7 @@ function silvervoleSnapshot(address, options) {
   const whole = () => `{"url":${quote(url)}${state},"nodes":[\n${records.map(line).join(',\n')}\n]}\n`;
   const text = whole();
   const bytes = utf8Length(text);
+  if (given.unchanged) unheard.forEach((field) => given.unchanged(field));
   if (given.nodes) given.nodes(records.map(({ node, parent }) => ({ node, parent })));
   if (bytes <= LIMITS.snapshotBytes) return text;
 

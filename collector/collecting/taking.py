@@ -18,28 +18,33 @@ const [address, wanted] = arguments;
 const cuts = [];
 let rows = [];
 try {
-  const text = (%s)(address, { ...wanted, told: (line) => cuts.push(line), nodes: (list) => { rows = list; } });
-  return { text, cuts, page: wanted.boxes ? (%s)(rows) : null };
+  const text = (%s)(address, { ...wanted, told: (line) => cuts.push(line), nodes: (list) => { rows = list; },
+    unchanged: (field) => field.dispatchEvent(new Event('change', { bubbles: true })) });
+  const frames = rows.flatMap(({ node }, i) => (node instanceof HTMLElement && /^(iframe|frame|object)$/.test(node.localName) && node.contentWindow
+    ? [{ node: i + 1, element: node, source: node.getAttribute('src') || node.getAttribute('data') || '' }] : []));
+  return { text, cuts, frames: wanted.frames ? frames : [], page: wanted.boxes ? (%s)(rows) : null };
 } catch (error) { return { name: String(error && error.name), message: String(error && error.message), cuts }; }
 """
 FAULTS = {"SnapshotLimit": (End.LIMIT, "a limit is passed"), "SnapshotAddress": (End.USAGE, "wrong address")}
 
 
 class Wanted(NamedTuple):
-    """How a snapshot is taken: refused where else something is cut, with shadow trees, with boxes, and of which state."""
+    """How a snapshot is taken: refused where else something is cut; with shadow trees, boxes, the page's frames; of which state."""
 
     exact: bool = False
     shadow: bool = False
     boxes: bool = False
+    frames: bool = False
     state: str | None = None
 
 
 @dataclass
 class Taken:
-    """A snapshot's text, a line for each cut, and where boxes are wanted the page's size and boxes."""
+    """A snapshot's text, a line for each cut, and where they are wanted the frames, and the page's size and boxes."""
 
     text: str
     cuts: list[str] = field(default_factory=list)
+    frames: list[dict[str, Any]] = field(default_factory=list)
     page: dict[str, Any] | None = None
 
 
@@ -57,6 +62,6 @@ def take(browser: Any, address: str | None = None, wanted: Wanted = Wanted()) ->
     except WebDriverException as error:
         raise Stop(End.DOCUMENT, f"the page can't be read: {first_line(error)}") from None
     if "text" in answer:
-        return Taken(answer["text"], answer["cuts"], answer["page"])
+        return Taken(answer["text"], answer["cuts"], answer["frames"], answer["page"])
     end, what = FAULTS.get(answer["name"], (End.DOCUMENT, "the page can't be read"))
     raise Stop(end, f"{what}: {answer['message']}")

@@ -12,6 +12,9 @@ class Traffic:
         self.browser = browser
         self.frame = browser.execute_cdp_cmd("Page.getFrameTree", {})["frameTree"]["frame"]["id"]
         self.idle = False
+        # Of the requests under way, and of those that the browser was told to give up: whether it is a frame's document.
+        self.under_way: dict[str, bool] = {}
+        self.given_up: list[bool] = []
         # Of the last response that was to be the page.
         self.type = ""
         self.status = 0
@@ -29,10 +32,26 @@ class Traffic:
         """Whether a request or a response is that of the page itself."""
         return given.get("type") == "Document" and given.get("frameId") == self.frame
 
+    def count(self, name: str, given: dict[str, Any]) -> None:
+        """Takes note of a request that begins or ends."""
+        if name == "Network.requestWillBeSent":
+            self.under_way[given["requestId"]] = given.get("type") == "Document" and given.get("frameId") != self.frame
+        elif name in ("Network.loadingFinished", "Network.loadingFailed"):
+            is_frame = self.under_way.pop(given["requestId"], None)
+            if given.get("canceled") and is_frame is not None:
+                self.given_up.append(is_frame)
+
+    def waited_for_frames(self) -> bool:
+        """Whether nothing but the documents of frames held up a page that was given up."""
+        self.listen()
+        held_up = [*self.under_way.values(), *self.given_up]
+        return self.status != 0 and held_up != [] and all(held_up)
+
     def listen(self) -> None:
         """Takes in what came since the last call."""
         documents = set()
         for name, given in self.events():
+            self.count(name, given)
             if name == "Network.responseReceived" and self.is_page(given):
                 self.type = given["response"]["mimeType"]
                 self.status = int(given["response"]["status"])

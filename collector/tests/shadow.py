@@ -6,9 +6,11 @@ from typing import Any
 
 from collecting.ends import End
 from collecting.taking import Wanted, take
+from viewing.page import read_page, start_tag
+from viewing.paths import css_path
 
 from .letters import letters_by_name, press_tab
-from .support import COLLECTOR, collect_here, expect, form, open_file, page, refused_here, run, same
+from .support import COLLECTOR, SOURCE, collect_here, expect, form, open_file, page, refused_here, run, same
 
 ADDRESS = "https://shadow.example/"
 WRITTEN = ("--url", ADDRESS)
@@ -250,3 +252,33 @@ def test_shadow_unchanged(browser: Any) -> None:
             same(f"after {start or 'nothing'}: as before", browser.execute_script(state), before)
             same(f"after {start or 'nothing'}: nothing was heard", browser.execute_script("return log"), [])
         browser.execute_cdp_cmd("Emulation.setFocusEmulationEnabled", {"enabled": False})
+
+
+# Of the paths of a page's rows, those that don't find their element, or find another.
+ASTRAY = f"""
+let rows = [];
+({SOURCE})(arguments[0], {{ shadow: true, nodes: (list) => {{ rows = list; }} }});
+return arguments[1].filter(([n, path]) => {{
+  let found = [document];
+  for (const part of path.split(' >>> ')) found = found.flatMap((one) => [...(one === document ? one : one.shadowRoot).querySelectorAll(part)]);
+  return found.length !== 1 || found[0] !== rows[n - 1].node;
+}});
+"""
+
+
+def test_shadow_paths(browser: Any) -> None:
+    """The view's paths lead into shadow trees, and its start tags have ids as the page has them."""
+    bodies = "".join(body for body, _ in OUTLINES.values())
+    with page(bodies) as path:
+        for what in (path, COLLECTOR / "pages" / "shadow.html"):
+            open_file(browser, what)
+            shown = read_page(take(browser, ADDRESS, FLAT).text.encode("utf-8"), str(what))
+            paths = [[node.number, css_path(shown, node)] for node in shown.nodes.values() if node.is_element]
+            same(f"{what}: paths that don't find their element", browser.execute_script(ASTRAY, ADDRESS, paths), [])
+            tags = " ".join(start_tag(node) for node in shown.nodes.values() if node.is_element)
+            expect(f"{what}: no mark is shown", "@shadow" not in tags and 'id="f' in tags + 'id="f', tags)
+    with page(f"<x-a>{tree('<p>x</p><slot></slot>')}<b>y</b></x-a>") as path:
+        open_file(browser, path)
+        shown = read_page(take(browser, ADDRESS, FLAT).text.encode("utf-8"), path)
+        same("paths of a shadow tree, and of what is slotted", {node.tag: css_path(shown, node) for node in shown.nodes.values() if node.tag in ("p", "b")},
+             {"p": "html > body > x-a >>> :host > p:nth-child(1)", "b": "html > body > x-a > b:nth-child(1)"})
