@@ -7,13 +7,20 @@ from typing import Any
 MOST_NAMES = 5
 
 
+# A frame may show a PDF, by a page of the browser's own that has closed shadow trees.
+IS_HTML = "function () { return this.contentType === 'text/html' || this.contentType === 'application/xhtml+xml'; }"
+
+
 def closed_note(browser: Any, with_frames: bool) -> str:
     """A line that counts the closed shadow trees of the page that the browser shows; empty where there is none."""
     browser.execute_cdp_cmd("DOM.enable", {})
     # Nested as the document is, the answer would be too deep for the driver.
     nodes = browser.execute_cdp_cmd("DOM.getFlattenedDocument", {"depth": -1, "pierce": True})["nodes"]
+    hosts: Counter[str] = Counter()
+    for document, found in closed_hosts(nodes).items():
+        if document is None or (with_frames and is_html(browser, document)):
+            hosts += found
     browser.execute_cdp_cmd("DOM.disable", {})
-    hosts = closed_hosts(nodes, with_frames)
     if not hosts:
         return ""
     names = [f"{name} ({count})" if count > 1 else name for name, count in sorted(hosts.items())]
@@ -23,20 +30,33 @@ def closed_note(browser: Any, with_frames: bool) -> str:
             f"{', '.join(names[:MOST_NAMES])}{rest}")
 
 
-def closed_hosts(nodes: list[dict[str, Any]], with_frames: bool) -> Counter[str]:
-    """The tags of the hosts of closed shadow trees among the nodes that the browser's DOM domain tells."""
+def is_html(browser: Any, document: int) -> bool:
+    """Whether a document, by its number in the browser, is an HTML page."""
+    resolved = browser.execute_cdp_cmd("DOM.resolveNode", {"backendNodeId": document})["object"]["objectId"]
+    asked = {"objectId": resolved, "functionDeclaration": IS_HTML, "returnByValue": True}
+    return bool(browser.execute_cdp_cmd("Runtime.callFunctionOn", asked)["result"]["value"])
+
+
+def closed_hosts(nodes: list[dict[str, Any]]) -> dict[int | None, Counter[str]]:
+    """The tags of the hosts of closed shadow trees, from what the browser's DOM domain tells of a page.
+
+    They are counted by the document that they are in: that of a frame by its number in the browser, the page's own under None.
+    """
     above = {node["nodeId"]: node.get("parentId") for node in nodes}
-    framed = {node["contentDocument"]["nodeId"] for node in nodes if "contentDocument" in node}
-    hosts = []
+    framed = {node["contentDocument"]["nodeId"]: node["contentDocument"]["backendNodeId"] for node in nodes if "contentDocument" in node}
+    closed = []
     for node in nodes:
         for root in node.get("shadowRoots", ()):
             above[root["nodeId"]] = node["nodeId"]
             if root["shadowRootType"] == "closed":
-                hosts.append(node)
+                closed.append(node)
 
-    def is_framed(number: int | None) -> bool:
+    def document_of(number: int | None) -> int | None:
         while number is not None and number not in framed:
             number = above.get(number)
-        return number is not None
+        return None if number is None else framed[number]
 
-    return Counter(host["nodeName"].lower() for host in hosts if with_frames or not is_framed(host["nodeId"]))
+    found: dict[int | None, Counter[str]] = {}
+    for host in closed:
+        found.setdefault(document_of(host["nodeId"]), Counter())[host["nodeName"].lower()] += 1
+    return found

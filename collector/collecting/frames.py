@@ -2,11 +2,12 @@
 from __future__ import annotations
 
 import json
+import re
 import time
 from dataclasses import dataclass
 from typing import Any, Iterator
 
-from .ends import Stop, first_line
+from .ends import End, Stop, first_line
 from .loading import HTML_TYPES
 from .taking import Taken, Wanted, take
 
@@ -15,6 +16,9 @@ MOST_FRAMES = 100
 
 # One process for all frames: what is given to a page's document before its scripts is given to theirs too.
 TOGETHER = ("--disable-site-isolation-trials", "--disable-features=IsolateOrigins,site-per-process,IsolateSandboxedIframes")
+
+# Sources that leave a frame with an empty document, or with what scripts write into it.
+EMPTY = re.compile(r"\s*(about|javascript):", re.IGNORECASE)
 
 # Where the driver doesn't get into a frame, it runs the script in the document around it.
 INSIDE = """
@@ -83,7 +87,7 @@ class Frames:
             yield FrameDocument(number, "", (f"{named} can't be looked into: {first_line(error)}",))
             return
         try:
-            taken = self.taken(number, depth)
+            taken = self.taken(frame["source"], number, depth)
         except InvalidSessionIdException:
             raise
         except (Stop, WebDriverException) as error:
@@ -95,19 +99,20 @@ class Frames:
         self.browser.switch_to.parent_frame()
         self.browser.execute_script(CLEAN, frame["element"])
 
-    def taken(self, number: int, depth: int) -> Taken:
+    def taken(self, source: str, number: int, depth: int) -> Taken:
         """The snapshot of the frame's document that the browser was sent into, or a Stop."""
-        there = self.ready(depth)
+        there = self.ready(source, depth)
         if not there["address"].startswith(("http:", "https:")):
             return take(self.browser, f"{self.address}#frame-{number}", self.wanted)
         return take(self.browser, None, self.wanted)
 
-    def ready(self, depth: int) -> dict[str, Any]:
+    def ready(self, source: str, depth: int) -> dict[str, Any]:
         """What is told of the frame's document, once it has loaded."""
-        from .ends import End
         while True:
             there = self.browser.execute_script(INSIDE)
-            if there["depth"] == depth and there["state"] == "complete":
+            # Before any other a frame has an empty document, which is complete.
+            is_first = there["address"] == "about:blank" and source and not EMPTY.match(source)
+            if there["depth"] == depth and there["state"] == "complete" and not is_first:
                 break
             if time.monotonic() >= self.end:
                 raise Stop(End.TIME, "it hasn't loaded in time")

@@ -2,7 +2,12 @@
 from __future__ import annotations
 
 import json
+import time
 from typing import Any, Iterator
+
+STEP_SECONDS = 0.05
+# Within which the driver tells what the browser gave up.
+TELLING_SECONDS = 3.0
 
 
 class Traffic:
@@ -43,9 +48,11 @@ class Traffic:
 
     def waited_for_frames(self) -> bool:
         """Whether nothing but the documents of frames held up a page that was given up."""
-        self.listen()
-        held_up = [*self.under_way.values(), *self.given_up]
-        return self.status != 0 and held_up != [] and all(held_up)
+        end = time.monotonic() + TELLING_SECONDS
+        while not self.given_up and time.monotonic() < end:
+            self.listen()
+            time.sleep(STEP_SECONDS)
+        return self.given_up != [] and all(self.given_up)
 
     def listen(self) -> None:
         """Takes in what came since the last call."""

@@ -78,8 +78,9 @@ class Handler(http.server.SimpleHTTPRequestHandler):
 
     def do_GET(self) -> None:
         path = self.path.split("?")[0]
-        if path in ANSWERS:
-            self.answer(ANSWERS[path])
+        answers = {**ANSWERS, **self.server.more}
+        if path in answers or self.path in answers:
+            self.answer(answers.get(self.path) or answers[path])
         elif path == "/guarded":
             known = "user=ann" in self.headers.get("Cookie", "") and self.headers.get("X-Team") == "web: a"
             self.answer(Answer(HTML, html("<p>secret"), 200 if known else 401))
@@ -101,6 +102,8 @@ class Handler(http.server.SimpleHTTPRequestHandler):
             self.answer(Answer("text/plain", b"come late"))
         elif path == "/hangs":
             time.sleep(8)
+        elif path == "/hangs-on":
+            time.sleep(120)
         elif path == "/cut-off":
             self.close_connection = True
         else:
@@ -127,10 +130,12 @@ class Server(http.server.ThreadingHTTPServer):
     """A server whose open requests end with the test."""
 
     daemon_threads = True
+    more: dict[str, Answer] = {}
 
 
-def serve() -> tuple[Server, str]:
-    """A running server and its address."""
+def serve(more: dict[str, Answer] | None = None) -> tuple[Server, str]:
+    """A running server and its address; it may have more answers than those above."""
     server = Server(("127.0.0.1", 0), functools.partial(Handler, directory=str(SITE)))
+    server.more = more or {}
     threading.Thread(target=server.serve_forever, daemon=True).start()
     return server, f"http://127.0.0.1:{server.server_port}"
