@@ -19,7 +19,7 @@
  *           attributes what scripts say in ElementInternals, of which
  *           internals.js took note. Otherwise shadow trees are left out.
  *   state   a name for the state the page is in, written beside its address.
- *   unchanged  is called with each field whose change event the page won't hear
+ *   unheard is called with each field whose change event the page won't hear
  *           any more, since the focus left an edit that wasn't committed.
  *   nodes   is called with a list that has, for each row, its node and its
  *           parent's number.
@@ -101,8 +101,9 @@ function silvervoleSnapshot(address, options) {
   const matches = method(Element, 'matches');
   const openTree = (element) => (shadow ? shadowRoot(element) : null);
   // What stands above a node in the flat tree, by which styles and inertness come down.
+  const hostOf = (tree) => (nodeType(tree) === 11 ? getter(ShadowRoot, 'host')(tree) : null);
   const flatParent = (node) => (nodeType(node) === 1 ? slotOfElement(node) : slotOfText(node))
-    || parentElement(node) || getRootNode(node).host || null;
+    || parentElement(node) || hostOf(getRootNode(node));
   const style = (element) => window.getComputedStyle(element);
 
   // --- Texts and numbers -------------------------------------------------
@@ -705,7 +706,7 @@ function silvervoleSnapshot(address, options) {
   const whole = () => `{"url":${quote(url)}${state},"nodes":[\n${records.map(line).join(',\n')}\n]}\n`;
   const text = whole();
   const bytes = utf8Length(text);
-  if (given.unchanged) unheard.forEach((field) => given.unchanged(field));
+  if (given.unheard) unheard.forEach((field) => given.unheard(field));
   if (given.nodes) given.nodes(records.map(({ node, parent }) => ({ node, parent })));
   if (bytes <= LIMITS.snapshotBytes) return text;
 

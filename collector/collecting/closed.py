@@ -4,6 +4,8 @@ from __future__ import annotations
 from collections import Counter
 from typing import Any
 
+from .ends import first_line
+
 MOST_NAMES = 5
 
 
@@ -13,6 +15,24 @@ IS_HTML = "function () { return this.contentType === 'text/html' || this.content
 
 def closed_note(browser: Any, with_frames: bool) -> str:
     """A line that counts the closed shadow trees of the page that the browser shows; empty where there is none."""
+    from selenium.common.exceptions import InvalidSessionIdException, WebDriverException
+    try:
+        hosts = hosts_in(browser, with_frames)
+    except InvalidSessionIdException:
+        raise  # the browser ended
+    except WebDriverException as error:
+        return f"closed shadow trees can't be counted: {first_line(error)}"
+    if not hosts:
+        return ""
+    names = [f"{name} ({count})" if count > 1 else name for name, count in sorted(hosts.items())]
+    rest = f" and {len(names) - MOST_NAMES} more kinds" if len(names) > MOST_NAMES else ""
+    number = sum(hosts.values())
+    return (f"{number} closed shadow {'tree is' if number == 1 else 'trees are'} left out, of "
+            f"{', '.join(names[:MOST_NAMES])}{rest}")
+
+
+def hosts_in(browser: Any, with_frames: bool) -> Counter[str]:
+    """How many elements of each tag have a closed shadow tree."""
     browser.execute_cdp_cmd("DOM.enable", {})
     # Nested as the document is, the answer would be too deep for the driver.
     nodes = browser.execute_cdp_cmd("DOM.getFlattenedDocument", {"depth": -1, "pierce": True})["nodes"]
@@ -21,13 +41,7 @@ def closed_note(browser: Any, with_frames: bool) -> str:
         if document is None or (with_frames and is_html(browser, document)):
             hosts += found
     browser.execute_cdp_cmd("DOM.disable", {})
-    if not hosts:
-        return ""
-    names = [f"{name} ({count})" if count > 1 else name for name, count in sorted(hosts.items())]
-    rest = f" and {len(names) - MOST_NAMES} more kinds" if len(names) > MOST_NAMES else ""
-    number = sum(hosts.values())
-    return (f"{number} closed shadow {'tree is' if number == 1 else 'trees are'} left out, of "
-            f"{', '.join(names[:MOST_NAMES])}{rest}")
+    return hosts
 
 
 def is_html(browser: Any, document: int) -> bool:

@@ -1,6 +1,7 @@
 """Collects the documents of a page's frames, each as a snapshot of its own."""
 from __future__ import annotations
 
+import contextlib
 import json
 import re
 import time
@@ -34,7 +35,9 @@ CLEAN = "for (const frame of arguments) frame.removeAttribute('cd_frame_id_');"
 FOCUSED = "return document.activeElement"
 REFOCUS = """
 const [before] = arguments;
-if (before !== document.activeElement) before === document.body ? document.activeElement.blur() : before.focus({ preventScroll: true });
+const now = document.activeElement;
+if (before && before !== document.body && before !== now) before.focus({ preventScroll: true });
+else if (now && now !== before) now.blur();
 """
 
 
@@ -76,7 +79,7 @@ class Frames:
 
     def inside(self, frame: dict[str, Any], number: int, depth: int) -> Iterator[FrameDocument]:
         """What is in a frame, and in those within it."""
-        from selenium.common.exceptions import InvalidSessionIdException, WebDriverException
+        from selenium.common.exceptions import InvalidSessionIdException, StaleElementReferenceException, WebDriverException
 
         named = f"frame {number} (node {frame['node']}{', ' + frame['source'] if frame['source'] else ''})"
         try:
@@ -89,7 +92,7 @@ class Frames:
         try:
             taken = self.taken(frame["source"], number, depth)
         except InvalidSessionIdException:
-            raise
+            raise  # the browser ended
         except (Stop, WebDriverException) as error:
             why = error.line if isinstance(error, Stop) else first_line(error)
             yield FrameDocument(number, "", (f"{named} can't be looked into: {why}",))
@@ -97,7 +100,8 @@ class Frames:
             yield FrameDocument(number, taken.text, tuple(f"frame {number}: {cut}" for cut in taken.cuts))
             yield from self.below(taken, depth + 1)
         self.browser.switch_to.parent_frame()
-        self.browser.execute_script(CLEAN, frame["element"])
+        with contextlib.suppress(StaleElementReferenceException):
+            self.browser.execute_script(CLEAN, frame["element"])
 
     def taken(self, source: str, number: int, depth: int) -> Taken:
         """The snapshot of the frame's document that the browser was sent into, or a Stop."""

@@ -23,10 +23,11 @@ KEYS = {"Enter": "ENTER", "Tab": "TAB", "Escape": "ESCAPE", "Space": "SPACE", "B
 # The elements that a selector finds; behind each >>> it is looked for in the open shadow trees of those before.
 FOUND = """
 let found = [document];
+const all = (root, selector) => [...(root === document ? Document : DocumentFragment).prototype.querySelectorAll.call(root, selector)];
 for (const part of arguments[0].split('>>>')) {
   const roots = found.map((one) => (one === document ? one : one.shadowRoot)).filter(Boolean);
-  try { found = roots.flatMap((root) => [...root.querySelectorAll(part.trim())]); } catch (error) { return 'wrong'; }
-  if (roots.length === 0) { try { document.querySelector(part.trim()); } catch (error) { return 'wrong'; } }
+  // A selector is wrong also where there is nothing to look in.
+  try { found = (roots.length ? roots : [document.createDocumentFragment()]).flatMap((root) => all(root, part.trim())); } catch (error) { return 'wrong'; }
 }
 return { shown: found.find((one) => one.checkVisibility({ visibilityProperty: true })) || null, some: found.length > 0 };
 """

@@ -19,7 +19,7 @@ const cuts = [];
 let rows = [];
 try {
   const text = (%s)(address, { ...wanted, told: (line) => cuts.push(line), nodes: (list) => { rows = list; },
-    unchanged: (field) => field.dispatchEvent(new Event('change', { bubbles: true })) });
+    unheard: (field) => field.dispatchEvent(new Event('change', { bubbles: true })) });
   const frames = rows.flatMap(({ node }, i) => (node instanceof HTMLElement && /^(iframe|frame|object)$/.test(node.localName) && node.contentWindow
     ? [{ node: i + 1, element: node, source: node.getAttribute('src') || node.getAttribute('data') || '' }] : []));
   return { text, cuts, frames: wanted.frames ? frames : [], page: wanted.boxes ? (%s)(rows) : null };

@@ -202,6 +202,9 @@ def test_same_bytes(browser: Any) -> None:
     expect("where there are shadow trees they differ", take(browser, ADDRESS).text != take(browser, ADDRESS, FLAT).text)
     browser.execute_script("document.querySelectorAll('#host, #host-text, #host-none, #delegates').forEach((host) => host.remove())")
     expect("where there are none they are the same", take(browser, ADDRESS).text == take(browser, ADDRESS, FLAT).text)
+    with page(f"<img name=host alt=x><iframe srcdoc=x></iframe><script>//{'y' * 70_000}</script><x-a>{tree('<iframe></iframe>')}</x-a>") as path:
+        rows = form.check(collect_here(browser, path, *WRITTEN).text.encode("utf-8"))
+        same("an image named host is no host", [row["f"] for row in rows if row["tag"] == "iframe"], ["rvft", "rvft"])
     with page("<slot name=a id=@shadow-1><b>x</b></slot><a href=#x>x</a><p id=x aria-labelledby='x y' aria-owns=''>") as path:
         same("marks and slots of a page without shadow trees", collect_here(browser, path, *WRITTEN).text,
              collect_here(browser, path, *WRITTEN, "--no-shadow").text)
