@@ -11,7 +11,7 @@ from typing import Any
 
 from collecting.taking import Wanted, take
 
-from .support import COLLECTOR, DESK, SOURCE, expect, form, open_file, same
+from .support import COLLECTOR, DESK, SOURCE, expect, form, open_file, page, same
 
 ADDRESS = "https://roles.example/"
 PAGES = ("components.html", "shadow.html", "menu.html", "dialog.html")
@@ -30,6 +30,31 @@ DIFFERENCES = {
     ("shadow.html", "inert-button"): ("button x", "nothing"),
     ("shadow.html", "inert-frame"): ("- ", "nothing"),
     ("shadow.html", "area"): ("link x", "nothing"),
+}
+
+
+# A page of components, and one without shadow trees that is shown alike: the desk finds the same on both.
+ALIKE = {
+    "a table whose rows stand in a shadow tree": (
+        "<x-t><template shadowrootmode=open><table><tr><th id=h><slot name=h></slot></th></tr><tr><td headers=h><slot name=c></slot></td></tr></table></template>"
+        "<b slot=h>Open</b><i slot=c>9 to 5</i></x-t>",
+        "<x-t><table><tr><th id=h><b>Open</b></th></tr><tr><td headers=h><i>9 to 5</i></td></tr></table></x-t>"),
+    "rows that are slotted into a table of roles": (
+        "<x-t role=table aria-label=T><template shadowrootmode=open><slot></slot></template><x-r role=row><template shadowrootmode=open>"
+        "<slot></slot></template><span role=cell>1</span></x-r></x-t>",
+        "<x-t role=table aria-label=T><x-r role=row><span role=cell>1</span></x-r></x-t>"),
+    "a list whose items are slotted": (
+        "<x-l><template shadowrootmode=open><ul role=list><slot></slot></ul></template><li>1</li><li>2</li></x-l>",
+        "<x-l><ul role=list><li>1</li><li>2</li></ul></x-l>"),
+    "a list without items": ("<x-l><template shadowrootmode=open><div role=list><slot></slot></div></template></x-l>", "<x-l><div role=list></div></x-l>"),
+    "a reference that leads nowhere, since its id is of another tree": (
+        "<p id=hint>x</p><x-f><template shadowrootmode=open><input aria-labelledby=hint aria-describedby=hint></template></x-f>",
+        "<p id=hint>x</p><x-f><input aria-labelledby=none aria-describedby=none></x-f>"),
+    "a skip link that is a component": (
+        "<x-s><template shadowrootmode=open><a href=#main>Skip</a></template></x-s><main id=main><h1>t</h1></main>",
+        "<x-s><a href=#main>Skip</a></x-s><main id=main><h1>t</h1></main>"),
+    "a stop in what assistive technology is not told": (
+        "<x-h aria-hidden=true><template shadowrootmode=open><button>x</button></template></x-h>", "<x-h aria-hidden=true><button>x</button></x-h>"),
 }
 
 
@@ -82,6 +107,24 @@ def browser_says(browser: Any) -> dict[int, tuple[str, str]]:
             for node in tree if node.get("backendDOMNodeId") in rows and not node.get("ignored")}
 
 
+def report_on(browser: Any, body: str) -> list[str]:
+    """The lines of the desk's report on a page."""
+    with page(f"<title>t</title>{body}") as path:
+        open_file(browser, path)
+        text = take(browser, ADDRESS, Wanted(shadow=True)).text
+    done = subprocess.run([str(DESK), "-", "audit"], input=text.encode("utf-8"), capture_output=True, check=False)
+    return done.stdout.decode("utf-8").splitlines()
+
+
+def test_findings_alike(browser: Any) -> None:
+    """The desk finds on a page of components what it finds on the page that is shown."""
+    if DESK.is_file():
+        for what, (shadow, light) in ALIKE.items():
+            found = report_on(browser, shadow)
+            expect(f"{what}: it is audited", len(found) > 2)
+            same(what, found, report_on(browser, light))
+
+
 def test_roles_and_names(browser: Any) -> None:
     """They are the same, but for the differences that docs/collecting.md tells."""
     if not DESK.is_file():
@@ -90,15 +133,15 @@ def test_roles_and_names(browser: Any) -> None:
     found = {}
     compared = 0
     with Desk() as desk:
-        for page in PAGES:
-            open_file(browser, COLLECTOR / "pages" / page)
+        for name in PAGES:
+            open_file(browser, COLLECTOR / "pages" / name)
             text = take(browser, ADDRESS, Wanted(shadow=True)).text
             rows = {row["n"]: row for row in form.check(text.encode("utf-8"))}
             theirs = browser_says(browser)
-            for number, ours in desk.said(pathlib.Path(page).stem, text).items():
+            for number, ours in desk.said(pathlib.Path(name).stem, text).items():
                 compared += 1
                 if theirs.get(number) != ours:
-                    name = (form.attr(rows[number], "id") or f"{rows[number]['tag']} {number}").partition("@")[0]
-                    found[page, name] = (" ".join(ours), " ".join(theirs.get(number, ("nothing",))))
+                    identity = (form.attr(rows[number], "id") or f"{rows[number]['tag']} {number}").partition("@")[0]
+                    found[name, identity] = (" ".join(ours), " ".join(theirs.get(number, ("nothing",))))
     expect("roles and names were compared", compared > 40, compared)
     same("where the desk and the browser differ", found, DIFFERENCES)
