@@ -263,12 +263,14 @@ function silvervoleSnapshot(address, options) {
   // The attributes of an element that scripts set otherwise than by a text: by
   // name the text, or a list of elements.
   const said = new Map();
-  // Ids for elements that are named by reference and have none.
+  // The elements that others name by reference, and ids for those that have none.
+  const named = new Set();
   const made = new Map();
   const say = (element, name, value) => {
     if (!said.has(element)) said.set(element, new Map());
     said.get(element).set(name, value);
     for (const other of Array.isArray(value) ? value : []) {
+      named.add(other);
       if (!getAttribute(other, 'id') && !made.has(other)) made.set(other, `@made-${made.size + 1}`);
     }
   };
@@ -340,11 +342,11 @@ function silvervoleSnapshot(address, options) {
   };
   // The attributes to write: those of the DOM, and after them what is said otherwise.
   const writtenAttributes = (element) => {
-    const told = said.get(element) || new Map();
+    const told = new Map(said.get(element));
+    if (made.has(element)) told.set('id', made.get(element));
     const written = [...attributes(element)].map(({ name, value }) => ({ name, value: told.has(name) ? null : writtenValue(element, asciiLower(name), value) }));
     const own = new Set(written.map(({ name }) => name));
     for (const name of told.keys()) if (!own.has(name)) written.push({ name, value: null });
-    if (made.has(element) && !own.has('id')) written.push({ name: 'id', value: made.get(element) });
     const textOf = (value) => (Array.isArray(value) ? value.map(writtenId).join(' ') : value);
     return written.map(({ name, value }) => ({ name, value: value === null ? textOf(told.get(name)) : value }));
   };
@@ -461,7 +463,7 @@ function silvervoleSnapshot(address, options) {
       }
       references.delete('');
     }
-    return references.has(getAttribute(element, 'id')) || localName(element) === 'label';
+    return references.has(getAttribute(element, 'id')) || named.has(element) || localName(element) === 'label';
   };
   // Whether no rule looks at a text: it is a program's, isn't rendered, and
   // stands in nothing that names an element, since a name may come from hidden parts.

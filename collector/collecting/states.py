@@ -8,11 +8,11 @@ from dataclasses import dataclass
 from typing import Any, Callable
 
 from .ends import End, Stop, first_line
-from .loading import is_idle
 from .places import spelt
 from .traffic import Traffic
 
 STEP_SECONDS = 0.05
+QUIET_SECONDS = 0.5
 LONGEST_NAME = 60
 MODIFIERS = {"Shift": "SHIFT", "Control": "CONTROL", "Alt": "ALT", "Meta": "META"}
 KEYS = {"Enter": "ENTER", "Tab": "TAB", "Escape": "ESCAPE", "Space": "SPACE", "Backspace": "BACKSPACE", "Delete": "DELETE",
@@ -208,7 +208,8 @@ class Doer:
     def wait(self, action: Action) -> None:
         """Waits until an element is shown, or until the network is idle."""
         if action.what == "network-idle":
-            self.until(action, lambda: is_idle(self.traffic), lambda: "its network isn't idle")
+            self.traffic.busy = time.monotonic()
+            self.until(action, lambda: self.traffic.quiet_seconds() >= QUIET_SECONDS, lambda: "its network isn't idle")
         else:
             self.shown(action)
 

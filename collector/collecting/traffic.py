@@ -8,6 +8,8 @@ from typing import Any, Iterator
 STEP_SECONDS = 0.05
 # Within which the driver tells what the browser gave up.
 TELLING_SECONDS = 3.0
+# Requests that are under way as long as the page is there, or that the page doesn't wait for.
+ENDLESS = {"EventSource", "WebSocket", "Ping", "Other"}
 
 
 class Traffic:
@@ -20,6 +22,8 @@ class Traffic:
         # Of the requests under way, and of those that the browser was told to give up: whether it is a frame's document.
         self.under_way: dict[str, bool] = {}
         self.given_up: list[bool] = []
+        # When the page's own requests were heard of last.
+        self.busy = time.monotonic()
         # Of the last response that was to be the page.
         self.type = ""
         self.status = 0
@@ -39,12 +43,20 @@ class Traffic:
 
     def count(self, name: str, given: dict[str, Any]) -> None:
         """Takes note of a request that begins or ends."""
-        if name == "Network.requestWillBeSent":
+        if name == "Network.requestWillBeSent" and given.get("type") not in ENDLESS:
             self.under_way[given["requestId"]] = given.get("type") == "Document" and given.get("frameId") != self.frame
         elif name in ("Network.loadingFinished", "Network.loadingFailed"):
             is_frame = self.under_way.pop(given["requestId"], None)
             if given.get("canceled") and is_frame is not None:
                 self.given_up.append(is_frame)
+
+    def quiet_seconds(self) -> float:
+        """For how long no request of the page has been under way; what its frames load isn't counted."""
+        before = dict(self.under_way)
+        self.listen()
+        if self.under_way != before or not all(self.under_way.values()):
+            self.busy = time.monotonic()
+        return time.monotonic() - self.busy
 
     def waited_for_frames(self) -> bool:
         """Whether nothing but the documents of frames held up a page that was given up."""

@@ -73,12 +73,17 @@ ANSWERS = {
 }
 
 
+SLOW_SECONDS = 0.8
+
+
 class Handler(http.server.SimpleHTTPRequestHandler):
     """Sends the answers above, what depends on the request, or a file of the example site."""
 
     def do_GET(self) -> None:
         path = self.path.split("?")[0]
         answers = {**ANSWERS, **self.server.more}
+        if path == "/books":
+            time.sleep(SLOW_SECONDS)
         if path in answers or self.path in answers:
             self.answer(answers.get(self.path) or answers[path])
         elif path == "/guarded":
@@ -98,7 +103,7 @@ class Handler(http.server.SimpleHTTPRequestHandler):
         elif path == "/size":
             self.answer(Answer(HTML, html("<p id=size>x<script>size.textContent = innerWidth + ' by ' + innerHeight</script>")))
         elif path == "/slow-data":
-            time.sleep(0.8)
+            time.sleep(SLOW_SECONDS)
             self.answer(Answer("text/plain", b"come late"))
         elif path == "/hangs":
             time.sleep(8)
