@@ -1,18 +1,13 @@
 /*
- * Measures where each node of the document is drawn, for pictures of findings.
+ * Measures where each node of a snapshot is drawn, for pictures of findings.
  *
- * Returns the width and the height of the whole page in CSS pixels, and by the
- * number that a snapshot gives a node its box [x, y, width, height], from the
- * page's upper left corner. A node that isn't drawn has no box.
- *
- * Nodes are counted as snapshot.js counts them: elements, texts and CDATA
- * sections, in document order from 1.
+ * Takes the list that snapshot.js gives to its option `nodes`. Returns the width
+ * and the height of the whole page in CSS pixels, and by the number of each row
+ * its box [x, y, width, height], from the page's upper left corner. A node that
+ * isn't drawn has no box.
  */
-function silvervoleBoxes() {
+function silvervoleBoxes(rows) {
   'use strict';
-
-  const boxes = {};
-  let count = 0;
 
   // Read through prototypes: a page's images and fields may hide a property by their names.
   const getter = (type, name) => {
@@ -20,10 +15,9 @@ function silvervoleBoxes() {
     return (object) => get.call(object);
   };
   const nodeType = getter(Node, 'nodeType');
-  const firstChild = getter(Node, 'firstChild');
-  const nextSibling = getter(Node, 'nextSibling');
   const localName = getter(Element, 'localName');
   const getAttribute = (element, name) => Element.prototype.getAttribute.call(element, name);
+  const getRootNode = (node) => Node.prototype.getRootNode.call(node);
   const range = Document.prototype.createRange.call(document);
 
   const placed = ({ left, top, right, bottom }) => {
@@ -39,14 +33,15 @@ function silvervoleBoxes() {
       Math.max(...all.map((box) => box[1] + box[3])) - top];
   };
 
-  const root = Object.getOwnPropertyDescriptor(Document.prototype, 'documentElement').get.call(document);
-  const images = [...Document.prototype.querySelectorAll.call(document, 'img[usemap]')];
+  const root = rows[0].node;
+  const images = rows.map(({ node }) => node)
+    .filter((node) => nodeType(node) === 1 && localName(node) === 'img' && getAttribute(node, 'usemap'));
 
   // The shape of an area lies on the image that uses its map.
   const areaBox = (area) => {
     const map = Element.prototype.closest.call(area, 'map');
     const name = map && (getAttribute(map, 'name') || getAttribute(map, 'id'));
-    const image = name && images.find((one) => getAttribute(one, 'usemap') === `#${name}`);
+    const image = name && images.find((one) => getAttribute(one, 'usemap') === `#${name}` && getRootNode(one) === getRootNode(map));
     if (!image) return null;
     const [left, top, width, height] = placed(image.getBoundingClientRect());
     const at = (getAttribute(area, 'coords') || '').split(',').map(Number);
@@ -59,25 +54,25 @@ function silvervoleBoxes() {
       Math.max(...across) - Math.min(...across), Math.max(...down) - Math.min(...down)];
   };
 
-  const ownBox = (node, type) => {
-    if (type === 1 && localName(node) === 'area') return areaBox(node);
-    if (type !== 1) range.selectNodeContents(node);
-    return placed(type === 1 ? Element.prototype.getBoundingClientRect.call(node) : range.getBoundingClientRect());
+  const ownBox = (node) => {
+    if (nodeType(node) === 1 && localName(node) === 'area') return areaBox(node);
+    if (nodeType(node) === 1) return placed(Element.prototype.getBoundingClientRect.call(node));
+    range.selectNodeContents(node);
+    return placed(range.getBoundingClientRect());
   };
 
-  const visit = (node) => {
-    const type = nodeType(node);
-    if (type !== 1 && type !== 3 && type !== 4) return null;
-    count += 1;
-    const n = count;
-    const kids = [];
-    for (let kid = firstChild(node); kid; kid = nextSibling(kid)) kids.push(visit(kid));
-    let box = ownBox(node, type);
+  const boxes = {};
+  const below = rows.map(() => []);
+  // From the last row to the first, so that what stands below a row comes before it.
+  for (let n = rows.length; n > 0; n -= 1) {
+    const { node, parent } = rows[n - 1];
+    let box = ownBox(node);
     // An element with display: contents is drawn as its children are.
-    if (box === null || box[2] <= 0 || box[3] <= 0) box = around(kids.filter((kid) => kid !== null));
-    if (box !== null) boxes[n] = box;
-    return box;
-  };
-  visit(root);
+    if (box === null || box[2] <= 0 || box[3] <= 0) box = around(below[n - 1]);
+    if (box !== null) {
+      boxes[n] = box;
+      if (parent > 0) below[parent - 1].push(box);
+    }
+  }
   return { width: root.scrollWidth, height: Math.max(root.scrollHeight, root.clientHeight), boxes };
 }

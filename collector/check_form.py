@@ -49,8 +49,8 @@ def finite(digits):
     return value
 
 
-def read(data):
-    """The address and the rows, each with n, p, tag or text, ns, attrs and f."""
+def read_top(data):
+    """The object that the bytes hold."""
     if len(data) > BYTES:
         raise Fault(f"{len(data)} bytes")
     try:
@@ -59,6 +59,11 @@ def read(data):
         raise Fault(f"no JSON: {error}")
     if not isinstance(top, dict):
         raise Fault("no object")
+    return top
+
+
+def read(top):
+    """The address and the rows, each with n, p, tag or text, ns, attrs and f; and all that was given of it."""
     if not is_text(top.get("url")):
         raise Fault("url is no text")
     if not isinstance(top.get("nodes"), list):
@@ -94,7 +99,7 @@ def read(data):
         if not isinstance(letters, str) or len(set(letters)) != len(letters) or not set(letters) <= set("rvft"):
             bad("f")
         rows.append({"n": given["n"], "p": given["p"], "tag": given.get("tag"), "text": given.get("text"),
-                     "ns": given.get("ns", "html"), "attrs": given.get("attrs", []), "f": letters})
+                     "ns": given.get("ns", "html"), "attrs": given.get("attrs", []), "f": letters, "given": given})
     return url, rows
 
 
@@ -208,7 +213,7 @@ def is_labelable(row):
 
 def check(data):
     """The rows of a well-formed snapshot; raises Fault for any other."""
-    _, rows = read(data)
+    _, rows = read(read_top(data))
     check_tree(rows)
     return rows
 

@@ -14,6 +14,15 @@
  *   exact   true refuses a page that passes a limit. Otherwise texts and values
  *           that no rule looks at are cut where they pass one.
  *   told    is called with a line for each cut; without it console.warn is.
+ *   shadow  true writes the flat tree, as it is shown: open shadow trees below
+ *           their hosts, and in the place of a slot what it is given; and as
+ *           attributes what scripts say in ElementInternals, of which
+ *           internals.js took note. Otherwise shadow trees are left out.
+ *   state   a name for the state the page is in, written beside its address.
+ *   unheard is called with each field whose change event the page won't hear
+ *           any more, since the focus left an edit that wasn't committed.
+ *   nodes   is called with a list that has, for each row, its node and its
+ *           parent's number.
  *
  * Where the page cannot be written in the snapshot form, nothing is returned:
  * an error with a message of one line is thrown. Its name says what kind it is:
@@ -28,8 +37,10 @@ function silvervoleSnapshot(address, options) {
   'use strict';
 
   const LIMITS = { nodes: 10000, depth: 128, attrs: 64, textBytes: 65536, snapshotBytes: 8388608 };
-  const exact = Boolean(options && options.exact);
-  const told = (options && options.told) || ((line) => console.warn(line));
+  const given = options || {};
+  const exact = Boolean(given.exact);
+  const shadow = Boolean(given.shadow);
+  const told = given.told || ((line) => console.warn(line));
 
   const stop = (name, message) => {
     const error = new Error(message);
@@ -57,6 +68,7 @@ function silvervoleSnapshot(address, options) {
   const nodeType = getter(Node, 'nodeType');
   const firstChild = getter(Node, 'firstChild');
   const nextSibling = getter(Node, 'nextSibling');
+  const parentNode = getter(Node, 'parentNode');
   const parentElement = getter(Node, 'parentElement');
   const getRootNode = method(Node, 'getRootNode');
   const characters = getter(CharacterData, 'data');
@@ -70,14 +82,28 @@ function silvervoleSnapshot(address, options) {
   const shadowRoot = getter(Element, 'shadowRoot');
   const slotOfElement = getter(Element, 'assignedSlot');
   const slotOfText = getter(Text, 'assignedSlot');
+  const assignedNodes = method(HTMLSlotElement, 'assignedNodes');
+  const activeIn = getter(ShadowRoot, 'activeElement');
   const isContentEditable = getter(HTMLElement, 'isContentEditable');
   const inputType = getter(HTMLInputElement, 'type');
   const inputChecked = getter(HTMLInputElement, 'checked');
   const inputForm = getter(HTMLInputElement, 'form');
-  const activeElement = () => getter(Document, 'activeElement')(document);
+  const focused = getter(Document, 'activeElement');
+  const activeElement = () => {
+    let active = focused(document);
+    // A shadow tree's host stands for what has the focus in it.
+    while (active !== null && openTree(active) && activeIn(openTree(active))) active = activeIn(openTree(active));
+    return active;
+  };
   const documentElement = () => getter(Document, 'documentElement')(document);
   const body = () => getter(Document, 'body')(document);
   const queryAll = (selector) => Document.prototype.querySelectorAll.call(document, selector);
+  const matches = method(Element, 'matches');
+  const openTree = (element) => (shadow ? shadowRoot(element) : null);
+  // What stands above a node in the flat tree, by which styles and inertness come down.
+  const hostOf = (tree) => (nodeType(tree) === 11 ? getter(ShadowRoot, 'host')(tree) : null);
+  const flatParent = (node) => (nodeType(node) === 1 ? slotOfElement(node) : slotOfText(node))
+    || parentElement(node) || hostOf(getRootNode(node));
   const style = (element) => window.getComputedStyle(element);
 
   // --- Texts and numbers -------------------------------------------------
@@ -122,6 +148,7 @@ function silvervoleSnapshot(address, options) {
   const LOOKED_AT = new Set(['alt', 'autocomplete', 'colspan', 'content', 'disabled', 'for', 'headers', 'href',
     'http-equiv', 'id', 'label', 'lang', 'list', 'multiple', 'name', 'placeholder', 'role', 'rowspan', 'scope',
     'selected', 'size', 'title', 'type', 'value']);
+  const isLookedAt = (folded) => folded.startsWith('aria-') || LOOKED_AT.has(folded);
   // Elements whose text is for programs. No rule looks at it where it isn't
   // rendered, unless it stands in what names another element.
   const UNREAD = new Set(['script', 'style', 'noscript', 'template']);
@@ -154,17 +181,174 @@ function silvervoleSnapshot(address, options) {
   // --- The address -------------------------------------------------------
 
   const writtenAddress = () => {
-    const given = address === undefined || address === null ? window.location.href : String(address);
+    const asked = address === undefined || address === null ? window.location.href : String(address);
     let parsed;
     try {
-      parsed = new URL(wellFormed(given));
+      parsed = new URL(wellFormed(asked));
     } catch (error) {
-      stop('SnapshotAddress', `the address ${quote(given.slice(0, 200))} is no URL`);
+      stop('SnapshotAddress', `the address ${quote(asked.slice(0, 200))} is no URL`);
     }
     if (parsed.protocol !== 'http:' && parsed.protocol !== 'https:') {
-      stop('SnapshotAddress', `the address ${quote(given.slice(0, 200))} is neither http nor https; give one that is`);
+      stop('SnapshotAddress', `the address ${quote(asked.slice(0, 200))} is neither http nor https; give one that is`);
     }
     return bounded(parsed.href, () => 'the address');
+  };
+
+  // --- The flat tree -----------------------------------------------------
+
+  const SPACES = { 'http://www.w3.org/1999/xhtml': 'html', 'http://www.w3.org/2000/svg': 'svg' };
+  const spaceOf = (element) => SPACES[namespaceURI(element)] || 'other';
+  const isHtml = (element, tag) => localName(element) === tag && spaceOf(element) === 'html';
+
+  // The open shadow trees and their numbers: from 1, as their hosts stand, each
+  // followed by those within it. And all elements that stand in the document
+  // or in such a tree.
+  const trees = new Map();
+  const elements = [];
+  const findTrees = (found) => {
+    for (const element of found) {
+      elements.push(element);
+      const tree = openTree(element);
+      if (tree) {
+        trees.set(tree, trees.size + 1);
+        findTrees(DocumentFragment.prototype.querySelectorAll.call(tree, '*'));
+      }
+    }
+  };
+  const treeOf = (node) => trees.get(getRootNode(node)) || 0;
+
+  // A slot is a place and no more where it has no box, and says nothing that
+  // rules look at: it has no row, and what stands in it is its parent's.
+  const isSlot = (node) => trees.size > 0 && nodeType(node) === 1 && isHtml(node, 'slot') && treeOf(node) > 0;
+  const isPlace = (node) => isSlot(node) && /^(contents|none|)$/.test(style(node).display)
+    && [...attributes(node)].every(({ name }) => name === 'name' || !isLookedAt(asciiLower(name)));
+
+  const listed = (above) => {
+    const kids = [];
+    for (let kid = firstChild(above); kid; kid = nextSibling(kid)) kids.push(kid);
+    return kids;
+  };
+  const kidsOf = (element) => {
+    const assigned = isSlot(element) ? assignedNodes(element) : [];
+    return assigned.length > 0 ? assigned : listed(openTree(element) || element);
+  };
+
+  // The place of an element among the elements of its own parent, from 1.
+  const placesBelow = new Map();
+  const placeOf = (element) => {
+    const above = parentNode(element);
+    if (!placesBelow.has(above)) {
+      placesBelow.set(above, new Map(listed(above).filter((kid) => nodeType(kid) === 1).map((kid, i) => [kid, i + 1])));
+    }
+    return placesBelow.get(above).get(element);
+  };
+  // The same, after the places of the slots without a row around it.
+  const placesOf = (element) => {
+    const places = [placeOf(element)];
+    for (let up = parentNode(element); nodeType(up) === 1 && isPlace(up); up = parentNode(up)) places.unshift(placeOf(up));
+    return places;
+  };
+
+  // --- What scripts say of an element -------------------------------------
+
+  // internals.js takes note of each ElementInternals; nobody else can ask for them.
+  const internalsOf = (shadow && window[Symbol.for('silvervole.internals')]) || (() => undefined);
+  // Properties that take their elements by reference have names that end so.
+  const BY_ELEMENTS = /Elements?$/;
+  const attributeOf = (property) => asciiLower(property.replace(BY_ELEMENTS, '').replace('aria', 'aria-'));
+  const ariaOf = (type) => Object.getOwnPropertyNames(type.prototype).filter((name) => /^aria[A-Z]/.test(name)).sort()
+    .map((property) => ({ name: attributeOf(property), read: getter(type, property), byElements: BY_ELEMENTS.test(property) }));
+  const listOf = (value) => (value === null ? [] : Array.isArray(value) ? value : [value]);
+
+  // The attributes of an element that scripts set otherwise than by a text: by
+  // name the text, or a list of elements.
+  const said = new Map();
+  // The elements that others name by reference, and ids for those that have none.
+  const named = new Set();
+  const made = new Map();
+  const say = (element, name, value) => {
+    if (!said.has(element)) said.set(element, new Map());
+    said.get(element).set(name, value);
+    for (const other of Array.isArray(value) ? value : []) {
+      named.add(other);
+      if (!getAttribute(other, 'id') && !made.has(other)) made.set(other, `@made-${made.size + 1}`);
+    }
+  };
+  const sayInternals = (element, internals, properties) => {
+    const role = internals.role;
+    if (role && !hasAttribute(element, 'role')) say(element, 'role', role);
+    for (const { name, read, byElements } of properties) {
+      const value = hasAttribute(element, name) ? null : read(internals);
+      if (byElements ? listOf(value).length > 0 : value !== null) say(element, name, byElements ? listOf(value) : value);
+    }
+    // The labels of an element that is a field of forms by its internals.
+    if (['aria-labelledby', 'aria-label'].some((name) => hasAttribute(element, name) || (said.has(element) && said.get(element).has(name)))) return;
+    let labels = [];
+    try { labels = [...internals.labels]; } catch (error) { /* it is no field */ }
+    if (labels.length > 0) say(element, 'aria-labelledby', labels);
+  };
+  const hear = () => {
+    const reflected = ariaOf(Element).filter(({ byElements }) => byElements);
+    const properties = ariaOf(ElementInternals);
+    for (const element of elements) {
+      for (const { name, read } of reflected) {
+        // Set by elements, the attribute is there and empty.
+        if (getAttribute(element, name) === '' && listOf(read(element)).length > 0) say(element, name, listOf(read(element)));
+      }
+      const internals = internalsOf(element);
+      if (internals) sayInternals(element, internals, properties);
+    }
+  };
+
+  // --- Ids -----------------------------------------------------------------
+
+  // Attributes that hold one id, and that hold ids parted by white space.
+  const ONE_ID = new Set(['aria-activedescendant', 'commandfor', 'for', 'form', 'interestfor', 'list', 'popovertarget']);
+  const IDS = new Set(['aria-actions', 'aria-controls', 'aria-describedby', 'aria-details', 'aria-errormessage', 'aria-flowto',
+    'aria-labelledby', 'aria-owns', 'headers', 'itemref']);
+
+  const referenceTarget = (tree) => ('referenceTarget' in ShadowRoot.prototype ? getter(ShadowRoot, 'referenceTarget')(tree) : null);
+  const byId = (tree, id) => (tree === document ? Document : DocumentFragment).prototype.getElementById.call(tree, id);
+  const marked = (element, id) => (treeOf(element) > 0 ? `${id}@shadow-${treeOf(element)}` : id);
+  const writtenId = (element) => {
+    const id = getAttribute(element, 'id');
+    return id ? marked(element, id) : made.get(element) || '';
+  };
+  // An id as an element refers by it: where a host hands references on to an
+  // element of its shadow tree, to that.
+  const reference = (element, id) => {
+    const first = byId(getRootNode(element), id);
+    let found = first;
+    while (found && openTree(found) && referenceTarget(openTree(found))) {
+      found = byId(openTree(found), referenceTarget(openTree(found)));
+    }
+    return found && found !== first ? writtenId(found) : marked(element, id);
+  };
+  // A link within the page leads to the document's elements, where its own tree has none of that id.
+  const fragment = (element, value) => {
+    let id = value.slice(1);
+    try { id = decodeURIComponent(id); } catch (error) { /* then it stands for itself */ }
+    return byId(getRootNode(element), id) ? marked(element, value) : value;
+  };
+  const writtenValue = (element, folded, value) => {
+    if (trees.size === 0 || value === '') return value;
+    if (folded === 'id') return marked(element, value);
+    if (IDS.has(folded) || (folded === 'for' && localName(element) === 'output')) {
+      return value.replace(/[^\t\n\f\r ]+/g, (id) => reference(element, id));
+    }
+    if (ONE_ID.has(folded)) return reference(element, value);
+    if ((folded === 'href' || folded === 'xlink:href') && value.startsWith('#')) return fragment(element, value);
+    return value;
+  };
+  // The attributes to write: those of the DOM, and after them what is said otherwise.
+  const writtenAttributes = (element) => {
+    const told = new Map(said.get(element));
+    if (made.has(element)) told.set('id', made.get(element));
+    const written = [...attributes(element)].map(({ name, value }) => ({ name, value: told.has(name) ? null : writtenValue(element, asciiLower(name), value) }));
+    const own = new Set(written.map(({ name }) => name));
+    for (const name of told.keys()) if (!own.has(name)) written.push({ name, value: null });
+    const textOf = (value) => (Array.isArray(value) ? value.map(writtenId).join(' ') : value);
+    return written.map(({ name, value }) => ({ name, value: value === null ? textOf(told.get(name)) : value }));
   };
 
   // --- Rendered and visible ----------------------------------------------
@@ -189,8 +373,7 @@ function silvervoleSnapshot(address, options) {
   // Whether a text that is slotted into an open shadow tree lands in a part
   // that is shown. For elements checkVisibility tells the same.
   const slotShown = (slot, host) => {
-    for (let up = slot; up && up !== host;
-      up = slotOfElement(up) || parentElement(up) || getRootNode(up).host) {
+    for (let up = slot; up && up !== host; up = flatParent(up)) {
       if (style(up).display === 'none') return false;
     }
     return slot !== null;
@@ -211,7 +394,8 @@ function silvervoleSnapshot(address, options) {
   const childrenOf = (element, ns, tag, rendered, css, within) => {
     const place = { tag, drawn: rendered, only: null, host: null, visible: css.visibility === 'visible',
       inSelect: within.inSelect || (ns === 'html' && tag === 'select'),
-      inCanvas: within.inCanvas || (ns === 'html' && tag === 'canvas' && rendered) };
+      inCanvas: within.inCanvas || (ns === 'html' && tag === 'canvas' && rendered),
+      passedOver: within.passedOver || ((openTree(element) || isSlot(element)) && tabIndexOf(element) < 0) };
     if (!rendered) return place;
     if (ns === 'html' && HTML_CHILDLESS.has(tag)) place.drawn = false;
     else if (ns === 'html' && tag === 'object') place.drawn = showsContents(element);
@@ -223,7 +407,7 @@ function silvervoleSnapshot(address, options) {
       place.drawn = false;
       place.only = null;
     }
-    if (shadowRoot(element)) place.host = element;
+    if (!shadow && shadowRoot(element)) place.host = element;
     return place;
   };
 
@@ -241,14 +425,11 @@ function silvervoleSnapshot(address, options) {
 
   // --- The walk ----------------------------------------------------------
 
-  const SPACES = { 'http://www.w3.org/1999/xhtml': 'html', 'http://www.w3.org/2000/svg': 'svg' };
-  const spaceOf = (element) => SPACES[namespaceURI(element)] || 'other';
-
   // One record for each node: its row without the facts, and what they need.
   const records = [];
 
   const attrsOf = (element, n, tag) => {
-    const list = attributes(element);
+    const list = shadow ? writtenAttributes(element) : attributes(element);
     if (list.length > LIMITS.attrs) {
       limit(`node ${n} (${tag}) has ${list.length} attributes; the form allows ${LIMITS.attrs}`);
     }
@@ -261,7 +442,7 @@ function silvervoleSnapshot(address, options) {
         limit(`node ${n} (${tag}) has two attributes named ${quote(folded.slice(0, 200))} when letter case is left aside; the form allows one`);
       }
       seen.add(folded);
-      const value = valueOf(list[i].value, () => !folded.startsWith('aria-') && !LOOKED_AT.has(folded),
+      const value = valueOf(list[i].value, () => !isLookedAt(folded),
         () => `the attribute ${quote(name.slice(0, 200))} of node ${n} (${tag})`);
       pairs.push({ name, value });
     }
@@ -273,7 +454,7 @@ function silvervoleSnapshot(address, options) {
   const isReferredTo = (element) => {
     if (references === null) {
       references = new Set();
-      for (const other of queryAll('*')) {
+      for (const other of shadow ? elements : queryAll('*')) {
         for (const { name, value } of attributes(other)) {
           if (/^aria-(labelledby|owns)$/i.test(name)) {
             value.split(/[\t-\r \x85\xa0\u1680\u2000-\u200a\u2028\u2029\u202f\u205f\u3000]+/).forEach((id) => references.add(id));
@@ -282,14 +463,29 @@ function silvervoleSnapshot(address, options) {
       }
       references.delete('');
     }
-    return references.has(getAttribute(element, 'id')) || localName(element) === 'label';
+    return references.has(getAttribute(element, 'id')) || named.has(element) || localName(element) === 'label';
   };
   // Whether no rule looks at a text: it is a program's, isn't rendered, and
   // stands in nothing that names an element, since a name may come from hidden parts.
   const isUnread = (text, tag, rendered) => {
     if (rendered || !UNREAD.has(tag)) return false;
-    for (let up = parentElement(text); up; up = parentElement(up)) if (isReferredTo(up)) return false;
+    for (let up = flatParent(text); up; up = flatParent(up)) if (isReferredTo(up)) return false;
     return true;
+  };
+
+  // What tells where a row of a shadow tree, or beside one, stands in the DOM:
+  // the tree's number, and the places where the rows around don't show them.
+  const whereOf = (node, isElement, parent, within) => {
+    if (trees.size === 0) return '';
+    const tree = treeOf(node);
+    const apart = isElement && parent > 0 && (within.mixed || parentNode(node) !== records[parent - 1].node);
+    return (tree > 0 ? `,"in":${tree}` : '') + (apart ? `,"at":[${placesOf(node)}]` : '');
+  };
+  // Rows are mixed where they have one parent, and their nodes may not.
+  const visitBelow = (element, n, depth, place, isMixed) => {
+    const kids = kidsOf(element);
+    place.mixed = isMixed || kids.some(isPlace);
+    for (const kid of kids) visit(kid, n, depth, place);
   };
 
   const visit = (node, parent, depth, within) => {
@@ -297,12 +493,18 @@ function silvervoleSnapshot(address, options) {
     // Elements, texts and CDATA sections. Comments, processing instructions
     // and doctypes have no row.
     if (type !== 1 && type !== 3 && type !== 4) return;
+    if (isPlace(node)) {
+      const css = style(node);
+      const place = childrenOf(node, 'html', within.tag, isRendered(node, 'html', 'slot', css, within), css, within);
+      visitBelow(node, parent, depth, place, true);
+      return;
+    }
     const n = records.length + 1;
     if (n > LIMITS.nodes) limit(`the page has more than ${grouped(LIMITS.nodes)} nodes; the form allows no more`);
     if (depth > LIMITS.depth) {
       limit(`node ${n} stands at depth ${depth}, where the root has depth 1; the form allows ${LIMITS.depth}`);
     }
-    const row = `{"n":${n},"p":${parent === 0 ? 'null' : parent}`;
+    const row = `{"n":${n},"p":${parent === 0 ? 'null' : parent}${whereOf(node, type === 1, parent, within)}`;
     if (type !== 1) {
       const rendered = within.drawn && (within.host === null || slotShown(slotOfText(node), within.host));
       const text = valueOf(characters(node), () => isUnread(node, within.tag, rendered),
@@ -319,9 +521,8 @@ function silvervoleSnapshot(address, options) {
     const attrs = attrsOf(node, n, written.slice(0, 200));
     records.push({ row: `${row},"ns":"${ns}","tag":${quote(written)}`, attrs, node, n, parent, element: true,
       ns, tag, rendered, visible: rendered && css.visibility === 'visible', ownVisible: css.visibility === 'visible',
-      inCanvas: within.inCanvas, focusable: false, tabbable: false });
-    const place = childrenOf(node, ns, tag, rendered, css, within);
-    for (let kid = firstChild(node); kid; kid = nextSibling(kid)) visit(kid, n, depth + 1, place);
+      inCanvas: within.inCanvas, passedOver: within.passedOver, focusable: false, tabbable: false });
+    visitBelow(node, n, depth + 1, childrenOf(node, ns, tag, rendered, css, within), false);
   };
 
   // --- Image maps --------------------------------------------------------
@@ -338,7 +539,8 @@ function silvervoleSnapshot(address, options) {
       const reference = getAttribute(image.node, 'usemap') || '';
       const key = reference.slice(reference.indexOf('#') + 1);
       if (!reference.includes('#') || key === '') return null;
-      return maps.find((map) => getAttribute(map, 'id') === key || getAttribute(map, 'name') === key) || null;
+      return maps.find((map) => getRootNode(map) === getRootNode(image.node)
+        && (getAttribute(map, 'id') === key || getAttribute(map, 'name') === key)) || null;
     });
     for (const area of areas) {
       const map = closest(area.node, 'map');
@@ -362,15 +564,18 @@ function silvervoleSnapshot(address, options) {
 
   const isFrame = (record) => record.ns === 'html' && (record.tag === 'iframe' || record.tag === 'frame');
   const isInert = (element) => {
-    if (closest(element, '[inert]')) return true;
-    const modals = [...queryAll('dialog:modal')];
-    return modals.length > 0 && !modals.some((modal) => Node.prototype.contains.call(modal, element));
+    const above = [];
+    for (let up = element; up; up = flatParent(up)) above.push(up);
+    if (above.some((up) => hasAttribute(up, 'inert'))) return true;
+    const modals = records.filter((record) => record.element && record.tag === 'dialog' && matches(record.node, ':modal'));
+    return modals.length > 0 && !modals.some((modal) => above.includes(modal.node));
   };
 
   // Calls focus() on each element that could take it, from the state in which
   // the page was found, and puts the focus, the selection and with
   // preventScroll the scroll positions back. Listeners of the page hear none
   // of it, except those it set on the window for the capturing phase before.
+  const unheard = new Set();
   const probeFocus = () => {
     const first = activeElement();
     // What the document names as active when nothing has the focus.
@@ -387,9 +592,14 @@ function silvervoleSnapshot(address, options) {
       if (first !== null && first !== resting) give(focusOf, first, { preventScroll: true });
       else if (now !== null) give(blurOf, now);
     };
-    const hush = (event) => event.stopImmediatePropagation();
+    const hush = (event) => {
+      event.stopImmediatePropagation();
+      if (event.type === 'change') unheard.add(event.composedPath()[0]);
+    };
     const heard = ['focus', 'blur', 'focusin', 'focusout', 'DOMFocusIn', 'DOMFocusOut', 'change', 'select'];
-    for (const name of heard) window.addEventListener(name, hush, true);
+    // Where the focus moves within one shadow tree, the window hears nothing of it.
+    const places = [window, ...trees.keys()];
+    for (const name of heard) for (const place of places) place.addEventListener(name, hush, true);
     try {
       for (const record of records) {
         // Besides what is visible, only the fallback content of a canvas takes
@@ -415,7 +625,7 @@ function silvervoleSnapshot(address, options) {
         else selection.setBaseAndExtent(...chosen);
         restore();
       }
-      for (const name of heard) window.removeEventListener(name, hush, true);
+      for (const name of heard) for (const place of places) place.removeEventListener(name, hush, true);
     }
   };
 
@@ -433,7 +643,8 @@ function silvervoleSnapshot(address, options) {
     for (const record of records) {
       if (record.element && record.ns === 'html' && record.tag === 'input' && inputType(record.node) === 'radio') {
         const name = getAttribute(record.node, 'name') || '';
-        const form = inputForm(record.node);
+        // Without a form the buttons of one tree belong together.
+        const form = inputForm(record.node) || getRootNode(record.node);
         if (!groups.has(form)) groups.set(form, new Map());
         const byName = groups.get(form);
         // A button without a name is a group of its own.
@@ -453,9 +664,11 @@ function silvervoleSnapshot(address, options) {
         const index = tabIndexOf(record.node);
         if (index !== null) record.tabbable = index >= 0;
         else if (record.ns === 'html' && record.tag === 'dialog') record.tabbable = false;
-        else if ((record.ns !== 'other' && NATIVE_STOPS.has(record.tag)) || shadowRoot(record.node)
+        else if ((record.ns !== 'other' && NATIVE_STOPS.has(record.tag)) || (!shadow && shadowRoot(record.node))
           || (record.ns === 'html' && isContentEditable(record.node))) record.tabbable = true;
         else record.tabbable = !holdsStop.has(record.n);
+        // Tab goes into a host and a slot or, with a negative tabindex, past all in it; a slot itself is no stop.
+        if (record.passedOver || isSlot(record.node)) record.tabbable = false;
         if (record.tabbable && record.group) {
           record.tabbable = record === (record.group.checked || record.group.first);
         }
@@ -474,7 +687,11 @@ function silvervoleSnapshot(address, options) {
   const url = writtenAddress();
   const root = documentElement();
   if (root === null) stop('SnapshotBrowser', 'the document has no root element');
-  visit(root, 0, 1, { tag: '', drawn: true, only: null, host: null, visible: true, inSelect: false, inCanvas: false });
+  if (shadow) {
+    findTrees(queryAll('*'));
+    hear();
+  }
+  visit(root, 0, 1, { tag: '', drawn: true, only: null, host: null, visible: true, inSelect: false, inCanvas: false, passedOver: false });
   placeAreas();
   probeFocus();
   markStops();
@@ -486,9 +703,13 @@ function silvervoleSnapshot(address, options) {
       record.focusable ? 'f' : ''}${record.tabbable ? 't' : ''}"}`;
   };
   // One row a line: the row of node n stands on line n + 1.
-  const whole = () => `{"url":${quote(url)},"nodes":[\n${records.map(line).join(',\n')}\n]}\n`;
+  const state = given.state === undefined || given.state === null ? ''
+    : `,"state":${quote(bounded(String(given.state), () => 'the name of the state'))}`;
+  const whole = () => `{"url":${quote(url)}${state},"nodes":[\n${records.map(line).join(',\n')}\n]}\n`;
   const text = whole();
   const bytes = utf8Length(text);
+  if (given.unheard) unheard.forEach((field) => given.unheard(field));
+  if (given.nodes) given.nodes(records.map(({ node, parent }) => ({ node, parent })));
   if (bytes <= LIMITS.snapshotBytes) return text;
 
   // --- The whole is too long ----------------------------------------------

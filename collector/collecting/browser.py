@@ -2,6 +2,7 @@
 from __future__ import annotations
 
 import os
+import pathlib
 import shutil
 import signal
 from typing import Any, NamedTuple, Sequence
@@ -20,6 +21,8 @@ LANGUAGE = "en-GB"
 # A dialog holds up the page until it is closed. Here each is closed before it is
 # shown, as by a user who dismisses it, however many there are.
 CLOSED_DIALOGS = "window.alert = () => undefined; window.confirm = () => false; window.prompt = () => null;"
+# What has to run before a page's own scripts.
+INTERNALS = pathlib.Path(__file__).resolve().parent.parent / "internals.js"
 
 
 class Tools(NamedTuple):
@@ -84,7 +87,8 @@ def start_browser(viewport: tuple[int, int] = VIEWPORT, arguments: Sequence[str]
         # A window's size includes the browser's own bars, which differ; this is the page's.
         browser.execute_cdp_cmd("Emulation.setDeviceMetricsOverride", {
             "width": viewport[0], "height": viewport[1], "deviceScaleFactor": 1, "mobile": False})
-        browser.execute_cdp_cmd("Page.addScriptToEvaluateOnNewDocument", {"source": CLOSED_DIALOGS})
+        for source in (CLOSED_DIALOGS, INTERNALS.read_text(encoding="utf-8")):
+            browser.execute_cdp_cmd("Page.addScriptToEvaluateOnNewDocument", {"source": source})
         browser.execute_cdp_cmd("Page.setLifecycleEventsEnabled", {"enabled": True})
     except WebDriverException as error:
         browser.quit()

@@ -3,19 +3,28 @@ from __future__ import annotations
 
 from typing import Sequence
 
-from .ends import End, Stop, need_output, quiet_libraries, say, stop_on_signals, write_out
+from .ends import End, Stop, need_output, quiet_libraries, say, stop_on_signals, write_file, write_out
 from .many import collect_list
 from .options import Command, read_words
-from .pages import collect_page
+from .pages import Collected, collect_page
+from .places import ended
 
 
 def collect_one(command: Command) -> End:
-    """Collects one page, and writes its snapshot on standard output."""
-    collected = collect_page(command.page or "", command.options)
-    for note in collected.notes:
-        say("collect", note)
-    collected.write_shot(command.options.shot or "")
-    write_out(collected.text.encode("utf-8"))
+    """Collects one page, and writes its snapshot on standard output, or where --out says with its frames and states beside it."""
+    def keep(collected: Collected) -> None:
+        for note in collected.notes:
+            say("collect", note)
+        if not collected.text:
+            return
+        collected.write_shot(command.options.shot or "")
+        data = collected.text.encode("utf-8")
+        if command.out:
+            write_file(ended(command.out, collected.ending), data)
+        else:
+            write_out(data)
+
+    collect_page(command.page or "", command.options, keep)
     return End.WRITTEN
 
 

@@ -27,6 +27,7 @@ class End(enum.IntEnum):
     BROWSER = 17
     USAGE = 18
     INPUT = 19
+    STEP = 20
     INTERRUPTED = 130
 
 

@@ -65,7 +65,7 @@ def load(browser: Any, place: Place, options: Options) -> Traffic:
         browser.set_script_timeout(max(LEAST_SCRIPT_SECONDS, options.timeout))
         with OwnHeaders(browser, place.address, options.headers):
             with Patience(f"{place.address} hasn't loaded yet"):
-                browser.get(place.address)
+                open_address(browser, place, options, traffic)
             wait_more(browser, place, options, traffic, end)
     except TimeoutException:
         raise Stop(End.TIME, f"{place.address} took more than {options.timeout:g} seconds to load") from None
@@ -74,6 +74,16 @@ def load(browser: Any, place: Place, options: Options) -> Traffic:
     except WebDriverException as error:
         raise Stop(End.LOAD, f"the page doesn't load: {place.address}: {first_line(error)}") from None
     return traffic
+
+
+def open_address(browser: Any, place: Place, options: Options, traffic: Traffic) -> None:
+    """Waits for the load event; where frames are wanted, one that never loads doesn't hold up its page for longer than the time given."""
+    from selenium.common.exceptions import TimeoutException
+    try:
+        browser.get(place.address)
+    except TimeoutException:
+        if not (options.frames and traffic.waited_for_frames()):
+            raise
 
 
 def set_cookies(browser: Any, place: Place, options: Options) -> None:

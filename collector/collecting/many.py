@@ -4,6 +4,7 @@ from __future__ import annotations
 import concurrent.futures
 import contextlib
 import dataclasses
+import glob
 import os
 import pathlib
 import sys
@@ -13,8 +14,8 @@ from typing import Any, Iterator, NamedTuple
 from .browser import kill_browser
 from .ends import End, Stop, one_line, remove, say, write_file, write_out
 from .options import Command, Options
-from .pages import collect_page
-from .places import check_written, name_of
+from .pages import Collected, collect_page
+from .places import check_written, ended, name_of
 
 
 # Apart from the snapshots, so that *.json in the folder is snapshots alone.
@@ -98,20 +99,25 @@ def collect_listed(page: Listed, command: Command, browsers: Browsers) -> End:
         return End.INTERRUPTED
     file = os.path.join(command.out, f"{page.name}.json")
     picture = os.path.join(command.out, PICTURES, f"{page.name}.png")
-    for old in (file, picture, f"{picture}.json"):
+    for old in (file, picture, f"{picture}.json", *glob.glob(glob.escape(ended(file, "frame-")).replace("frame-.", "frame-*."))):
         remove(old)
     options: Options = dataclasses.replace(command.options, url=page.url, shot=picture if command.shots else None)
+
+    def keep(collected: Collected) -> None:
+        for note in collected.notes:
+            say("collect", f"{page.shown}: {note}")
+        if collected.text:
+            collected.write_shot(picture)
+            written = ended(file, collected.ending)
+            write_file(written, collected.text.encode("utf-8"))
+            write_out(f"{one_line(page.shown)} {written}\n".encode("utf-8", "backslashreplace"))
+
     try:
-        collected = collect_page(page.page, options, browsers.holding)
-        collected.write_shot(picture)
-        write_file(file, collected.text.encode("utf-8"))
+        collect_page(page.page, options, keep, browsers.holding)
     except Stop as stop:
         if not browsers.stopped:
             say("collect", f"{page.shown}: status {stop.end.value}: {stop.line}")
         return stop.end
-    for note in collected.notes:
-        say("collect", f"{page.shown}: {note}")
-    write_out(f"{one_line(page.shown)} {file}\n".encode("utf-8", "backslashreplace"))
     return End.WRITTEN
 
 

@@ -10,7 +10,7 @@ from .browser import VIEWPORT
 from .ends import End, Stop, write_out
 from .places import check_written
 
-USAGE = "collect URL-OR-FILE [--url ADDRESS] [OPTIONS], or collect --list FILE --out FOLDER [OPTIONS]"
+USAGE = "collect URL-OR-FILE [--url ADDRESS] [--out FILE] [OPTIONS], or collect --list FILE --out FOLDER [OPTIONS]"
 LONGEST_TIMEOUT = 3600
 LONGEST_SETTLE = 600_000
 GREATEST_SIDE = 10_000
@@ -30,12 +30,15 @@ class Options:
     headers: tuple[tuple[str, str], ...] = ()
     exact: bool = False
     follow: bool = False
+    shadow: bool = True
+    frames: bool = False
+    states: str | None = None
     shot: str | None = None
 
 
 @dataclass(frozen=True)
 class Command:
-    """What the words ask for: one page, or a list of pages and a folder."""
+    """What the words ask for: one page and the file that it is written to, or a list of pages and a folder."""
 
     page: str | None
     list: str | None
@@ -107,7 +110,8 @@ def parser() -> Parser:
     made.add_argument("--url", metavar="ADDRESS",
                       help="the http or https address to write as the page's; needed for a file")
     made.add_argument("--list", metavar="FILE", help="collects the pages of a list, an address a line; - is standard input")
-    made.add_argument("--out", metavar="FOLDER", help="where the snapshots of a list are written")
+    made.add_argument("--out", metavar="FILE|FOLDER",
+                      help="the file that a page's snapshot is written to, or the folder for those of a list (standard output)")
     made.add_argument("--jobs", metavar="N", type=whole(1, MOST_JOBS), default=None,
                       help="how many browsers work beside each other on a list (1)")
     made.add_argument("--wait", metavar="load|network-idle|SELECTOR", default="load",
@@ -125,6 +129,11 @@ def parser() -> Parser:
     made.add_argument("--exact", action="store_true",
                       help="refuses a page that passes a limit, where else what no rule looks at is cut")
     made.add_argument("--follow", action="store_true", help="with --url, takes a page that moved on to another address")
+    made.add_argument("--frames", action="store_true",
+                      help="writes what is in each frame too, to FILE's name with .frame-2 and so on; needs --out")
+    made.add_argument("--states", metavar="FILE",
+                      help="does the steps of a file, and writes a snapshot after each, to the name of --out with .state-1-NAME and so on")
+    made.add_argument("--no-shadow", action="store_true", help="leaves shadow trees out")
     made.add_argument("--shot", metavar="FILE", help="writes a picture of the page, and FILE.json with each node's box")
     made.add_argument("--shots", action="store_true", help="the same for each page of a list, in the folder pictures of --out")
     return made
@@ -140,18 +149,20 @@ def read_words(words: Sequence[str]) -> Command:
     if given.url is not None:
         check_written(given.url)
     options = Options(given.url, given.wait, given.timeout, given.settle, given.viewport,
-                      tuple(given.cookie), tuple(given.header), given.exact, given.follow, given.shot)
+                      tuple(given.cookie), tuple(given.header), given.exact, given.follow, not given.no_shadow,
+                      given.frames, given.states, given.shot)
     return Command(given.page, given.list, given.out or "", given.jobs or 1, given.shots, options)
 
 
 def check_list_words(asked: Parser, given: argparse.Namespace) -> None:
     """Refuses the words for many pages beside one page, and those for one beside a list."""
     if given.list is None:
-        for_lists = [("--out", given.out), ("--jobs", given.jobs), ("--shots", given.shots)]
-        for word in (word for word, value in for_lists if value):
+        for word in (word for word, value in (("--jobs", given.jobs), ("--shots", given.shots)) if value):
             asked.error(f"{word} goes with --list")
+        for word in (word for word, value in (("--frames", given.frames), ("--states", given.states)) if value and not given.out):
+            asked.error(f"{word} writes more than one snapshot, and needs --out")
     else:
         if not given.out:
             asked.error("--list needs --out")
-        for word in (word for word, value in (("--url", given.url), ("--shot", given.shot)) if value is not None):
+        for word in (word for word, value in (("--url", given.url), ("--shot", given.shot), ("--states", given.states)) if value is not None):
             asked.error(f"{word} goes with one page" + ("; a list takes --shots" if word == "--shot" else ""))

@@ -71,6 +71,14 @@ def spelt(text: str) -> str:
     return "_".join(parts)
 
 
+def ended(path: str, ending: str) -> str:
+    """The path with an ending of its own before that of its kind, as page.frame-2.json of page.json."""
+    if not ending:
+        return path
+    front, kind = os.path.splitext(path)
+    return f"{front}.{ending}{kind}"
+
+
 def bounded(name: str, address: str) -> str:
     """The name, or where it is too long its front and a digest of the address."""
     if len(name) <= LONGEST_NAME:

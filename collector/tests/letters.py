@@ -119,14 +119,17 @@ def letters_by_name(rows: list[dict[str, Any]]) -> dict[str, str]:
     return letters
 
 
-def press_tab(browser: Any, most: int = 400) -> set[str]:
-    """The ids of what the Tab key reaches, by pressing it."""
+ACTIVE = "return document.activeElement === document.body ? null : document.activeElement.id"
+
+
+def press_tab(browser: Any, most: int = 400, active: str = ACTIVE) -> set[str]:
+    """The ids of what the Tab key reaches, by pressing it; the script gives the id of what has the focus."""
     from selenium.webdriver.common.action_chains import ActionChains
     from selenium.webdriver.common.keys import Keys
     reached = set()
     for press in range(most):
         ActionChains(browser).send_keys(Keys.TAB).perform()
-        name = browser.execute_script("return document.activeElement === document.body ? null : document.activeElement.id")
+        name = browser.execute_script(active)
         if name is None and press > 0:
             return reached
         if name is not None:

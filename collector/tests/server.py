@@ -73,13 +73,19 @@ ANSWERS = {
 }
 
 
+SLOW_SECONDS = 0.8
+
+
 class Handler(http.server.SimpleHTTPRequestHandler):
     """Sends the answers above, what depends on the request, or a file of the example site."""
 
     def do_GET(self) -> None:
         path = self.path.split("?")[0]
-        if path in ANSWERS:
-            self.answer(ANSWERS[path])
+        answers = {**ANSWERS, **self.server.more}
+        if path == "/books":
+            time.sleep(SLOW_SECONDS)
+        if path in answers or self.path in answers:
+            self.answer(answers.get(self.path) or answers[path])
         elif path == "/guarded":
             known = "user=ann" in self.headers.get("Cookie", "") and self.headers.get("X-Team") == "web: a"
             self.answer(Answer(HTML, html("<p>secret"), 200 if known else 401))
@@ -97,10 +103,12 @@ class Handler(http.server.SimpleHTTPRequestHandler):
         elif path == "/size":
             self.answer(Answer(HTML, html("<p id=size>x<script>size.textContent = innerWidth + ' by ' + innerHeight</script>")))
         elif path == "/slow-data":
-            time.sleep(0.8)
+            time.sleep(SLOW_SECONDS)
             self.answer(Answer("text/plain", b"come late"))
         elif path == "/hangs":
             time.sleep(8)
+        elif path == "/hangs-on":
+            time.sleep(120)
         elif path == "/cut-off":
             self.close_connection = True
         else:
@@ -127,10 +135,12 @@ class Server(http.server.ThreadingHTTPServer):
     """A server whose open requests end with the test."""
 
     daemon_threads = True
+    more: dict[str, Answer] = {}
 
 
-def serve() -> tuple[Server, str]:
-    """A running server and its address."""
+def serve(more: dict[str, Answer] | None = None) -> tuple[Server, str]:
+    """A running server and its address; it may have more answers than those above."""
     server = Server(("127.0.0.1", 0), functools.partial(Handler, directory=str(SITE)))
+    server.more = more or {}
     threading.Thread(target=server.serve_forever, daemon=True).start()
     return server, f"http://127.0.0.1:{server.server_port}"

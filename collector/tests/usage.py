@@ -52,6 +52,9 @@ def test_words() -> None:
             ("--shots beside one page", "--list", (*HOME, "--shots")),
             ("a list beside a page", "usage", (*HOME, "--list", "pages.txt")),
             ("a list without --out", "--out", ("--list", "pages.txt")),
+            ("--states beside a list", "one page", ("--list", "pages.txt", "--out", "x", "--states", "steps.toml")),
+            ("--frames without --out", "needs --out", (*HOME, "--frames")),
+            ("--states without --out", "needs --out", (*HOME, "--states", "steps.toml")),
             ("--url beside a list", "one page", ("--list", "pages.txt", "--out", "x", "--url", PAGES["home"])),
             ("--shot beside a list", "--shots", ("--list", "pages.txt", "--out", "x", "--shot", "x.png")),
             ("too many jobs", "from 1 to 16", ("--list", "pages.txt", "--out", "x", "--jobs", "17"))):

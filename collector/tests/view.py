@@ -12,6 +12,8 @@ import subprocess
 import tempfile
 from typing import Any
 
+from collecting.taking import Wanted, take
+
 from .support import DESK, DOCS, PAGES, ROOT, SITE, VIEW, collect_here, expect, open_file, page, run, same, well_formed
 
 # Each kind of line that a report may have, on the search page.
@@ -208,6 +210,37 @@ def test_view_content(browser: Any) -> None:
                 (("every-outcome", "every-rule"), [*every[:9], "passed-2779a5", "passed-b5c3f8", "passed-c487ae", "outcome without"])):
             browser.execute_script("arguments[0].forEach((id) => document.getElementById(id).click())", chosen)
             same(f"shown with {chosen}", browser.execute_script(SHOWN), wanted)
+
+
+SHADOW = """<h1>Menus</h1><x-menu id=menu><template shadowrootmode=open><button id=menu aria-labelledby="menu x"></button><p><slot></slot></p></template>
+<a href=""></a></x-menu>"""
+SHADOW_REPORT = """page https://view.example/
+97a4e1 node BUTTON failed no-name
+c487ae node LINK failed no-name
+passed 0 failed 2 cantTell 0 inapplicable 0
+"""
+
+
+def test_view_state(browser: Any) -> None:
+    """The view says which state a finding is from, and leads into shadow trees."""
+    with page(SHADOW) as path, tempfile.TemporaryDirectory() as folder:
+        open_file(browser, path)
+        text = take(browser, "https://view.example/", Wanted(shadow=True, state="<b>menu</b> open")).text
+        rows = {row.get("tag"): row["n"] for row in json.loads(text)["nodes"]}
+        snapshot = pathlib.Path(folder, "page.json")
+        snapshot.write_text(text, encoding="utf-8")
+        report = SHADOW_REPORT.replace("BUTTON", str(rows["button"])).replace("LINK", str(rows["a"]))
+        with opened(browser, snapshot, report):
+            said = browser.execute_script("return document.querySelector('header').innerText + document.title")
+            same("the state at the top and in the title", said.count("<b>menu</b> open"), 2)
+            targets = browser.execute_script("return [...document.querySelectorAll('.target')].map((target) => target.innerText.split('\\n').filter(Boolean).slice(1, 7))")
+            same("the state, the start tag and the path of each target", targets, [
+                ["State", "<b>menu</b> open", "Start tag", '<button id="menu" aria-labelledby="menu x">', "CSS path", "#menu >>> #menu"],
+                ["State", "<b>menu</b> open", "Start tag", "<a href>", "CSS path", "#menu > a:nth-child(1)"]])
+        strange = text.replace('"in":1', '"in":"x"').replace('"at":[', '"at":[-1,').replace('"state":"', '"state":["').replace(' open"', ' open"]', 1)
+        snapshot.write_text(strange, encoding="utf-8")
+        code, _, err = run(snapshot, "-", program=VIEW)
+        expect("what else stands in these members is passed over", code == 19 and "report" in err, err)
 
 
 HOSTILE = """<title>&lt;/title&gt;&lt;script&gt;hacked = 1&lt;/script&gt; {{ 7 * 7 }} {% raw %}</title>

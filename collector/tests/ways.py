@@ -12,6 +12,8 @@ from typing import Any
 
 from collecting.browser import start_browser
 
+from collecting.states import read_steps
+
 from .support import DOCS, PAGES, ROOT, SITE, SOURCE, expect, same
 
 
@@ -34,10 +36,14 @@ def test_ways(browser: Any, base: str) -> None:
                               stdout=subprocess.PIPE, stderr=subprocess.PIPE, check=False)
         expect("the Selenium program of the docs", done.returncode == 0 and json.loads(done.stdout or b"0") == wanted,
                done.stderr.decode("utf-8", "replace")[-500:])
+        steps = pathlib.Path(folder, "search.toml")
+        steps.write_text(block("States", "toml"), encoding="utf-8")
+        same("the steps of the docs", [(step.ending, len(step.actions)) for step in read_steps(str(steps))],
+             [("state-1-menu-open", 2), ("state-2-searched", 4)])
         # What page.evaluate of Playwright and Puppeteer sends for a text.
         browser.get(address)
         answer = browser.execute_cdp_cmd("Runtime.evaluate", {
-            "expression": f"({SOURCE})({json.dumps(PAGES['home'])})", "returnByValue": True})
+            "expression": f"({SOURCE})({json.dumps(PAGES['home'])}, {{ shadow: true }})", "returnByValue": True})
         expect("an expression for a driver", json.loads(answer["result"]["value"]) == {**wanted, "url": PAGES["home"]})
         # What pasting into a console does: the function first, then its call.
         browser.execute_cdp_cmd("Runtime.evaluate", {"expression": SOURCE})

@@ -73,6 +73,7 @@ class Findings:
 
     address: str
     title: Quote
+    state: str
     nodes: int
     counts: dict[str, int]
     sections: dict[str, tuple[RulePart, ...]]
@@ -99,7 +100,7 @@ def bring_together(report: Report, page: Page, table: RuleTable, picture: Pictur
     lines, quiet = criterion_lines(sections, table)
     totals = Counter(finding.outcome for finding in report.findings)
     return Findings(
-        report.address, page.title, len(page.nodes), {outcome: totals[outcome] for outcome in OUTCOMES}, sections, lines, quiet,
+        report.address, page.title, page.state, len(page.nodes), {outcome: totals[outcome] for outcome in OUTCOMES}, sections, lines, quiet,
         tuple(table.rule(identity) for identity in report.inapplicable),
         tuple((table.rule(identity), counts) for identity, counts in by_rule.items()), picture is not None)
 
@@ -120,7 +121,7 @@ class TargetMaker:
 
     def make(self, number: int) -> Target:
         node = self.page.nodes[number]
-        element = node if node.is_element or node.parent is None else node.parent
+        element = node.element
         is_root = element is self.page.root
         heading = self.page.headings_above.get(number)
         return Target(

@@ -13,6 +13,10 @@ from collecting.ends import End, Stop
 from .languages import known_language
 
 HEADING = re.compile(r"h[1-6]")
+# What the collector adds to ids in shadow trees, the attributes in which, and the ids that it makes.
+MARK = re.compile(r"@shadow-[1-9][0-9]*(?=[\t\n\f\r ]|$)")
+NAMES_IDS = re.compile(r"aria-.*|commandfor|for|form|headers|href|id|interestfor|itemref|list|popovertarget|xlink:href")
+MADE = re.compile(r"@made-[1-9][0-9]*")
 VOID = {"area", "base", "br", "col", "embed", "hr", "img", "input", "link", "meta", "source", "track", "wbr"}
 LONGEST_TEXT, LONGEST_VALUE, MOST_ATTRIBUTES = 240, 100, 20
 ENOUGH_TEXT = 4 * LONGEST_TEXT
@@ -29,6 +33,10 @@ class Node:
     attributes: list[tuple[str, str]]
     words: str
     letters: str
+    # The number of the shadow tree that it stands in, 0 for the document itself; and where the
+    # rows around don't show its place in the DOM, that place, after those of slots without a row.
+    tree: int = 0
+    at: tuple[int, ...] = ()
     kids: list[Node] = field(default_factory=list)
 
     @property
@@ -43,6 +51,27 @@ class Node:
     def attribute(self, name: str) -> str:
         """The value of an attribute; the empty text where there is none."""
         return next((value for key, value in self.attributes if check_form.folded(key) == name), "")
+
+    @cached_property
+    def above(self) -> Node | None:
+        """The nearest element around it in its own tree; None at the top of a tree."""
+        up = self.parent
+        while up is not None and up.tree != self.tree:
+            up = up.parent
+        return up
+
+    @cached_property
+    def host(self) -> Node | None:
+        """The host of the shadow tree that it stands in; None in the document itself."""
+        top = self
+        while top.above is not None:
+            top = top.above
+        return top.parent
+
+    @property
+    def element(self) -> Node:
+        """The element itself, or the one that a text stands in."""
+        return self if self.is_element else self.above or self.host or self
 
     @cached_property
     def elements(self) -> list[Node]:
@@ -89,15 +118,16 @@ class Page:
 
     address: str
     nodes: dict[int, Node]
+    state: str = ""
 
     @cached_property
     def root(self) -> Node:
         return next(iter(self.nodes.values()))
 
     @cached_property
-    def ids(self) -> Counter[str]:
-        """How many elements have an id; letter case is left aside, as selectors do in old pages."""
-        return Counter(check_form.folded(node.attribute("id")) for node in self.nodes.values() if node.attribute("id"))
+    def ids(self) -> Counter[tuple[int, str]]:
+        """How many elements of a tree have an id; letter case is left aside, as selectors do in old pages."""
+        return Counter((node.tree, check_form.folded(node.attribute("id"))) for node in self.nodes.values() if node.attribute("id"))
 
     @cached_property
     def headings_above(self) -> dict[int, Node]:
@@ -136,19 +166,39 @@ class Page:
 def read_page(data: bytes, path: str) -> Page:
     """The page that the bytes of a snapshot hold, or a Stop."""
     try:
-        address, rows = check_form.read(data)
+        top = check_form.read_top(data)
+        address, rows = check_form.read(top)
         check_form.check_tree(rows)
     except check_form.Fault as fault:
         raise Stop(End.INPUT, f"{path} is no snapshot: {fault}") from None
     nodes: dict[int, Node] = {}
     for row in rows:
         parent = nodes.get(row["p"])
-        node = Node(row["n"], parent, row["tag"] or "", row["ns"], [tuple(pair) for pair in row["attrs"]],
-                    row["text"] or "", row["f"])
+        node = Node(row["n"], parent, row["tag"] or "", row["ns"], unmarked(row["attrs"]),
+                    row["text"] or "", row["f"], tree_of(row["given"]), places_of(row["given"]))
         nodes[node.number] = node
         if parent is not None:
             parent.kids.append(node)
-    return Page(address, nodes)
+    state = top.get("state")
+    return Page(address, nodes, state if isinstance(state, str) else "")
+
+
+def tree_of(given: dict[str, object]) -> int:
+    """The number of the shadow tree that the collector wrote of a row."""
+    tree = given.get("in", 0)
+    return tree if check_form.is_number(tree) else 0
+
+
+def places_of(given: dict[str, object]) -> tuple[int, ...]:
+    """The places that the collector wrote of a row."""
+    at = given.get("at", [])
+    return tuple(at) if isinstance(at, list) and all(map(check_form.is_number, at)) else ()
+
+
+def unmarked(attributes: list[list[str]]) -> list[tuple[str, str]]:
+    """The attributes as the page has them: ids without the mark of their tree, and none that the collector made."""
+    return [(name, MARK.sub("", value) if NAMES_IDS.fullmatch(check_form.folded(name)) else value)
+            for name, value in attributes if not (check_form.folded(name) == "id" and MADE.fullmatch(value))]
 
 
 def tidy(text: str) -> str:

@@ -11,17 +11,30 @@ from .page import Node, Page
 def css_path(page: Page, node: Node) -> str:
     """The shortest chain of steps from an element with an id of its own, or from the root, down to the element.
 
+    For an element of a shadow tree it is the path of the tree's host, `>>>`, and the path within the tree.
     A text has the path of the element that it stands in.
     """
+    at: Node | None = node.element
+    parts: list[str] = []
+    while at is not None:
+        parts.append(path_in_tree(page, at))
+        at = at.host
+    return " >>> ".join(reversed(parts))
+
+
+def path_in_tree(page: Page, node: Node) -> str:
+    """The path of an element within its own tree."""
     steps: list[str] = []
-    at: Node | None = node if node.is_element else node.parent
+    at: Node | None = node
     while at is not None:
         identity = at.attribute("id")
-        if identity and page.ids[check_form.folded(identity)] == 1:
+        if identity and page.ids[at.tree, check_form.folded(identity)] == 1:
             steps.append(f"#{escaped(identity)}")
             break
         steps.append(step(at))
-        at = at.parent
+        if at.above is None and at.tree:
+            steps.append(":host")
+        at = at.above
     return " > ".join(reversed(steps))
 
 
@@ -29,6 +42,9 @@ def step(node: Node) -> str:
     """The selector of an element among the children of its parent."""
     # A selector's tag is folded against elements of HTML, and exact against all others.
     findable = node.space != "html" or node.tag == node.folded
+    if node.at:
+        tag = escaped(node.tag) if findable else "*"
+        return " > ".join([*(f"slot:nth-child({place})" for place in node.at[:-1]), f"{tag}:nth-child({node.at[-1]})"])
     if node.parent is None:
         return escaped(node.tag) if findable else ":root"
     alike = node.parent.of_tag[node.folded]
