@@ -60,7 +60,7 @@ def make_users(folder: str) -> None:
 
 
 class Proxy:
-    """nginx with an example as it stands, but for ports, paths and names, until the block ends."""
+    """nginx with an example as it stands, but for ports and paths, before one desk or three, until the block ends."""
 
     def __init__(self, example: str, desks: list[int], limit: str = NO_LIMIT) -> None:
         self.example, self.desks, self.limit = example, desks, limit
@@ -68,7 +68,8 @@ class Proxy:
 
     def replaced(self) -> str:
         """The example's text for this machine."""
-        text = (EXAMPLES / self.example).read_text(encoding="utf-8")
+        ring = "one-desk.conf" if len(self.desks) == 1 else "many-desks.conf"
+        text = "".join((EXAMPLES / name).read_text(encoding="utf-8") for name in (self.example, ring))
         pairs = [("listen 80;", f"listen {HOST}:{self.plain_port};"), ("listen 443 ", f"listen {HOST}:{self.port} "),
                  ("listen 127.0.0.1:8070;", f"listen {HOST}:{self.port};"), (RATE, self.limit),
                  ("/etc/ssl/certs/desk.example.org.pem", f"{self.folder}/cert.pem"),
