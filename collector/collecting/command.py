@@ -3,7 +3,7 @@ from __future__ import annotations
 
 from typing import Sequence
 
-from .ends import End, ended, say, write_out
+from .ends import End, run_command, say, write_out
 from .many import collect_list
 from .options import Command, read_words
 from .pages import collect_page
@@ -25,4 +25,4 @@ def main(words: Sequence[str]) -> int:
         command = read_words(words)
         return collect_one(command) if command.list is None else collect_list(command)
 
-    return ended("collect", work)
+    return run_command("collect", work)

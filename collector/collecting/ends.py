@@ -120,7 +120,7 @@ def stop_on_signals() -> None:
         signal.signal(number, interrupt)
 
 
-def ended(program: str, work: Callable[[], int]) -> int:
+def run_command(program: str, work: Callable[[], int]) -> int:
     """The status of a command's work; a Stop and an interruption are a line on standard error."""
     try:
         quiet_libraries()

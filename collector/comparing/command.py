@@ -5,7 +5,7 @@ import argparse
 import os
 from typing import Sequence
 
-from collecting.ends import End, ended, write_file, write_out
+from collecting.ends import End, run_command, write_file, write_out
 from viewing.command import Parser
 from viewing.rules import read_rules
 
@@ -57,4 +57,4 @@ def work(words: Sequence[str]) -> int:
 
 def main(words: Sequence[str]) -> int:
     """The status of a run."""
-    return ended("compare", lambda: work(words))
+    return run_command("compare", lambda: work(words))

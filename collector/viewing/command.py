@@ -5,7 +5,7 @@ import argparse
 import sys
 from typing import NoReturn, Sequence
 
-from collecting.ends import End, Stop, ended, write_out
+from collecting.ends import End, Stop, run_command, write_out
 
 from .findings import bring_together
 from .page import read_page
@@ -65,4 +65,4 @@ def write(words: Sequence[str]) -> int:
 
 def main(words: Sequence[str]) -> int:
     """The status of a run."""
-    return ended("view", lambda: write(words))
+    return run_command("view", lambda: write(words))
