@@ -3,7 +3,7 @@ from __future__ import annotations
 
 from typing import Sequence
 
-from .ends import End, Stop, need_output, quiet_libraries, say, stop_on_signals, write_file, write_out
+from .ends import End, run_command, say, write_file, write_out
 from .many import collect_list
 from .options import Command, read_words
 from .pages import Collected, collect_page
@@ -30,15 +30,8 @@ def collect_one(command: Command) -> End:
 
 def main(words: Sequence[str]) -> int:
     """The status of a run."""
-    try:
-        quiet_libraries()
-        stop_on_signals()
-        need_output()
+    def work() -> int:
         command = read_words(words)
         return collect_one(command) if command.list is None else collect_list(command)
-    except Stop as stop:
-        say("collect", stop.line)
-        return stop.end
-    except KeyboardInterrupt:
-        say("collect", "interrupted")
-        return End.INTERRUPTED
+
+    return run_command("collect", work)

@@ -8,6 +8,7 @@ import signal
 import sys
 import threading
 import warnings
+from typing import Callable
 
 
 class End(enum.IntEnum):
@@ -118,3 +119,18 @@ def stop_on_signals() -> None:
 
     for number in (signal.SIGTERM, signal.SIGHUP):
         signal.signal(number, interrupt)
+
+
+def run_command(program: str, work: Callable[[], int]) -> int:
+    """The status of a command's work; a Stop and an interruption are a line on standard error."""
+    try:
+        quiet_libraries()
+        stop_on_signals()
+        need_output()
+        return work()
+    except Stop as stop:
+        say(program, stop.line)
+        return stop.end
+    except KeyboardInterrupt:
+        say(program, "interrupted")
+        return End.INTERRUPTED

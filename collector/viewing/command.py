@@ -5,7 +5,7 @@ import argparse
 import sys
 from typing import NoReturn, Sequence
 
-from collecting.ends import End, Stop, need_output, quiet_libraries, say, stop_on_signals, write_out
+from collecting.ends import End, Stop, run_command, write_out
 
 from .findings import bring_together
 from .page import read_page
@@ -20,7 +20,7 @@ class Parser(argparse.ArgumentParser):
     """A parser whose refusal is a Stop of one line."""
 
     def error(self, message: str) -> NoReturn:
-        raise Stop(End.USAGE, f"{message}; usage: {USAGE}")
+        raise Stop(End.USAGE, f"{message}; usage: {self.usage}")
 
     def print_help(self, file: object = None) -> None:
         """Writes the help on standard output, or is a Stop where that can't be written."""
@@ -50,24 +50,19 @@ def read(path: str) -> bytes:
         raise Stop(End.INPUT, f"{path} can't be read: {error.strerror}") from None
 
 
+def write(words: Sequence[str]) -> int:
+    """Writes the view that the words ask for."""
+    given = read_words(words)
+    snapshot = read(given.snapshot)
+    page = read_page(snapshot, given.snapshot)
+    report = read_report(read(given.report), given.report)
+    picture = read_picture(given.shot, snapshot) if given.shot is not None else None
+    findings = bring_together(report, page, read_rules(), picture)
+    from .writing import write_view  # only here Jinja2 is needed
+    write_out(write_view(findings, picture).encode("utf-8"))
+    return End.WRITTEN
+
+
 def main(words: Sequence[str]) -> int:
     """The status of a run."""
-    try:
-        quiet_libraries()
-        stop_on_signals()
-        need_output()
-        given = read_words(words)
-        snapshot = read(given.snapshot)
-        page = read_page(snapshot, given.snapshot)
-        report = read_report(read(given.report), given.report)
-        picture = read_picture(given.shot, snapshot) if given.shot is not None else None
-        findings = bring_together(report, page, read_rules(), picture)
-        from .writing import write_view  # only here Jinja2 is needed
-        write_out(write_view(findings, picture).encode("utf-8"))
-        return End.WRITTEN
-    except Stop as stop:
-        say("view", stop.line)
-        return stop.end
-    except KeyboardInterrupt:
-        say("view", "interrupted")
-        return End.INTERRUPTED
+    return run_command("view", lambda: write(words))

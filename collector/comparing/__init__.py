@@ -1,0 +1,1 @@
+"""Compares two audits: what is new, what is mended, and what stays."""

@@ -1,0 +1,127 @@
+"""Pairs the findings of two audits of a page, and says what is new, what is mended and what stays."""
+from __future__ import annotations
+
+import enum
+from collections import defaultdict, deque
+from dataclasses import dataclass
+from typing import Iterable, Sequence
+
+from viewing.report import OUTCOMES, Finding
+
+from .places import WAYS, WITHOUT_PAGE, Place, Places, Way
+from .reading import Audit
+
+
+class Kind(enum.Enum):
+    """What became of a finding that is failed or to judge."""
+
+    NEW = "new"
+    MENDED = "mended"
+    STAYS = "stays"
+
+
+@dataclass(frozen=True, eq=False)
+class Located:
+    """A finding with its place."""
+
+    finding: Finding
+    place: Place
+
+
+@dataclass(frozen=True)
+class Change:
+    """A finding that is in one of two audits or, at the same place, in both."""
+
+    kind: Kind
+    old: Located | None
+    new: Located | None
+
+    @property
+    def shown(self) -> Located:
+        """The finding that is spoken of: the new one, and of what is mended the old one."""
+        shown = self.old if self.kind is Kind.MENDED else self.new
+        assert shown is not None
+        return shown
+
+    @property
+    def fails(self) -> bool:
+        """Whether it is what a pipeline ends at."""
+        return self.kind is Kind.NEW and self.shown.finding.outcome == "failed"
+
+
+@dataclass(frozen=True)
+class PageChanges:
+    """The changes on one page; of a page that only one audit has, that is said."""
+
+    name: str
+    note: str
+    changes: tuple[Change, ...]
+
+    def count(self, kind: Kind, outcome: str | None = None) -> int:
+        """How many changes are of this kind, and of this outcome where one is given."""
+        return sum(change.kind is kind and outcome in (None, change.shown.finding.outcome) for change in self.changes)
+
+
+NOTHING = Audit("", (), None)
+
+
+def compare_folders(old: dict[str, Audit], new: dict[str, Audit]) -> list[PageChanges]:
+    """The changes of each page, by the names of the files; what only OLD has comes last."""
+    pages = [compare(old.get(name, NOTHING), audit, "" if name in old else "a new page") for name, audit in new.items()]
+    return pages + [PageChanges(audit.name, "gone: NEW has no such page", ()) for name, audit in old.items() if name not in new]
+
+
+def compare(old: Audit, new: Audit, note: str = "") -> PageChanges:
+    """The changes from one audit of a page to another, in the order of the new audit."""
+    with_pages = new.page is not None and (old.page is not None or old is NOTHING)
+    ways = WAYS if with_pages else WITHOUT_PAGE
+    olds, news = located(old, with_pages), located(new, with_pages)
+    changes = [Change(kind, before, after) for before, after in paired(olds, news, ways) if (kind := kind_of(before, after))]
+    order = {one: place for place, one in enumerate([*olds, *news])}
+    changes.sort(key=lambda change: (list(Kind).index(change.kind), OUTCOMES.index(change.shown.finding.outcome), order[change.shown]))
+    return PageChanges(new.name, note, tuple(changes))
+
+
+def located(audit: Audit, with_page: bool) -> list[Located]:
+    """The findings of an audit with their places."""
+    if not with_page or audit.page is None:
+        return [Located(finding, Place(finding.node)) for finding in audit.findings]
+    places = Places(audit.page)
+    made = {number: places.place(number) for number in {finding.node for finding in audit.findings}}
+    return [Located(finding, made[finding.node]) for finding in audit.findings]
+
+
+def kind_of(old: Located | None, new: Located | None) -> Kind | None:
+    """What became of a finding; None where there is nothing to do, before and after."""
+    before = old.finding.outcome if old else "passed"
+    after = new.finding.outcome if new else "passed"
+    if after == "passed":
+        return None if before == "passed" else Kind.MENDED
+    return Kind.STAYS if before == after else Kind.NEW
+
+
+def paired(olds: Sequence[Located], news: Sequence[Located], ways: Sequence[Way]) -> list[tuple[Located | None, Located | None]]:
+    """Each old finding with at most one new finding of its rule at the same place: first those of one outcome."""
+    pairs: list[tuple[Located | None, Located | None]] = []
+    left_old, left_new = set(olds), set(news)
+    for outcome in (*OUTCOMES, None):
+        for way in ways:
+            found = matches((one for one in olds if one in left_old and outcome in (None, one.finding.outcome)),
+                            (one for one in news if one in left_new and outcome in (None, one.finding.outcome)), way)
+            pairs += found
+            left_old.difference_update(old for old, _ in found)
+            left_new.difference_update(new for _, new in found)
+    return [*pairs, *((None, new) for new in news if new in left_new), *((old, None) for old in olds if old in left_old)]
+
+
+def matches(olds: Iterable[Located], news: Iterable[Located], way: Way) -> list[tuple[Located, Located]]:
+    """The pairs, one to one and in order, that a way finds."""
+    waiting: defaultdict[object, deque[Located]] = defaultdict(deque)
+    for old in olds:
+        waiting[old.finding.rule, way(old.place)].append(old)
+    found = []
+    for new in news:
+        key = new.finding.rule, way(new.place)
+        if key[1] is not None and waiting[key]:
+            found.append((waiting[key].popleft(), new))
+    return found

@@ -1,0 +1,315 @@
+"""The page to judge on, in a real browser, before the real desk behind the real proxy."""
+from __future__ import annotations
+
+import base64
+import json
+import os
+import pathlib
+import subprocess
+import time
+from typing import Any, Callable
+
+from collecting.browser import start_browser
+from collecting.ends import End, Stop
+from collecting.taking import take
+from serving import HOST, PROGRAM, ROOT, Serving
+from tests.support import SITE, expect, same
+from tests.view import CONTRAST
+
+from .asking import ask
+from .proxies import Proxy
+
+PATIENCE = 60
+PICTURES = pathlib.Path(ROOT, "docs", "pictures")
+PAGES = ("home", "search", "hours")
+MEMBERS = {"bob": "judge", "cid": "judge", "rea": "reader"}
+NOTE = "It says what stands below it. Ünïcode, and a second\nline."
+# A site's report, in the form that the desk will give it.
+REPORT = """site library
+page home rev 3 passed 26 failed 3 cantTell 11 inapplicable 13
+page hours rev 12 passed 0 failed 0 cantTell 0 inapplicable 30
+criterion 1.1.1 A failed
+criterion 1.4.4 AA noFailureFound
+total pages 2 passed 26 failed 3 cantTell 11 inapplicable 43
+"""
+READ = """
+const [text, done] = arguments;
+import('./report.js').then(({ readReport }) => {
+  const { pages, results } = readReport(text);
+  done([pages.map(({ name, rev, counts }) => [name, rev, counts.passed, counts.failed, counts.cantTell, counts.inapplicable]), [...results]]);
+}, (error) => done(String(error)));
+"""
+# The texts that were said, one after another, from when this runs.
+LISTEN = """
+window.said = [];
+new MutationObserver(() => window.said.push(document.getElementById('status').textContent))
+  .observe(document.getElementById('status'), { childList: true, characterData: true, subtree: true });
+"""
+
+
+def signed_in(name: str | None) -> dict[str, str]:
+    """The field by which the single-sign-on proxy tells a person."""
+    return {"x-forwarded-user": f"{name}@example.org"} if name else {}
+
+
+class Reader:
+    """A person at the page, who has a keyboard and no mouse."""
+
+    def __init__(self, browser: Any, proxy: Proxy) -> None:
+        self.browser, self.proxy = browser, proxy
+        browser.execute_cdp_cmd("Network.enable", {})
+
+    def sign_in(self, name: str | None) -> None:
+        """Sends this person's name from now on."""
+        self.browser.execute_cdp_cmd("Network.setExtraHTTPHeaders", {"headers": signed_in(name)})
+
+    def open(self, address: str) -> None:
+        """Opens an address of the page, and waits until it shows something."""
+        self.browser.get(f"http://{HOST}:{self.proxy.port}/{address}")
+        self.wait("the page is there", "return document.documentElement.dataset.ready === 'true'")
+        self.settle()
+
+    def wait(self, what: str, script: str) -> Any:
+        """What a script gives, as soon as that is something."""
+        end = time.monotonic() + PATIENCE
+        while time.monotonic() < end:
+            if found := self.browser.execute_script(script):
+                return found
+            time.sleep(0.1)
+        raise TimeoutError(f"{what}: {self.browser.execute_script('return document.body.innerText')[:600]}")
+
+    def settle(self) -> None:
+        """Waits until the desk isn't asked any more."""
+        self.wait("the desk has answered", "return !/^(Asking|Sending)/.test(document.getElementById('status').textContent)")
+
+    def keys(self, *keys: str) -> None:
+        """Presses keys."""
+        from selenium.webdriver.common.action_chains import ActionChains
+        for key in keys:
+            ActionChains(self.browser).send_keys(key).perform()
+
+    def tab_to(self, what: str, script: str) -> None:
+        """Presses Tab until a script says that the focus is there."""
+        from selenium.webdriver.common.keys import Keys
+        for _ in range(80):
+            if self.browser.execute_script(f"const at = document.activeElement; return Boolean({script})"):
+                return
+            self.keys(Keys.TAB)
+        raise AssertionError(f"no way by Tab to {what}")
+
+    def text(self, part: str = "body") -> str:
+        return self.browser.execute_script("return document.querySelector(arguments[0])?.innerText ?? ''", part)
+
+    def title(self) -> str:
+        return self.text("#title")
+
+
+def fill(proxy: Proxy) -> None:
+    """A site of ann's with pages of the example site, and members."""
+    same("the site", ask(proxy, "PUT /sites/library", b"", signed_in("ann")).status, 201)
+    for name, role in MEMBERS.items():
+        ask(proxy, f"PUT /sites/library/members/{name}", {"role": role}, signed_in("ann"))
+    for name in PAGES:
+        put = ask(proxy, f"PUT /sites/library/pages/{name}", (SITE / f"{name}.json").read_bytes(), {**signed_in("ann"), "x-rev": "0"})
+        same(f"the page {name}", put.status, 200)
+
+
+def outcomes(proxy: Proxy, page: str = "home") -> list[dict[str, Any]]:
+    """The outcomes of a page, from the desk."""
+    return json.loads(ask(proxy, f"GET /sites/library/pages/{page}/outcomes", None, signed_in("ann")).body)["outcomes"]
+
+
+def checked(reader: Reader, what: str, picture: str | None = None) -> None:
+    """Expects a state of the page to be accessible: by the desk's own audit, narrow, in dark, in high contrast and still."""
+    browser = reader.browser
+    snapshot = take(browser, "https://desk.example/").text.encode("utf-8")
+    done = subprocess.run([PROGRAM, "-", "audit"], input=snapshot, capture_output=True, check=False)
+    failed = [line for line in done.stdout.decode("utf-8").splitlines() if " node " in line and line.split()[3] == "failed"]
+    same(f"{what}: the desk's own audit", (done.returncode, failed), (0, []))
+    for features in ([("prefers-color-scheme", "light")], [("prefers-color-scheme", "dark")]):
+        browser.execute_cdp_cmd("Emulation.setEmulatedMedia", {"features": [{"name": name, "value": value} for name, value in features]})
+        same(f"{what}: texts without enough contrast, {features[0][1]}", browser.execute_script(CONTRAST), [])
+    browser.execute_cdp_cmd("Emulation.setEmulatedMedia", {"features": [{"name": "forced-colors", "value": "active"}, {"name": "prefers-reduced-motion", "value": "reduce"}]})
+    same(f"{what}: high contrast, and no motion", browser.execute_script("""
+        return [matchMedia('(forced-colors: active)').matches, getComputedStyle(document.documentElement).scrollBehavior,
+                document.getAnimations().length]"""), [True, "auto", 0])
+    browser.execute_cdp_cmd("Emulation.setEmulatedMedia", {"features": []})
+    size(browser, 320, 640)
+    same(f"{what}: on 320 pixels nothing scrolls sideways", browser.execute_script("return document.documentElement.scrollWidth"), 320)
+    small = browser.execute_script("""return [...document.querySelectorAll('button, input[type=text], select, .button')]
+        .map((one) => one.getBoundingClientRect().height).filter((height) => height < 24)""")
+    same(f"{what}: what is too small to hit", small, [])
+    size(browser, 1280, 900)
+    if picture and os.environ.get("PICTURES"):
+        PICTURES.mkdir(exist_ok=True)
+        shot = browser.execute_cdp_cmd("Page.captureScreenshot", {"format": "png"})["data"]
+        (PICTURES / f"{picture}.png").write_bytes(base64.b64decode(shot))
+
+
+def size(browser: Any, width: int, height: int) -> None:
+    """Gives the page this size in CSS pixels; 320 is 1,280 at 400 %."""
+    browser.execute_cdp_cmd("Emulation.setDeviceMetricsOverride", {"width": width, "height": height, "deviceScaleFactor": 1, "mobile": False})
+
+
+def looks_around(reader: Reader) -> None:
+    """From the start to a site and a page, by the keyboard; counts, filters, and progress on several pages."""
+    from selenium.webdriver.common.keys import Keys
+    reader.sign_in("bob")
+    reader.open("")
+    same("who is signed in", reader.text("#caller"), "Signed in as bob")
+    reader.tab_to("the first stop", "at !== document.body")
+    same("the first stop", reader.browser.execute_script("return document.activeElement.textContent"), "Skip to the main part")
+    checked(reader, "the start", "start")
+    reader.tab_to("the site's name", "at.id === 'site'")
+    reader.keys("library", Keys.ENTER)
+    reader.wait("the site", "return document.getElementById('title').innerText === 'Site library'")
+    reader.settle()
+    same("the focus goes along", reader.browser.execute_script("return document.activeElement.id"), "title")
+    for page in PAGES:
+        reader.open("?site=library")
+        reader.tab_to("the page's name", "at.id === 'page'")
+        reader.keys(page, Keys.ENTER)
+        reader.wait(page, f"return document.getElementById('title').innerText === 'Page {page} of library'")
+    reader.browser.execute_script(LISTEN)
+    reader.tab_to("the site", "at.closest('#trail') && at.textContent === 'library'")
+    reader.keys(Keys.ENTER)
+    reader.wait("the site's table", "return document.querySelectorAll('section[aria-labelledby=pages] tbody tr').length === 3")
+    expect("progress is said", "Asking for page 3 of 3" in reader.browser.execute_script("return window.said"))
+    row = reader.browser.execute_script("return [...document.querySelector('tbody tr').cells].map((cell) => cell.innerText)")
+    final = [one["outcome"] for one in outcomes(reader.proxy)]
+    same("a page's counts", row[:5], ["home", "1", str(final.count("failed")), f"{final.count('cantTell')} to judge on home", str(final.count("passed"))])
+    same("a criterion's result", reader.browser.execute_script("""return [...document.querySelectorAll('section[aria-labelledby=criteria] tbody tr')]
+        .map((row) => row.innerText.split('\\t')).find(([name]) => name.startsWith('4.1.2'))[2]"""), "failed")
+    checked(reader, "a site", "site")
+    same("a site's report, where the desk has one", reader.browser.execute_async_script(READ, REPORT),
+         [[["home", 3, 26, 3, 11, 13], ["hours", 12, 0, 0, 0, 30]], [["1.1.1", "failed"], ["1.4.4", "noFailureFound"]]])
+
+
+def reads_findings(reader: Reader) -> None:
+    """A page's findings, all of them and filtered, with what they mean and what mends them."""
+    reader.open("?site=library&page=home")
+    final = [one["outcome"] for one in outcomes(reader.proxy)]
+    same("all findings are shown", reader.browser.execute_script("return document.querySelectorAll('.target').length"), len(final))
+    advice = next(rule for rule in json.loads(pathlib.Path(ROOT, "docs", "rules.json").read_text(encoding="utf-8"))["rules"] if rule["id"] == "97a4e1")
+    expect("what mends a finding is said", next(one for one in advice["reasons"] if one["reason"] == "no-name")["mends"] in reader.text("main"))
+    checked(reader, "a page", "page")
+    reader.browser.execute_script("const s = document.getElementById('outcome'); s.value = 'failed'; s.dispatchEvent(new Event('change'))")
+    reader.wait("the filtered page", "return location.search.includes('outcome=failed')")
+    reader.wait("what failed", f"return document.querySelectorAll('.target').length === {final.count('failed')}")
+    reader.settle()
+    expect("a desk without names says so", "does not give the names" in reader.text("main"))
+    checked(reader, "a filtered page")
+
+
+def begin(reader: Reader, place: str, verdict: str = "passed", note: str = NOTE, page: str = "home") -> None:
+    """Opens a finding to judge, and fills the form by the keyboard."""
+    from selenium.webdriver.common.keys import Keys
+    reader.open(f"?site=library&page={page}&judge={place}")
+    reader.tab_to("the verdict", "at.name === 'verdict'")
+    reader.keys(*{"passed": (Keys.SPACE,), "failed": (Keys.SPACE, Keys.ARROW_DOWN)}[verdict])
+    reader.tab_to("the note", "at.id === 'note'")
+    reader.browser.execute_script("document.activeElement.select()")
+    reader.keys(note)
+
+
+def submit(reader: Reader) -> None:
+    """Sends the form by the keyboard."""
+    from selenium.webdriver.common.keys import Keys
+    reader.tab_to("the button", "at.type === 'submit'")
+    reader.keys(Keys.ENTER)
+    reader.wait("an answer", "return !document.getElementById('status').textContent.startsWith('Sending')")
+
+
+def refused(reader: Reader, what: str, says: str) -> None:
+    """Sends the form, which is refused; the note stays, also when the page is opened anew."""
+    submit(reader)
+    reader.wait(what, "return document.querySelector('.told')")
+    expect(f"{what} is said plainly", says in reader.text(".told") and "Your note is kept" in reader.text(".told"), reader.text(".told"))
+    same(f"{what}: the note is there", reader.browser.execute_script("return document.getElementById('note').value"), NOTE)
+    checked(reader, what, "refused" if says.startswith("The page has changed") else None)
+
+
+def judges(reader: Reader) -> None:
+    """A judgement after another by the keyboard, and what is refused."""
+    proxy = reader.proxy
+    to_judge = [f"{one['rule']}-{one['node']}" for one in outcomes(proxy) if one["automatic"] == "cantTell" and one["reason"] != "merged"]
+    begin(reader, to_judge[0])
+    checked(reader, "a finding to judge", "judge")
+    submit(reader)
+    reader.wait("the next finding", f"return location.search.includes('{to_judge[1]}')")
+    reader.settle()
+    expect("it says that it was taken", "has your judgement" in reader.text("#status"), reader.text("#status"))
+    same("the desk has it", [one["by"] for one in outcomes(proxy) if f"{one['rule']}-{one['node']}" == to_judge[0]], ["bob"])
+    title = next(one for one in outcomes(proxy, "search") if one["rule"] == "c4a8a4")
+    begin(reader, f"c4a8a4-{title['node']}", page="search")
+    change_title(proxy, "search")
+    refused(reader, "evidence that moved", "The page has changed since you opened it")
+    reader.browser.execute_script("document.querySelector('.told button').click()")
+    reader.wait("the new evidence", "return document.querySelector('.facts pre')?.innerText.startsWith('Another title')")
+    same("the note is still there", reader.browser.execute_script("return document.getElementById('note').value"), NOTE)
+    submit(reader)
+    reader.settle()
+    expect("then it is taken", any(one["rule"] == "c4a8a4" and one["by"] == "bob" for one in outcomes(proxy, "search")))
+    not_allowed(reader, to_judge[1])
+
+
+def change_title(proxy: Proxy, page: str) -> None:
+    """Changes a page's title, and so the evidence of the rule on titles."""
+    shown = json.loads(ask(proxy, f"GET /sites/library/pages/{page}", None, signed_in("ann")).body)
+    rows = shown["snapshot"]["nodes"]
+    title = next(row["n"] for row in rows if row.get("tag") == "title")
+    text = next(row["n"] for row in rows if row["p"] == title)
+    edit = {"edits": [{"op": "setText", "node": text, "text": "Another title"}]}
+    same("the page is changed", ask(proxy, f"POST /sites/library/pages/{page}/edits", edit, {**signed_in("ann"), "x-rev": str(shown["rev"])}).status, 200)
+
+
+def not_allowed(reader: Reader, place: str) -> None:
+    """Who may not judge, who isn't signed in any more, and a stranger."""
+    for name, what, says in (("ann", "who sent the page", "somebody else has to judge it"), ("rea", "a reader", "it takes a judge")):
+        reader.sign_in(name)
+        begin(reader, place)
+        refused(reader, what, says)
+    reader.sign_in("cid")
+    begin(reader, place)
+    reader.sign_in(None)
+    refused(reader, "who isn't signed in any more", "You are not signed in")
+    reader.sign_in("cid")
+    reader.open(f"?site=library&page=home&judge={place}")
+    same("a note outlives the page", reader.browser.execute_script("return document.getElementById('note').value"), NOTE)
+    begin(reader, place, note="a" * 2001)
+    submit(reader)
+    expect("a note that is too long isn't sent", "2001 bytes" in reader.text(".told"), reader.text(".told"))
+    reader.sign_in("eve")
+    reader.open("?site=library&page=home")
+    expect("a stranger is told so", "it takes a reader" in reader.text(".told"), reader.text())
+    checked(reader, "a stranger")
+    reader.sign_in("cid")
+
+
+def desk_is_away(reader: Reader, end_desk: Callable[[], None]) -> None:
+    """The desk ends while somebody judges."""
+    place = next(f"{one['rule']}-{one['node']}" for one in outcomes(reader.proxy) if one["automatic"] == "cantTell" and one["by"] == "" and one["reason"] != "merged")
+    begin(reader, place)
+    end_desk()
+    refused(reader, "the desk is away", "The desk is away")
+
+
+def test_page() -> None:
+    """The page to judge on, by the keyboard, in each of its states."""
+    try:
+        browser = start_browser()
+    except Stop as stop:
+        if stop.end is not End.BROWSER:
+            raise
+        print(f"tools/test-team: test_page is left out: {stop.line}")
+        return
+    try:
+        browser.set_script_timeout(PATIENCE)
+        with Serving(connections=1_000_000) as desk, Proxy("sign-on.conf", [desk.port]) as proxy:
+            fill(proxy)
+            reader = Reader(browser, proxy)
+            for part in (looks_around, reads_findings, judges):
+                part(reader)
+            desk_is_away(reader, lambda: (desk.program.terminate(), desk.program.wait()))
+    finally:
+        browser.quit()

@@ -1,0 +1,50 @@
+"""Audits of many snapshots by GNU parallel."""
+from __future__ import annotations
+
+import os
+import pathlib
+import re
+import shutil
+import subprocess
+import tempfile
+import time
+
+from serving import PROGRAM, ROOT
+from tests.support import same
+
+DOCUMENT = pathlib.Path(ROOT, "docs", "team.md")
+SNAPSHOT = pathlib.Path(ROOT, "examples", "ordinary.json")
+PAGES = 100
+
+
+def audited(folder: str, jobs: int) -> float:
+    """How many snapshots a second the command of docs/team.md audits with so many jobs; each report is as it should be."""
+    command = next(text for text in re.findall(r"^```sh\n(.*?)^```$", DOCUMENT.read_text(encoding="utf-8"), re.MULTILINE | re.DOTALL)
+                   if text.startswith("find snapshots")).replace("--jobs 100%", f"--jobs {jobs}")
+    began = time.monotonic()
+    done = subprocess.run(["bash", "-c", command], cwd=folder, capture_output=True, check=False, stdin=subprocess.DEVNULL,
+                          env={**os.environ, "PATH": f"{folder}:{os.environ['PATH']}", "HOME": folder})
+    seconds = time.monotonic() - began
+    same(f"{jobs} jobs end well", (done.returncode, done.stderr[:300]), (0, b""))
+    with open(SNAPSHOT, "rb") as snapshot:
+        wanted = subprocess.run([PROGRAM, "-", "audit"], stdin=snapshot, capture_output=True, check=False).stdout
+    reports = list(pathlib.Path(folder, "snapshots").glob("*.txt"))
+    same(f"{jobs} jobs: reports that aren't right", [report.name for report in reports if report.read_bytes() != wanted], [])
+    same(f"{jobs} jobs: their number", len(reports), PAGES)
+    for report in reports:
+        report.unlink()
+    return PAGES / seconds
+
+
+def test_many_pages() -> None:
+    """The command of docs/team.md, on one core and on four."""
+    if shutil.which("parallel") is None:
+        print("tools/test-team: test_many_pages is left out (on Debian: apt-get install parallel)")
+        return
+    with tempfile.TemporaryDirectory() as folder:
+        os.mkdir(f"{folder}/snapshots")
+        os.symlink(PROGRAM, f"{folder}/act_desk")
+        for number in range(PAGES):
+            shutil.copy(SNAPSHOT, f"{folder}/snapshots/page {number}.json")
+        one, four = audited(folder, 1), audited(folder, 4)
+        print(f"audits by parallel: {one:.0f} snapshots a second with one job, {four:.0f} with four, on a machine with a load of {os.getloadavg()[0]:.0f}")

@@ -1,0 +1,113 @@
+/** The page to judge on: shows what the address names, and moves from one to another. */
+
+import * as desk from './desk.js';
+import { el } from './dom.js';
+import { loadRules } from './rules.js';
+import { showStart, showSite } from './sites.js';
+import { showPage } from './findings.js';
+import { showJudging } from './judging.js';
+
+const byId = (id) => document.getElementById(id);
+
+/** What the views share: the rules, the address's words, and how to say things. */
+class App {
+  constructor(rules) {
+    this.rules = rules;
+    this.shown = 0;
+  }
+
+  /** The words of the address: site, page, judge, and the filters. */
+  get words() { return Object.fromEntries(new URLSearchParams(location.search)); }
+
+  /** The address of other words. */
+  address(words) {
+    const given = Object.entries(words).filter(([, value]) => value);
+    return given.length ? `?${new URLSearchParams(given)}` : './';
+  }
+
+  /** A link to other words. */
+  link(words, text, given = {}) { return el('a', { href: this.address(words), ...given }, text); }
+
+  /** Says something to people who can't see that it changed. */
+  say(text) { byId('status').textContent = text; }
+
+  /** Shows how far long work has come. */
+  progress(text, done, all) {
+    this.say(text);
+    byId('content').replaceChildren(el('progress', { 'aria-label': text, value: String(done), max: String(all) }));
+  }
+
+  /** Puts a view in place: its title, what it holds, and the focus at its beginning. */
+  put(title, ...parts) {
+    document.title = `${title} - Audit desk`;
+    byId('title').textContent = title;
+    byId('content').replaceChildren(...parts.flat(2).filter((part) => part !== null));
+  }
+
+  /** Shows a refusal in place of a view, with a way to try again. */
+  refuse(error) {
+    this.put('This can\'t be shown', el('div', { class: 'told', role: 'alert' }, el('p', {}, desk.told(error))),
+      el('p', { class: 'buttons' }, el('button', { type: 'button', onclick: () => this.show() }, 'Try again')));
+    this.say('');
+  }
+
+  /** Goes on to other words of the address. */
+  async go(words) {
+    history.pushState(null, '', this.address(words));
+    await this.show();
+    byId('title').focus();
+  }
+
+  /** Shows what the address names. */
+  async show() {
+    this.shown += 1;
+    const mine = this.shown;
+    const { site, page, judge } = this.words;
+    this.trail(site, page);
+    this.say('Asking the desk…');
+    try {
+      const current = () => mine === this.shown;
+      if (!site) showStart(this);
+      else if (!page) await showSite(this, site, current);
+      else if (judge) await showJudging(this, site, page, judge, current);
+      else await showPage(this, site, page, current);
+      if (current()) this.say('');
+    } catch (error) {
+      if (mine === this.shown) this.refuse(error);
+    }
+  }
+
+  /** The way from the desk to what is shown. */
+  trail(site, page) {
+    const steps = [[{}, 'Audit desk'], site ? [{ site }, site] : null, page ? [{ site, page }, page] : null].filter(Boolean);
+    byId('trail').replaceChildren(...steps.map(([words, text]) => el('li', {}, this.link(words, text))));
+  }
+}
+
+/** Follows links within the desk without leaving the page, so that nothing that was typed is lost. */
+function followLinks(app) {
+  document.addEventListener('click', (event) => {
+    const link = event.target.closest('a[href]');
+    if (!link || event.button !== 0 || event.ctrlKey || event.metaKey || event.shiftKey || event.altKey) return;
+    const href = link.getAttribute('href');
+    if (href === '#main') {
+      event.preventDefault();
+      byId('main').focus();
+    } else if (href.startsWith('?') || href === './') {
+      event.preventDefault();
+      app.go(Object.fromEntries(new URLSearchParams(href.replace('./', ''))));
+    }
+  });
+  window.addEventListener('popstate', () => app.show());
+}
+
+try {
+  const { table, caller } = await loadRules();
+  byId('caller').textContent = caller ? `Signed in as ${caller}` : 'Not signed in';
+  const app = new App(table);
+  followLinks(app);
+  await app.show();
+} catch (error) {
+  byId('content').replaceChildren(el('p', { role: 'alert' }, `This page could not start: ${error.message}`));
+}
+document.documentElement.dataset.ready = 'true';

@@ -1,0 +1,78 @@
+/** Asks the desk, and says what it refused. */
+
+const PATIENCE = 300_000;
+
+/** Why a request wasn't done: the desk's refusal, the proxy's, or that nobody answered. */
+export class Refusal extends Error {
+  constructor(status, body) {
+    super(body.refused ?? 'DeskAway');
+    this.status = status;
+    this.body = body;
+  }
+
+  get name() { return this.message; }
+}
+
+const readable = (text) => {
+  try { return JSON.parse(text); } catch { return {}; }
+};
+
+/** The text of an accepted reply; a Refusal otherwise. */
+async function ask(method, path, body) {
+  let reply;
+  let text;
+  try {
+    const sent = body === undefined ? {} : { body: JSON.stringify(body) };
+    reply = await fetch(path, { method, ...sent, cache: 'no-store', redirect: 'error', signal: AbortSignal.timeout(PATIENCE) });
+    text = await reply.text();
+  } catch {
+    throw new Refusal(0, { refused: 'DeskAway' });
+  }
+  if (reply.ok) return text;
+  const refused = readable(text);
+  throw new Refusal(reply.status, refused.refused ? refused : { refused: reply.status === 401 ? 'NoCaller' : 'DeskAway' });
+}
+
+const pagePath = (site, page) => `/sites/${encodeURIComponent(site)}/pages/${encodeURIComponent(page)}`;
+
+export const outcomes = async (site, page) => JSON.parse(await ask('GET', `${pagePath(site, page)}/outcomes`));
+export const snapshot = async (site, page) => JSON.parse(await ask('GET', pagePath(site, page)));
+export const names = async (site, page) => JSON.parse(await ask('GET', `${pagePath(site, page)}/names`)).names;
+export const siteReport = (site) => ask('GET', `/sites/${encodeURIComponent(site)}/report`);
+export const judge = async (site, page, judgement) => JSON.parse(await ask('POST', `${pagePath(site, page)}/judgements`, judgement));
+
+/** The reply, or null where this desk has no such route yet. */
+export async function whereThere(asked) {
+  try {
+    return await asked;
+  } catch (error) {
+    if (error instanceof Refusal && error.name === 'NoRoute') return null;
+    throw error;
+  }
+}
+
+const ROLES = { judge: 'a judge', reader: 'a reader', editor: 'an editor', owner: 'an owner' };
+
+const SENTENCES = {
+  EvidenceMoved: () => 'The page has changed since you opened it: what the rule looks at is not what you saw.',
+  SameHand: () => 'You sent this revision of the page yourself, so somebody else has to judge it.',
+  NotAllowed: ({ needed }) => `You are not allowed to do this on this site: it takes ${ROLES[needed] ?? needed}.`,
+  NoCaller: () => 'You are not signed in, or under a name that the desk does not take. Sign in again, in another tab, and try once more.',
+  NoSite: () => 'There is no such site.',
+  NoPage: () => 'There is no such page.',
+  NoTarget: () => 'The page has changed: the rule has nothing to say of this element any more.',
+  NotOpen: () => 'The rule decides this by itself now, so there is nothing to judge.',
+  OtherSite: () => 'The proxy took this for a request of another site. Open the desk at its own address.',
+  TooManyRequests: () => 'Too many requests at once. Wait a moment, and try again.',
+  BodyTooLarge: () => 'This is too long for the desk.',
+  KeeperFault: () => 'The desk could not reach what it keeps. Nothing was changed. Try again.',
+  OutOfMemory: () => 'The desk had no memory for this. Nothing was changed. Try again.',
+  DeskAway: () => 'The desk is away. Try again in a moment.',
+};
+
+/** What a refusal means, as a sentence. */
+export function told(refusal) {
+  if (!(refusal instanceof Refusal)) return `Something went wrong in this page: ${refusal.message}`;
+  const sentence = SENTENCES[refusal.name];
+  return sentence ? sentence(refusal.body) : `The desk refused it: ${refusal.name}.`;
+}

@@ -1,0 +1,32 @@
+/** The rules, their criteria and what their reasons mean: docs/rules.json. */
+
+export const OUTCOMES = ['failed', 'cantTell', 'passed'];
+export const HEADINGS = { failed: 'Failed', cantTell: 'For a person to judge', passed: 'Passed' };
+
+/** The table of rules, and the name of who signed in, which the proxy says beside it. */
+export async function loadRules() {
+  const reply = await fetch('rules.json');
+  if (!reply.ok) throw new Error(`rules.json: ${reply.status}`);
+  return { table: new Rules(await reply.json()), caller: reply.headers.get('x-caller') ?? '' };
+}
+
+class Rules {
+  constructor(data) {
+    this.data = data;
+    this.byId = new Map(data.rules.map((rule) => [rule.id, rule]));
+  }
+
+  get criteria() { return this.data.criteria; }
+
+  /** The rule of an id; one that isn't known has its id alone. */
+  rule(id) { return this.byId.get(id) ?? { id, name: `Rule ${id}`, criteria: [], reasons: [] }; }
+
+  link(id) { return this.data.rule_page.replace('{id}', id); }
+
+  criterionLink(criterion) { return this.data.criterion_page.replace('{anchor}', criterion.anchor); }
+
+  /** What is said of a reason with its outcome; undefined where nothing is. */
+  advice(outcome) {
+    return this.rule(outcome.rule).reasons.find((one) => one.reason === outcome.reason && one.outcome === outcome.automatic);
+  }
+}
