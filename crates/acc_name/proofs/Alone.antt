@@ -7,7 +7,7 @@ use Rattle.snap_tree.specs.declared.row.Body.TheVariants.{Element, Words}
 use Rattle.snap_tree.specs.declared.row.NodeId.{NodeId}
 use Rattle.snap_tree.specs.declared.row.Row.{Row}
 use Rattle.snap_tree.specs.Trees.{Trees}
-use Rattle.snap_tree.specs.Words.{cut, spaced, tidy}
+use Rattle.texts.specs.Words.{cut, spaced, tidy}
 use Rattle.std.proofs.lemmas.Str.{chars-nil}
 use Rattle.acc_tree.specs.Frames.{under}
 use Rattle.acc_tree.specs.Pages.{role}

@@ -7,7 +7,7 @@ use Rattle.std.specs.Char.{is_whitespace}
 use Rattle.std.specs.List.{list_all}
 use Rattle.std.specs.Str.{IsAscii}
 use Rattle.snap_tree.specs.declared.row.Row.{Row}
-use Rattle.snap_tree.specs.Words.{blank}
+use Rattle.texts.specs.Words.{blank}
 use Rattle.acc_name.specs.Names.{stands_apart, placed}
 
 pub blank_nothing : blank [] ≡ true

@@ -1,7 +1,7 @@
 -- The first clause that isn't blank decides, in parts.
 use Rattle.std.proofs.Common.{◌≡◌, ◌&&◌, not, ℕ, List, [], ◌∷◌, ◌++◌, Bool, true, false, Option, Some, None, IfSome, is_some, unwrap_or, refl, sym, ◌∙◌, ap, subst}
 use Rattle.aria_tables.specs.declared.role.Role.{Role}
-use Rattle.snap_tree.specs.Words.{blank}
+use Rattle.texts.specs.Words.{blank}
 use Rattle.acc_name.specs.declared.named.How.{How}
 use Rattle.acc_name.specs.declared.named.Name.{Name}
 use Rattle.acc_name.specs.declared.named.NameSource.TheVariants as source

@@ -9,7 +9,7 @@ use Rattle.snap_tree.specs.declared.row.Body.TheVariants.{Element, Words}
 use Rattle.snap_tree.specs.declared.row.NodeId.{NodeId}
 use Rattle.snap_tree.specs.declared.row.Row.{Row}
 use Rattle.snap_tree.specs.Trees.{Trees, empty, tree}
-use Rattle.snap_tree.specs.Words.{blank, spaced}
+use Rattle.texts.specs.Words.{blank, spaced}
 use Rattle.acc_tree.specs.declared.above.Above.{Above}
 use Rattle.acc_tree.specs.Frames.{under}
 use Rattle.acc_tree.specs.Roles.{role_at}

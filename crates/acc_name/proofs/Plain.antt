@@ -7,7 +7,7 @@ use Rattle.std.proofs.lemmas.Str.Ascii.{IsAscii-nil, IsAscii-cons}
 use Rattle.std.specs.Char.{is_whitespace}
 use Rattle.std.specs.Int.{is_in_range}
 use Rattle.std.specs.Str.{IsAscii}
-use Rattle.snap_tree.specs.Words.{ended, cut, spaced, tidy}
+use Rattle.texts.specs.Words.{ended, cut, spaced, tidy}
 
 -- whether a byte is a visible character or a space, and no space that follows another
 abbrev pub may_follow : Bool → ℕ → Bool

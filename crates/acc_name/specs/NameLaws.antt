@@ -10,7 +10,7 @@ use Rattle.snap_tree.specs.declared.row.NodeId.{NodeId}
 use Rattle.snap_tree.specs.Labels.{labels_for}
 use Rattle.snap_tree.specs.Rows.{has_number}
 use Rattle.snap_tree.specs.Trees.{Trees, empty, tree}
-use Rattle.snap_tree.specs.Words.{spaced, tidy}
+use Rattle.texts.specs.Words.{spaced, tidy}
 use Rattle.acc_tree.specs.declared.above.Above.{Above}
 use Rattle.acc_tree.specs.declared.attributes.Attribute.TheVariants as attribute
 use Rattle.acc_tree.specs.Frames.{under}

@@ -14,7 +14,7 @@ use Rattle.snap_tree.specs.declared.row.Row.{Row}
 use Rattle.snap_tree.specs.Labels.{labels_for}
 use Rattle.snap_tree.specs.Rows.{has_number}
 use Rattle.snap_tree.specs.Trees.{Trees, empty, tree}
-use Rattle.snap_tree.specs.Words.{blank, spaced, tidy}
+use Rattle.texts.specs.Words.{blank, spaced, tidy}
 use Rattle.acc_tree.specs.declared.above.Above.{Above}
 use Rattle.acc_tree.specs.declared.attributes.Attribute.TheVariants as attribute
 use Rattle.acc_tree.specs.declared.tags.Tag.{Tag}

@@ -5,7 +5,7 @@ use Rattle.std.specs.declared.alloc.Global.{Global}
 use Rattle.aria_tables.specs.declared.role.Role.{Role}
 use Rattle.snap_tree.specs.Trees.{Trees}
 use Rattle.snap_tree.specs.declared.row.Row.{Row}
-use Rattle.snap_tree.specs.Words.{blank}
+use Rattle.texts.specs.Words.{blank}
 use Rattle.acc_tree.specs.declared.above.Above.{Above}
 use Rattle.acc_tree.specs.Seen.{seen_row, seen}
 use Rattle.acc_tree.specs.Sights.{Sight}

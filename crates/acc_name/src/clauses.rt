@@ -1,7 +1,7 @@
 ghost use Rattle.std.specs.Prelude.{◌≡◌, [], ◌∷◌, ◌++◌, ◌&&◌, not, take, drop, option_map, IfOk, OnOk, IfSome, IsCharBoundary, false, unwrap_or};
 ghost use Rattle.std.specs.String.{string_bytes};
 ghost use Rattle.aria_tables.specs.declared.attr.AriaAttr.TheVariants as aria;
-ghost use Rattle.snap_tree.specs.Words.{blank};
+ghost use Rattle.texts.specs.Words.{blank};
 ghost use Rattle.acc_tree.specs.declared.attributes.Attribute.TheVariants as attribute;
 ghost use Rattle.acc_tree.specs.Seen.{seen_row, text_at};
 ghost use Rattle.acc_name.specs.declared.named.NameSource.TheVariants as source;

@@ -1,7 +1,7 @@
 ghost use Rattle.std.specs.Prelude.{◌≡◌, [], Some, IfOk, unwrap_or};
 ghost use Rattle.aria_tables.specs.declared.attr.AriaAttr.TheVariants as aria;
 ghost use Rattle.snap_tree.specs.Labels.{labels_for};
-ghost use Rattle.snap_tree.specs.Words.{words};
+ghost use Rattle.texts.specs.Words.{words};
 ghost use Rattle.acc_tree.specs.References.{found, named_by};
 ghost use Rattle.acc_tree.specs.Seen.{seen_row, seen};
 ghost use Rattle.acc_name.specs.Names.{joined, referred, all_referred, told_of, told_by};

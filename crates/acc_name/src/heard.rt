@@ -1,7 +1,7 @@
 ghost use Rattle.std.specs.Prelude.{◌≡◌, ◌++◌, ◌&&◌, ℕ, List, [], Some, None, true, if◌then◌else◌, option_map, IfOk, OnOk};
 ghost use Rattle.std.specs.Option.{option_or};
 ghost use Rattle.std.specs.String.{string_bytes};
-ghost use Rattle.snap_tree.specs.Words.{blank};
+ghost use Rattle.texts.specs.Words.{blank};
 ghost use Rattle.acc_tree.specs.Seen.{seen_row};
 ghost use Rattle.acc_name.specs.Hosts.{is_captioning};
 ghost use Rattle.acc_name.specs.Names.{stands_apart, placed, is_chosen, joined};

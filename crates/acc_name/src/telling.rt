@@ -1,7 +1,7 @@
 ghost use Rattle.std.specs.Prelude.{◌≡◌, ◌++◌, ◌&&◌, take, drop, option_map, Some, None, if◌then◌else◌, IfOk, OnOk, IfSome, IsUtf8, IsCharBoundary};
 ghost use Rattle.std.specs.Option.{option_or};
 ghost use Rattle.std.specs.String.{string_bytes};
-ghost use Rattle.snap_tree.specs.Words.{blank};
+ghost use Rattle.texts.specs.Words.{blank};
 ghost use Rattle.acc_tree.specs.Seen.{seen_row, seen};
 ghost use Rattle.acc_tree.specs.Sights.{seen_sight};
 ghost use Rattle.acc_name.specs.declared.named.How.TheVariants as how;

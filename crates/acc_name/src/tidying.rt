@@ -1,6 +1,6 @@
 ghost use Rattle.std.specs.Prelude.{◌≡◌, ◌==◌, ◌&&◌, not, IsTrue, IfOk};
 ghost use Rattle.std.specs.Int.{is_in_range};
-ghost use Rattle.snap_tree.specs.Words.{tidy};
+ghost use Rattle.texts.specs.Words.{tidy};
 
 use snap_tree::{OutOfMemory, Text, tidy};
 use std::alloc::Global;

@@ -9,7 +9,8 @@ use Rattle.snap_tree.specs.declared.row.Row.{Row}
 use Rattle.snap_tree.specs.Grown.{is_number}
 use Rattle.snap_tree.specs.Labels.{filled, id_of, first_with_id, is_labelable, is_label, has_for, for_of, labels_naming, labels_by, first_labelable, counts_for, outer_label, labels_with, labels_at, labels_for}
 use Rattle.snap_tree.specs.Lookups.{tagged}
-use Rattle.snap_tree.specs.Rows.{is_html, is_html_body, attribute, is_key, same_folded}
+use Rattle.snap_tree.specs.Rows.{is_html, is_html_body, attribute, is_key}
+use Rattle.texts.specs.Words.{same_folded}
 use Rattle.snap_tree.specs.Spots.{Spot, spot}
 use Rattle.snap_tree.specs.Trees.{Trees, empty, tree, rows_of}
 use Rattle.acc_tree.specs.declared.attributes.Attribute.TheVariants as attribute

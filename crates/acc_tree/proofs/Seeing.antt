@@ -9,8 +9,8 @@ use Rattle.snap_tree.specs.declared.row.Attr.{Attr}
 use Rattle.snap_tree.specs.declared.row.Body.{Body}
 use Rattle.snap_tree.specs.declared.row.Body.TheVariants.{Element, Words}
 use Rattle.snap_tree.specs.declared.row.Row.{Row}
-use Rattle.snap_tree.specs.Rows.{attrs_in, attrs_of, attribute, same_folded, value_of}
-use Rattle.snap_tree.specs.Words.{folded}
+use Rattle.snap_tree.specs.Rows.{attrs_in, attrs_of, attribute, value_of}
+use Rattle.texts.specs.Words.{folded, same_folded}
 use Rattle.acc_tree.specs.declared.attributes.Attribute.{Attribute}
 use Rattle.acc_tree.specs.declared.attributes.Attribute.TheVariants as attribute
 use Rattle.acc_tree.specs.Attributes.{attribute_name, is_aria, is_among, is_looked_at}

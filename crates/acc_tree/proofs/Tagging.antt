@@ -1,7 +1,7 @@
 -- A tag is looked for among those of its length alone.
 use Rattle.std.proofs.Common.{◌≡◌, ℕ, true, false, eqb, List, [], ◌∷◌, length, filter, refl, sym, ap}
 use Rattle.std.specs.List.{find}
-use Rattle.snap_tree.specs.Rows.{same_folded}
+use Rattle.texts.specs.Words.{same_folded}
 use Rattle.aria_tables.proofs.Lengths.{find-filter, same_folded-length, filter_nothing, is_length, unknown_length}
 use Rattle.acc_tree.specs.declared.tags.Tag.{Tag}
 use Rattle.acc_tree.specs.declared.tags.Tag.TheVariants as tag

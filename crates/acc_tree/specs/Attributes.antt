@@ -2,7 +2,7 @@
 use Rattle.std.specs.Prelude.{◌||◌, ℕ, List, [], ◌∷◌, take, codes, Bool}
 use Rattle.std.specs.List.{list_any}
 use Rattle.std.specs.Str.{bytes_eq}
-use Rattle.snap_tree.specs.Words.{folded}
+use Rattle.texts.specs.Words.{folded}
 use Rattle.aria_tables.specs.Attributes.{name_of}
 use Rattle.acc_tree.specs.declared.attributes.Attribute.{Attribute}
 use Rattle.acc_tree.specs.declared.attributes.Attribute.TheVariants as attribute

@@ -9,7 +9,7 @@ use Rattle.aria_tables.specs.Attributes.{attr_of, is_global}
 use Rattle.aria_tables.specs.Roles.{role_of}
 use Rattle.snap_tree.specs.declared.row.Facts.{Facts}
 use Rattle.snap_tree.specs.declared.row.Row.{Row}
-use Rattle.snap_tree.specs.Words.{words}
+use Rattle.texts.specs.Words.{words}
 use Rattle.acc_tree.specs.declared.above.Above.{Above}
 use Rattle.acc_tree.specs.declared.attributes.Attribute.TheVariants as attribute
 use Rattle.acc_tree.specs.declared.inputs.InputType.{InputType}

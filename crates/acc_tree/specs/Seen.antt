@@ -6,8 +6,8 @@ use Rattle.snap_tree.specs.declared.row.Body.{Body}
 use Rattle.snap_tree.specs.declared.row.Body.TheVariants.{Element, Words}
 use Rattle.snap_tree.specs.declared.row.Row.{Row}
 use Rattle.snap_tree.specs.Trees.{Trees, empty, tree}
-use Rattle.snap_tree.specs.Rows.{attrs_of, attribute, same_folded}
-use Rattle.snap_tree.specs.Words.{blank}
+use Rattle.snap_tree.specs.Rows.{attrs_of, attribute}
+use Rattle.texts.specs.Words.{blank, same_folded}
 use Rattle.acc_tree.specs.declared.attributes.Attribute.{Attribute}
 use Rattle.acc_tree.specs.Attributes.{attribute_name, is_aria, is_looked_at}
 

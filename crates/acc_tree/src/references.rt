@@ -1,6 +1,6 @@
 ghost use Rattle.std.specs.Prelude.{◌≡◌, [], ◌∷◌, ◌<◌, length, MatchOption, IfSome};
 ghost use Rattle.snap_tree.specs.Labels.{first_with_id};
-ghost use Rattle.snap_tree.specs.Words.{words};
+ghost use Rattle.texts.specs.Words.{words};
 ghost use Rattle.acc_tree.specs.Seen.{seen};
 ghost use Rattle.acc_tree.specs.References.{found};
 

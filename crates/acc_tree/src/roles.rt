@@ -1,7 +1,7 @@
 ghost use Rattle.std.specs.Prelude.{◌≡◌};
 ghost use Rattle.std.specs.Option.{option_copied};
 ghost use Rattle.aria_tables.specs.Roles.{role_of};
-ghost use Rattle.snap_tree.specs.Words.{words};
+ghost use Rattle.texts.specs.Words.{words};
 ghost use Rattle.acc_tree.specs.Seen.{seen_row};
 ghost use Rattle.acc_tree.specs.Roles.{first_known, named_role, is_presentational, is_focusable, is_global_name};
 ghost use Rattle.acc_tree.specs.Roles.{has_global, conflicts, unless_conflicting, explicit, is_labelled};

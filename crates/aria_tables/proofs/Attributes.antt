@@ -1,7 +1,7 @@
 -- The names of attributes: each is found by its own, and among those of its length already.
 use Rattle.std.proofs.Common.{◌≡◌, ℕ, true, false, eqb, List, [], ◌∷◌, length, filter, Some, refl, sym, ap}
 use Rattle.std.specs.List.{find}
-use Rattle.snap_tree.specs.Rows.{same_folded}
+use Rattle.texts.specs.Words.{same_folded}
 use Rattle.aria_tables.specs.declared.attr.AriaAttr.{AriaAttr}
 use Rattle.aria_tables.specs.declared.attr.AriaAttr.TheVariants.{Activedescendant}
 use Rattle.aria_tables.specs.Attributes.{name_of, attributes, attr_of}

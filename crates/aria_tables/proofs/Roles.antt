@@ -5,7 +5,7 @@ use Rattle.std.proofs.lemmas.Option.{same_Some}
 use Rattle.std.proofs.lemmas.Slice.Eq.{bytes_eq-Decides}
 use Rattle.std.specs.Cmp.{both_ways}
 use Rattle.std.specs.List.{find}
-use Rattle.snap_tree.specs.Rows.{same_folded}
+use Rattle.texts.specs.Words.{same_folded}
 use Rattle.aria_tables.specs.declared.role.Role.{Role}
 use Rattle.aria_tables.specs.declared.role.Role.TheVariants.{Alert}
 use Rattle.aria_tables.specs.contracts.role.Role.{the_type}

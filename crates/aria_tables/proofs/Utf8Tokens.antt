@@ -3,7 +3,7 @@ use Rattle.std.proofs.Common.{◌≡◌, ℕ, List, [], cond, sym, ap, ◌∙◌
 use Rattle.std.proofs.lemmas.Bool.{false_from_ne_true}
 use Rattle.std.proofs.lemmas.Str.{chars-nil, is_utf8-from_IsUtf8, IsUtf8-from_is_utf8}
 use Rattle.std.specs.Str.{IsUtf8}
-use Rattle.snap_tree.specs.Words.{cut, words}
+use Rattle.texts.specs.Words.{cut, words}
 use Rattle.aria_tables.specs.Tokens.{tokens}
 
 pub tokens_of_text : (value : List ℕ) → IsUtf8 value → words value ≡ tokens value

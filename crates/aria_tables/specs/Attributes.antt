@@ -1,7 +1,7 @@
 -- The known states and properties: their names, and which of them are global or refer to elements.
 use Rattle.std.specs.Prelude.{ℕ, List, [], ◌∷◌, codes, Bool, true, false, Option}
 use Rattle.std.specs.List.{find, list_any}
-use Rattle.snap_tree.specs.Rows.{same_folded}
+use Rattle.texts.specs.Words.{same_folded}
 use Rattle.aria_tables.specs.declared.attr.AriaAttr.{AriaAttr}
 use Rattle.aria_tables.specs.declared.attr.AriaAttr.TheVariants.{Activedescendant, Atomic, Autocomplete, Busy, Checked, Colcount, Colindex, Colspan, Controls, Current, Describedby, Details, Disabled, Dropeffect, Errormessage, Expanded, Flowto, Grabbed, Haspopup, Hidden, Invalid, Keyshortcuts, Label, Labelledby, Level, Live, Modal, Multiline, Multiselectable, Orientation, Owns, Placeholder, Posinset, Pressed, Readonly, Relevant, Required, Roledescription, Rowcount, Rowindex, Rowspan, Selected, Setsize, Sort, Valuemax, Valuemin, Valuenow, Valuetext}
 

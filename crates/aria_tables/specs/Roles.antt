@@ -2,7 +2,7 @@
 use Rattle.std.specs.Prelude.{ℕ, List, [], ◌∷◌, codes, Bool, true, false, Option}
 use Rattle.std.specs.List.{find, list_any}
 use Rattle.std.specs.Str.{bytes_eq}
-use Rattle.snap_tree.specs.Rows.{same_folded}
+use Rattle.texts.specs.Words.{same_folded}
 use Rattle.aria_tables.specs.declared.role.Role.{Role}
 use Rattle.aria_tables.specs.declared.role.Role.TheVariants.{Alert, Alertdialog, Application, Article, Banner, Blockquote, Button, Caption, Cell, Checkbox, Code, Columnheader, Combobox, Complementary, Contentinfo, Definition, Deletion, Dialog, Directory, DocumentRole, Emphasis, Feed, Figure, Form, Generic, Grid, Gridcell, Group, Heading, Img, Insertion, Link, ListRole, Listbox, Listitem, Log, Main, Marquee, Math, Menu, Menubar, Menuitem, Menuitemcheckbox, Menuitemradio, Meter, Navigation, NoneRole, Note, OptionRole, Paragraph, Presentation, Progressbar, Radio, Radiogroup, Region, RowRole, Rowgroup, Rowheader, Scrollbar, Search, Searchbox, Separator, Slider, Spinbutton, Status, Strong, Subscript, Superscript, Switch, Tab, TableRole, Tablist, Tabpanel, Term, Textbox, Time, Timer, Toolbar, Tooltip, TreeRole, Treegrid, Treeitem}
 

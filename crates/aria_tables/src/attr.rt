@@ -1,6 +1,6 @@
 ghost use Rattle.std.specs.Prelude.{◌≡◌, ◌==◌, filter, length};
 ghost use Rattle.std.specs.List.{find};
-ghost use Rattle.snap_tree.specs.Rows.{same_folded};
+ghost use Rattle.texts.specs.Words.{same_folded};
 ghost use Rattle.aria_tables.specs.Attributes.{name_of, attributes, attr_of, is_later, is_global, is_reference};
 
 use crate::word::is_word;

@@ -1,6 +1,6 @@
 ghost use Rattle.std.specs.Prelude.{◌≡◌, ℕ, List, Some};
 ghost use Rattle.std.specs.Str.{IsUtf8};
-ghost use Rattle.snap_tree.specs.Words.{words};
+ghost use Rattle.texts.specs.Words.{words};
 ghost use Rattle.aria_tables.specs.declared.role.Role.{Role};
 ghost use Rattle.aria_tables.specs.declared.attr.AriaAttr.{AriaAttr};
 ghost use Rattle.aria_tables.specs.Roles.{word_of, role_of};

@@ -1,6 +1,6 @@
 ghost use Rattle.std.specs.Prelude.{◌≡◌, ◌==◌, filter, length};
 ghost use Rattle.std.specs.List.{find};
-ghost use Rattle.snap_tree.specs.Rows.{same_folded};
+ghost use Rattle.texts.specs.Words.{same_folded};
 ghost use Rattle.aria_tables.specs.Roles.{word_of, roles, role_of, same_role, is_one_of, named_from_content, is_landmark};
 
 use crate::word::is_word;

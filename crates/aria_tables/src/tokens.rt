@@ -1,9 +1,9 @@
 ghost use Rattle.std.specs.Prelude.{◌≡◌, ◌==◌, length, nat_lt};
-ghost use Rattle.snap_tree.specs.Words.{words};
+ghost use Rattle.texts.specs.Words.{words};
 ghost use Rattle.aria_tables.specs.Tokens.{tokens};
 
-use snap_tree::next_word;
 use std::str;
+use texts::next_word;
 
 /// A value as text; bytes that are no UTF-8 have no token, like the empty text.
 #[tactic(auto, using(crate::proofs::Utf8Tokens::tokens_of_text, crate::proofs::Utf8Tokens::no_tokens))]

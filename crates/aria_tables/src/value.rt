@@ -8,7 +8,7 @@ use crate::attr::AriaAttr;
 use crate::number::{is_number, is_whole_number};
 use crate::tokens::{has_token, is_one_token, text_of};
 use crate::word::is_among;
-use snap_tree::next_word;
+use texts::next_word;
 
 /// The kinds of values (WAI-ARIA 1.2, "Value"). Words and tokens compare ASCII case-insensitively, and a
 /// value compares whole. Tokens are the parts between runs of Unicode's White_Space.

@@ -1,6 +1,6 @@
 ghost use Rattle.std.specs.Prelude.{◌≡◌};
 ghost use Rattle.std.specs.List.{list_any};
-ghost use Rattle.snap_tree.specs.Rows.{same_folded};
+ghost use Rattle.texts.specs.Words.{same_folded};
 
 /// Whether a value is this word, which compares ASCII case-insensitively.
 pub(crate) fn is_word(value: &[u8], word: &str) -> bool

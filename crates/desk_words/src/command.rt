@@ -6,8 +6,8 @@ ghost use Rattle.desk_words.specs.Words.{command_in, audit_in, serve_in, serving
 use crate::parsing::{parsed, texts_of};
 use clap::builder::ValueParser;
 use clap::{Arg, ArgAction, ArgMatches};
-use snap_tree::{OutOfMemory, Text};
 use std::alloc::{AllocError, Global};
+use texts::{OutOfMemory, Text};
 
 /// The most connections that one `serve` takes.
 pub const MOST_CONNECTIONS: u64 = 1_000_000;

@@ -4,8 +4,8 @@ ghost use Rattle.desk_words.specs.Words.{IsPlainApp, matched};
 
 use clap::error::ErrorKind;
 use clap::{ArgMatches, Command};
-use snap_tree::{OutOfMemory, Text};
 use std::alloc::{AllocError, Global};
+use texts::{OutOfMemory, Text};
 
 // The same words, as `clap` reads them.
 pub(crate) fn texts_of<'a>(alloc: Global, words: &'a [Text]) -> Result<Vec<&'a str>, AllocError>

@@ -1,7 +1,7 @@
 use super::*;
-use snap_tree::Text;
 use std::alloc::{AllocError, Global};
 use std::test::Fail;
+use texts::Text;
 
 fn texts(alloc: Global, words: &str) -> Result<Vec<Text>, AllocError> {
     let mut texts = Vec::new(alloc);

@@ -5,7 +5,7 @@ use Rattle.std.specs.List.{find, list_any, list_all}
 use Rattle.std.specs.Char.{is_ascii_digit}
 use Rattle.std.specs.Str.{bytes_eq}
 use Rattle.std.specs.Str.Parse.{digits_value}
-use Rattle.snap_tree.specs.Rows.{same_folded}
+use Rattle.texts.specs.Words.{same_folded}
 use Rattle.http_messages.specs.declared.fault.HeadFault.{HeadFault}
 use Rattle.http_messages.specs.declared.fault.HeadFault.TheVariants.{BadHead, TransferEncoding, LengthRequired, BodyTooLarge}
 use Rattle.http_messages.specs.declared.head.Version.{Version}

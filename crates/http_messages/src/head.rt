@@ -1,9 +1,9 @@
 ghost use Rattle.std.specs.Prelude.{◌≡◌, count_by};
 ghost use Rattle.std.specs.Option.{option_copied};
 ghost use Rattle.http_messages.specs.Framing.{is_named, first_named, only_named, all_are, has_field, some_is, is_old, closes};
-ghost use Rattle.snap_tree.specs.Rows.{same_folded};
+ghost use Rattle.texts.specs.Words.{same_folded};
 
-use snap_tree::List;
+use texts::List;
 
 /// The versions of HTTP that a head may state.
 #[derive(Clone, Copy, Debug, PartialEq, Eq)]

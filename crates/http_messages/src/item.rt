@@ -3,7 +3,7 @@ ghost use Rattle.http_messages.specs.Items.{refused};
 
 use crate::fault::HeadFault;
 use crate::head::Head;
-use snap_tree::List;
+use texts::List;
 
 /// A whole request: its head, and the bytes of its body.
 #[derive(Debug, Drop)]

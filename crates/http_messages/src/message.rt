@@ -9,9 +9,9 @@ use crate::item::{Item, Message, Sent};
 use crate::parse::read_head;
 use crate::reading::{Got, ReadFault, read_body};
 use links::Link;
-use snap_tree::{List, OutOfMemory};
 use std::alloc::Global;
 use std::mem;
+use texts::{List, OutOfMemory};
 
 // Reads the message whose head block is held, and so many bytes long.
 pub(crate) fn read_message<L: Link>(

@@ -7,8 +7,8 @@ ghost use Rattle.http_messages.specs.Parsing.{field_at};
 use crate::head::{Field, Head, Version};
 use httparse::Status;
 use httparse::spans::{EMPTY_HEADER_SPAN, HeaderSpan, RequestSpans, parse_request};
-use snap_tree::{List, OutOfMemory};
 use std::alloc::Global;
+use texts::{List, OutOfMemory};
 
 /// The most fields of a head.
 pub const MOST_FIELDS: usize = 64;

@@ -8,8 +8,8 @@ use crate::fault::HeadFault;
 use crate::item::Item;
 use crate::message::read_message;
 use links::{Failed, Link};
-use snap_tree::OutOfMemory;
 use std::alloc::{AllocError, Global};
+use texts::OutOfMemory;
 
 // The most bytes that one read asks for.
 pub(crate) const PIECE: usize = 4_096;

@@ -5,8 +5,8 @@ ghost use Rattle.http_routes.specs.Named.{IsNamed};
 use crate::place::{Place, name_of, place_of};
 use http_messages::Head;
 use request_faults::RequestFault;
-use snap_tree::{OutOfMemory, Text};
 use std::alloc::Global;
+use texts::{OutOfMemory, Text};
 
 /// The methods that routes have.
 #[derive(Clone, Copy, Debug, PartialEq, Eq)]

@@ -6,9 +6,9 @@ ghost use Rattle.http_routes.specs.Places.{place_of, sites, below_site, members,
 
 use crate::segments::{before, cut, is_end};
 use keep_core::is_name;
-use snap_tree::{OutOfMemory, Text};
 use std::alloc::Global;
 use std::str::from_utf8;
+use texts::{OutOfMemory, Text};
 
 /// What a path names.
 #[derive(Debug, Drop)]

@@ -10,10 +10,10 @@ use crate::failed::Failed;
 use crate::mem_link::MemLink;
 use counts::next;
 use named_calls::is_named;
-use snap_tree::{List, OutOfMemory};
 use std::alloc::Global;
 use std::marker::Model;
 use std::vec::IntoIter;
+use texts::{List, OutOfMemory};
 
 /// A door in memory, with its log. It takes no memory after it is made.
 #[derive(Drop)]

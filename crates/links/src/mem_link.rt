@@ -6,9 +6,9 @@ use crate::failed::Failed;
 use crate::link::Link;
 use counts::next;
 use named_calls::is_named;
-use snap_tree::{List, OutOfMemory};
 use std::alloc::Global;
 use std::marker::Model;
+use texts::{List, OutOfMemory};
 
 /// A link in memory. It takes no memory after it is made.
 #[derive(Drop)]

@@ -2,10 +2,10 @@ ghost use Rattle.std.specs.Prelude.{◌≡◌, None, IfOk};
 ghost use Rattle.links.specs.Memory.{IsUntouchedLink};
 
 use crate::{Door, Failed, Heard, Link, MemDoor, MemLink, write_all};
-use snap_tree::{List, OutOfMemory};
 use std::alloc::Global;
 use std::process::Abort;
 use std::test::Fail;
+use texts::{List, OutOfMemory};
 
 fn list<T: Copy>(alloc: Global, items: &[T]) -> Result<List<T>, OutOfMemory> {
     Ok(List::from_vec(Vec::from_slice(alloc, items)?))

@@ -2,8 +2,8 @@ ghost use Rattle.std.specs.Prelude.{◌≡◌, ℕ, List};
 ghost use Rattle.named_rows.specs.ByName.{names_cmp, IsInOrder};
 ghost use Rattle.named_rows.specs.Placed.{IsPlace};
 
-use snap_tree::Text;
 use std::cmp::Ordering;
+use texts::Text;
 
 /// A row that has a name.
 pub trait Named: Drop {

@@ -5,9 +5,9 @@ ghost use Rattle.named_rows.specs.ByName.{at, put_row, put_rows, take_row, IsInO
 ghost use Rattle.named_rows.specs.Placed.{IsPlace};
 
 use crate::place::{Named, Place, place_of};
-use snap_tree::{OutOfMemory, Text};
 use std::alloc::Global;
 use std::marker::Model;
+use texts::{OutOfMemory, Text};
 
 /// A list of rows that have a name. Contracts see it as the list of the rows. Looking a name up, and what
 /// changes rows by their names, ask that they stand in byte order of their names, and keep it.

@@ -1,10 +1,10 @@
 ghost use Rattle.std.specs.Prelude.{◌≡◌, map, IfOk};
 
 use super::*;
-use snap_tree::{OutOfMemory, Text};
 use std::alloc::Global;
 use std::process::Abort;
 use std::test::Fail;
+use texts::{OutOfMemory, Text};
 
 #[derive(Drop)]
 struct Line {

@@ -6,7 +6,7 @@ use Rattle.snap_tree.specs.declared.row.NodeId.{NodeId}
 use Rattle.snap_tree.specs.declared.row.Attr.{Attr}
 use Rattle.snap_tree.specs.declared.row.Row.{Row}
 use Rattle.snap_tree.specs.Trees.{Document}
-use Rattle.snap_tree.specs.Words.{blank, words}
+use Rattle.texts.specs.Words.{blank, words}
 use Rattle.aria_tables.specs.declared.attr.AriaAttr.{AriaAttr}
 use Rattle.aria_tables.specs.Attributes.{attr_of, is_reference}
 use Rattle.aria_tables.specs.Values.{value_ok}

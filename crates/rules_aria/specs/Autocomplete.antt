@@ -2,9 +2,8 @@
 use Rattle.std.specs.Prelude.{◌&&◌, ◌||◌, not, ℕ, List, [], ◌∷◌, codes, Bool, true, false, if◌then◌else◌, Option, Some, None, option_and_then}
 use Rattle.snap_tree.specs.declared.row.NodeId.{NodeId}
 use Rattle.snap_tree.specs.declared.row.Row.{Row}
-use Rattle.snap_tree.specs.Rows.{same_folded}
 use Rattle.snap_tree.specs.Trees.{Document}
-use Rattle.snap_tree.specs.Words.{blank, words}
+use Rattle.texts.specs.Words.{blank, words, same_folded}
 use Rattle.aria_tables.specs.declared.attr.AriaAttr.TheVariants as aria
 use Rattle.aria_tables.specs.Words.{is_among}
 use Rattle.acc_tree.specs.declared.above.Above.{Above}

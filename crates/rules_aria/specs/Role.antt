@@ -5,7 +5,7 @@ use Rattle.std.specs.List.{list_any}
 use Rattle.snap_tree.specs.declared.row.NodeId.{NodeId}
 use Rattle.snap_tree.specs.declared.row.Row.{Row}
 use Rattle.snap_tree.specs.Trees.{Document}
-use Rattle.snap_tree.specs.Words.{blank, words}
+use Rattle.texts.specs.Words.{blank, words}
 use Rattle.aria_tables.specs.Roles.{role_of}
 use Rattle.acc_tree.specs.declared.above.Above.{Above}
 use Rattle.acc_tree.specs.declared.attributes.Attribute.TheVariants as attribute

@@ -1,5 +1,5 @@
 ghost use Rattle.std.specs.Prelude.{◌≡◌, IfOk};
-ghost use Rattle.snap_tree.specs.Words.{words};
+ghost use Rattle.texts.specs.Words.{words};
 ghost use Rattle.aria_tables.specs.Words.{is_among};
 ghost use Rattle.acc_tree.specs.Seen.{seen_row};
 ghost use Rattle.acc_tree.specs.Tags.{html_tag};

@@ -7,7 +7,7 @@ use Rattle.snap_tree.specs.declared.row.Body.TheVariants.{Element, Words}
 use Rattle.snap_tree.specs.declared.row.Row.{Row}
 use Rattle.snap_tree.specs.Rows.{is_html, is_html_body}
 use Rattle.snap_tree.specs.Trees.{Trees, empty, tree, rows_of}
-use Rattle.snap_tree.specs.Words.{tidy}
+use Rattle.texts.specs.Words.{tidy}
 use Rattle.acc_tree.specs.Seen.{seen_row, seen_body, seen}
 use Rattle.acc_tree.proofs.Finding.{rows_seen}
 use Rattle.rules_page.specs.LanguageOfParts.{is_filled, is_shown_text, shows_text}

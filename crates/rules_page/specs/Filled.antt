@@ -1,6 +1,6 @@
 -- What is found where a text is expected that isn't blank.
 use Rattle.std.specs.Prelude.{ℕ, List, if◌then◌else◌, Option, Some, None}
-use Rattle.snap_tree.specs.Words.{blank}
+use Rattle.texts.specs.Words.{blank}
 use Rattle.rule_core.specs.declared.reason.Reason.{Reason}
 use Rattle.rule_core.specs.declared.finding.Finding.{Finding}
 use Rattle.rule_core.specs.Findings.{met, failed}

@@ -8,7 +8,7 @@ use Rattle.snap_tree.specs.declared.row.NodeId.{NodeId}
 use Rattle.snap_tree.specs.declared.row.Row.{Row}
 use Rattle.snap_tree.specs.Rows.{is_html_space}
 use Rattle.snap_tree.specs.Trees.{Trees, Document, rows_of}
-use Rattle.snap_tree.specs.Words.{blank}
+use Rattle.texts.specs.Words.{blank}
 use Rattle.acc_tree.specs.declared.attributes.Attribute.TheVariants as attribute
 use Rattle.acc_tree.specs.Seen.{attr, has}
 use Rattle.acc_tree.specs.Sights.{Sight}

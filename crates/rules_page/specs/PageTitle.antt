@@ -5,7 +5,7 @@ use Rattle.snap_tree.specs.declared.row.NodeId.{NodeId}
 use Rattle.snap_tree.specs.declared.row.Body.{Body}
 use Rattle.snap_tree.specs.declared.row.Body.TheVariants.{Element, Words}
 use Rattle.snap_tree.specs.Trees.{Trees, empty, tree, Document}
-use Rattle.snap_tree.specs.Words.{tidy}
+use Rattle.texts.specs.Words.{tidy}
 use Rattle.snap_tree.specs.Rows.{is_html}
 use Rattle.acc_tree.specs.Seen.{seen}
 use Rattle.rule_core.specs.declared.info.RuleInfo.{RuleInfo}

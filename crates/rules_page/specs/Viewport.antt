@@ -5,7 +5,8 @@ use Rattle.std.specs.Option.{is_some, option_or, option_map_or}
 use Rattle.std.specs.Str.{trim}
 use Rattle.snap_tree.specs.declared.row.NodeId.{NodeId}
 use Rattle.snap_tree.specs.declared.row.Row.{Row}
-use Rattle.snap_tree.specs.Rows.{is_html, same_folded}
+use Rattle.snap_tree.specs.Rows.{is_html}
+use Rattle.texts.specs.Words.{same_folded}
 use Rattle.snap_tree.specs.Trees.{Document}
 use Rattle.acc_tree.specs.declared.attributes.Attribute.TheVariants as attribute
 use Rattle.acc_tree.specs.Numbers.{is_digits, whole_number}

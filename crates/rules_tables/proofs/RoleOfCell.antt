@@ -8,8 +8,8 @@ use Rattle.snap_tree.specs.declared.row.Body.{Body}
 use Rattle.snap_tree.specs.declared.row.Body.TheVariants.{Element, Words}
 use Rattle.snap_tree.specs.declared.row.Row.{Row}
 use Rattle.snap_tree.specs.declared.row.Space.TheVariants.{Html, Svg, Other}
-use Rattle.snap_tree.specs.Rows.{is_html, is_html_body, same_folded}
-use Rattle.snap_tree.specs.Words.{folded}
+use Rattle.snap_tree.specs.Rows.{is_html, is_html_body}
+use Rattle.texts.specs.Words.{folded, same_folded}
 use Rattle.aria_tables.specs.declared.role.Role.{Role}
 use Rattle.aria_tables.specs.declared.role.Role.TheVariants as role
 use Rattle.acc_tree.specs.declared.above.Above.{Above}

@@ -8,8 +8,8 @@ use Rattle.snap_tree.specs.declared.row.Body.{Body}
 use Rattle.snap_tree.specs.declared.row.Body.TheVariants.{Element, Words}
 use Rattle.snap_tree.specs.declared.row.Row.{Row}
 use Rattle.snap_tree.specs.declared.row.Space.TheVariants.{Html, Svg, Other}
-use Rattle.snap_tree.specs.Rows.{is_html, is_html_body, same_folded}
-use Rattle.snap_tree.specs.Words.{folded}
+use Rattle.snap_tree.specs.Rows.{is_html, is_html_body}
+use Rattle.texts.specs.Words.{folded, same_folded}
 use Rattle.acc_tree.specs.declared.tags.Tag.{Tag}
 use Rattle.acc_tree.specs.declared.tags.Tag.TheVariants as tag
 use Rattle.acc_tree.specs.Frames.{is_table}

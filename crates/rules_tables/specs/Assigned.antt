@@ -8,7 +8,7 @@ use Rattle.aria_tables.specs.declared.role.Role.TheVariants as role
 use Rattle.snap_tree.specs.declared.row.NodeId.{NodeId}
 use Rattle.snap_tree.specs.declared.row.Row.{Row}
 use Rattle.snap_tree.specs.Rows.{has_number}
-use Rattle.snap_tree.specs.Words.{words}
+use Rattle.texts.specs.Words.{words}
 use Rattle.acc_tree.specs.declared.above.Above.{Above}
 use Rattle.acc_tree.specs.declared.attributes.Attribute.TheVariants as attribute
 use Rattle.acc_tree.specs.Roles.{explicit, role_at, heads_rows}

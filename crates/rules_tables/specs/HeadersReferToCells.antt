@@ -6,7 +6,7 @@ use Rattle.snap_tree.specs.declared.row.Row.{Row}
 use Rattle.snap_tree.specs.Labels.{id_of}
 use Rattle.snap_tree.specs.Rows.{has_number, is_html, is_key}
 use Rattle.snap_tree.specs.Trees.{Trees, empty, tree, Document}
-use Rattle.snap_tree.specs.Words.{words}
+use Rattle.texts.specs.Words.{words}
 use Rattle.acc_tree.specs.declared.above.Above.{Above}
 use Rattle.acc_tree.specs.declared.attributes.Attribute.TheVariants as attribute
 use Rattle.acc_tree.specs.Inclusion.{exposed}

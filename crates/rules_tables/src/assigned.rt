@@ -1,7 +1,7 @@
 ghost use Rattle.std.specs.Prelude.{◌≡◌, Some};
 ghost use Rattle.std.specs.List.{list_any};
 ghost use Rattle.std.specs.Str.{bytes_eq};
-ghost use Rattle.snap_tree.specs.Words.{words};
+ghost use Rattle.texts.specs.Words.{words};
 ghost use Rattle.acc_tree.specs.Seen.{seen_row};
 ghost use Rattle.rules_tables.specs.Assigned.{heads_columns, by_scope, by_role, direction_of};
 ghost use Rattle.rules_tables.specs.Assigned.{goes_down, goes_right, is_below, is_right, is_led_to};

@@ -1,7 +1,7 @@
 ghost use Rattle.std.specs.Prelude.{◌≡◌, Some, option_and_then, IsTrue, IfOk};
 ghost use Rattle.snap_tree.specs.Labels.{id_of};
 ghost use Rattle.snap_tree.specs.Rows.{is_key};
-ghost use Rattle.snap_tree.specs.Words.{words};
+ghost use Rattle.texts.specs.Words.{words};
 ghost use Rattle.acc_tree.specs.Seen.{seen_row, seen};
 ghost use Rattle.rules_tables.specs.HeadersReferToCells.{is_other_named, refers_inside, IsCellOf, refer_inside};
 ghost use Rattle.rules_tables.specs.HeadersReferToCells.{headers_finding, is_headers_target, headers_verdict};

@@ -2,7 +2,7 @@
 use Rattle.std.proofs.Common.{◌≡◌, ℕ, suc, ◌+◌, ◌-◌, ◌<◌, ◌≤◌, List, [], ◌∷◌, ◌++◌, length, get_or, set, Bool, true, false, Some, None, refl, ap, subst, arith}
 use Rattle.std.specs.List.{remove}
 use Rattle.snap_tree.specs.declared.row.Attr.{Attr}
-use Rattle.snap_tree.specs.Rows.{same_folded}
+use Rattle.texts.specs.Words.{same_folded}
 use Rattle.snap_edit.specs.Attrs.{attrs_with, attrs_without}
 use Rattle.snap_edit.specs.AttrPlaces.{attr_place}
 

@@ -13,7 +13,8 @@ use Rattle.snap_tree.specs.declared.fault.TreeFault.{TreeFault}
 use Rattle.snap_tree.specs.declared.fault.TreeFault.TheVariants.{ReferenceWeight}
 use Rattle.snap_tree.specs.Trees.{Trees, empty, tree, rows_of}
 use Rattle.snap_tree.specs.Grown.{grown}
-use Rattle.snap_tree.specs.Rows.{has_number, is_text, same_folded}
+use Rattle.snap_tree.specs.Rows.{has_number, is_text}
+use Rattle.texts.specs.Words.{same_folded}
 use Rattle.snap_tree.specs.Spots.{Spot, spot, number_of}
 use Rattle.snap_tree.specs.Weight.{reference_weight}
 use Rattle.snap_tree.specs.Faults.{tree_fault}

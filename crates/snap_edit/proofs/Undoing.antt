@@ -6,7 +6,7 @@ use Rattle.std.proofs.lemmas.Slice.Eq.{bytes_eq-Decides}
 use Rattle.std.specs.Option.{option_map, option_or, IfSome}
 use Rattle.std.specs.List.{find, list_any}
 use Rattle.std.specs.Str.{bytes_eq}
-use Rattle.snap_tree.specs.Words.{folded}
+use Rattle.texts.specs.Words.{folded, same_folded}
 use Rattle.snap_tree.specs.declared.row.NodeId.{NodeId}
 use Rattle.snap_tree.specs.declared.row.Row.{Row}
 use Rattle.snap_tree.specs.declared.row.Attr.{Attr}
@@ -15,7 +15,7 @@ use Rattle.snap_tree.specs.declared.row.Body.TheVariants.{Element, Words}
 use Rattle.snap_tree.specs.declared.fault.TreeFault.{TreeFault}
 use Rattle.snap_tree.specs.Trees.{Trees, empty, tree, rows_of}
 use Rattle.snap_tree.specs.Grown.{grown}
-use Rattle.snap_tree.specs.Rows.{has_number, is_text, attribute, attrs_in, attrs_of, same_folded}
+use Rattle.snap_tree.specs.Rows.{has_number, is_text, attribute, attrs_in, attrs_of}
 use Rattle.snap_tree.specs.Spots.{Spot, spot, spot_in}
 use Rattle.snap_tree.specs.Faults.{tree_fault}
 use Rattle.snap_tree.proofs.Growth.{rows_of_grown}

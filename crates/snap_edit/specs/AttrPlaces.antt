@@ -1,7 +1,7 @@
 -- Where an attribute stands.
 use Rattle.std.specs.Prelude.{ℕ, ◌+◌, List, [], ◌∷◌, if◌then◌else◌, Option, Some, None}
 use Rattle.snap_tree.specs.declared.row.Attr.{Attr}
-use Rattle.snap_tree.specs.Rows.{same_folded}
+use Rattle.texts.specs.Words.{same_folded}
 
 -- the place of the first attribute of this name, counted from `from`
 abbrev pub attr_place : ℕ → List ℕ → List Attr → Option ℕ

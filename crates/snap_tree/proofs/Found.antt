@@ -9,7 +9,7 @@ use Rattle.snap_tree.specs.declared.row.Body.{Body}
 use Rattle.snap_tree.specs.declared.row.Body.TheVariants.{Element, Words}
 use Rattle.snap_tree.specs.declared.row.Space.TheVariants.{Html, Svg, Other}
 use Rattle.snap_tree.specs.declared.groups.Key.TheVariants.{Tag}
-use Rattle.snap_tree.specs.Words.{folded}
+use Rattle.texts.specs.Words.{folded}
 use Rattle.snap_tree.specs.Rows.{is_html, is_html_body, is_key}
 use Rattle.snap_tree.specs.Places.{place_from}
 use Rattle.snap_tree.specs.Groups.{keyed, tag_in}

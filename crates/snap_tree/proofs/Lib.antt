@@ -1,7 +1,6 @@
 pub mod Growth
 pub mod Cuts
 pub mod EachRow
-pub mod Wording
 pub mod Opening
 pub mod Entering
 pub mod Sized

@@ -8,7 +8,8 @@ use Rattle.snap_tree.specs.declared.row.Attr.{Attr}
 use Rattle.snap_tree.specs.declared.row.Body.{Body}
 use Rattle.snap_tree.specs.declared.row.Body.TheVariants.{Element, Words}
 use Rattle.snap_tree.specs.declared.row.Row.{Row}
-use Rattle.snap_tree.specs.Rows.{attrs_in, attrs_of, same_folded, is_long, is_empty, has_long, has_double, has_empty, own_fault}
+use Rattle.snap_tree.specs.Rows.{attrs_in, attrs_of, is_long, is_empty, has_long, has_double, has_empty, own_fault}
+use Rattle.texts.specs.Words.{same_folded}
 use Rattle.snap_tree.specs.WellRow.{IsWellAttr, IsWellBody, IsWellRow}
 use Rattle.snap_tree.specs.declared.limits.TheConstants.{MOST_ATTRS}
 

@@ -11,7 +11,7 @@ use Rattle.snap_tree.specs.declared.row.Body.TheVariants.{Element, Words}
 use Rattle.snap_tree.specs.declared.row.Space.TheVariants.{Html, Svg, Other}
 use Rattle.snap_tree.specs.declared.groups.Key.{Key}
 use Rattle.snap_tree.specs.declared.groups.Key.TheVariants.{Tag, Id, For}
-use Rattle.snap_tree.specs.Words.{folded}
+use Rattle.texts.specs.Words.{folded}
 use Rattle.snap_tree.specs.Rows.{is_key}
 use Rattle.snap_tree.specs.Labels.{id_of, for_of}
 

@@ -6,7 +6,8 @@ use Rattle.snap_tree.specs.declared.row.NodeId.{NodeId}
 use Rattle.snap_tree.specs.declared.row.Row.{Row}
 use Rattle.snap_tree.specs.Trees.{Trees, rows_of}
 use Rattle.snap_tree.specs.Grown.{is_number}
-use Rattle.snap_tree.specs.Rows.{is_html, attribute, same_folded, is_key}
+use Rattle.snap_tree.specs.Rows.{is_html, attribute, is_key}
+use Rattle.texts.specs.Words.{same_folded}
 use Rattle.snap_tree.specs.Spots.{Spot, spot}
 
 -- a value that isn't empty

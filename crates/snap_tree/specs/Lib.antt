@@ -1,7 +1,6 @@
 pub mod Trees
 pub mod Codes
 pub mod Grown
-pub mod Words
 pub mod Rows
 pub mod Labels
 pub mod Weight

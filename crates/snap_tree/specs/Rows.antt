@@ -11,12 +11,8 @@ use Rattle.snap_tree.specs.declared.row.Body.TheVariants.{Element, Words}
 use Rattle.snap_tree.specs.declared.row.Row.{Row}
 use Rattle.snap_tree.specs.declared.fault.TreeFault.{TreeFault}
 use Rattle.snap_tree.specs.declared.fault.TreeFault.TheVariants.{TooManyAttrs, TextTooLong, DoubleAttr, EmptyName}
-use Rattle.snap_tree.specs.Words.{folded}
+use Rattle.texts.specs.Words.{same_folded}
 use Rattle.snap_tree.specs.declared.limits.TheConstants.{MOST_ATTRS, MOST_BYTES}
-
--- equal but for the case of ASCII letters
-abbrev pub same_folded : List ℕ → List ℕ → Bool
-same_folded a b = bytes_eq (folded a) (folded b)
 
 abbrev pub has_number : NodeId → Row → Bool
 has_number n r = r.id.0 == n.0

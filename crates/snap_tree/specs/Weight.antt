@@ -7,7 +7,7 @@ use Rattle.snap_tree.specs.declared.row.Body.{Body}
 use Rattle.snap_tree.specs.declared.row.Body.TheVariants.{Element, Words}
 use Rattle.snap_tree.specs.declared.row.Row.{Row}
 use Rattle.snap_tree.specs.Trees.{Trees, rows_of}
-use Rattle.snap_tree.specs.Words.{words}
+use Rattle.texts.specs.Words.{words}
 use Rattle.snap_tree.specs.Rows.{attribute}
 use Rattle.snap_tree.specs.Spots.{Spot, spot, spots}
 use Rattle.snap_tree.specs.Labels.{first_with_id, labels_at}

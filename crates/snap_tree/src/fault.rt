@@ -2,7 +2,6 @@ ghost use Rattle.std.specs.Prelude.{◌≡◌};
 ghost use Rattle.snap_tree.specs.declared.fault.BuildFault.TheVariants.{OutOfMemory};
 ghost use Rattle.snap_tree.specs.FaultText.{fault_number, fault_name, fault_node, fault_text, build_fault_text};
 
-use crate::memory;
 use crate::row::NodeId;
 use std::alloc::{AllocError, AllocFailed};
 use std::error::Error;
@@ -157,10 +156,10 @@ impl<T: Drop> From<AllocFailed<T>> for BuildFault {
     }
 }
 
-impl From<memory::OutOfMemory> for BuildFault {
+impl From<texts::OutOfMemory> for BuildFault {
     ghost from_gives = { λ _ f. f ≡ OutOfMemory };
 
-    fn from(_error: memory::OutOfMemory) -> Self {
+    fn from(_error: texts::OutOfMemory) -> Self {
         BuildFault::OutOfMemory
     }
 }

@@ -1,15 +1,14 @@
 ghost use Rattle.std.specs.Prelude.{◌≡◌, [], IfOk, OnOk};
 ghost use Rattle.std.specs.String.{string_bytes};
 ghost use Rattle.std.specs.Option.{option_map, option_copied};
-ghost use Rattle.snap_tree.specs.Words.{folded};
+ghost use Rattle.texts.specs.Words.{folded};
 ghost use Rattle.snap_tree.specs.Groups.{key_of, AreGroups, HasPut, group_at};
 
 use crate::labels::{for_of, id_of};
-use crate::memory::OutOfMemory;
 use crate::row::{Body, NodeId, Row, Space};
-use crate::text::Text;
 use std::alloc::Global;
 use std::collections::BTreeMap;
+use texts::{OutOfMemory, Text};
 
 /// By what rows are grouped.
 #[derive(Clone, Copy)]

@@ -7,10 +7,9 @@ ghost use Rattle.snap_tree.specs.Labelling.{labels_in, all_labels_in, around_by,
 
 use crate::branches::Branches;
 use crate::groups::{Groups, group};
-use crate::memory::OutOfMemory;
-use crate::row::{NodeId, Row, is_number, same_folded};
-use crate::text::Text;
+use crate::row::{NodeId, Row, is_number};
 use std::alloc::Global;
+use texts::{OutOfMemory, Text, same_folded};
 
 fn filled(value: Option<&Text>) -> Option<&Text>
     ensures { option_copied result ≡ filled (option_copied value.entry) }

@@ -3,8 +3,8 @@
 //!
 //! Start with [`Tree::build`], which takes the rows of a page and accepts exactly those without a fault;
 //! contracts see a [`Tree`] as an address and nested trees. Go over it by [`Tree::branches`], and look
-//! nodes up by number, tag, id and label. [`blank`], [`tidy`] and [`next_word`] cut texts at Unicode's
-//! White_Space.
+//! nodes up by number, tag, id and label. What rows are made of, lists and texts, stands in [`texts`],
+//! and is named from here too.
 #![tactic(auto)]
 
 mod branches;
@@ -17,27 +17,21 @@ mod kids;
 mod labels;
 mod laws;
 mod limits;
-mod list;
-mod memory;
 mod row;
 mod sizes;
-mod text;
 mod tree;
 mod weight;
-mod words;
 
 pub use branches::{Branch, Branches};
 pub use build::{MOST_DEPTH, MOST_NODES};
-pub use copies::{Duplicate, copies_of};
 pub use fault::{BuildFault, TreeFault};
 pub use kids::Kids;
 pub use laws::{laws_of_growth, laws_of_limits, laws_of_spots};
 pub use limits::{MOST_ATTRS, MOST_BYTES, own_fault};
-pub use list::List;
-pub use memory::OutOfMemory;
-pub use row::{Attr, Body, Facts, NodeId, Raw, Row, Space, same_folded};
+pub use row::{Attr, Body, Facts, NodeId, Raw, Row, Space};
 pub use sizes::sizes_of;
-pub use text::Text;
+pub use texts::{
+    Duplicate, List, OutOfMemory, Text, blank, copies_of, next_word, same_folded, tidy,
+};
 pub use tree::{Tree, run_below, tree_fault};
 pub use weight::MOST_WEIGHT;
-pub use words::{blank, next_word, tidy};

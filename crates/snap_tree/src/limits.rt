@@ -1,10 +1,11 @@
 ghost use Rattle.std.specs.Prelude.{◌≡◌, ◌||◌};
 ghost use Rattle.std.specs.List.{list_any};
-ghost use Rattle.snap_tree.specs.Rows.{own_fault, has_long, has_double, has_empty, is_long, is_empty, same_folded};
+ghost use Rattle.snap_tree.specs.Rows.{own_fault, has_long, has_double, has_empty, is_long, is_empty};
+ghost use Rattle.texts.specs.Words.{same_folded};
 
 use crate::fault::TreeFault;
-use crate::row::{Attr, Body, Row, same_folded};
-use crate::text::Text;
+use crate::row::{Attr, Body, Row};
+use texts::{Text, same_folded};
 
 /// How many attributes an element has at the most.
 pub const MOST_ATTRS: usize = 64;

@@ -2,10 +2,10 @@ ghost use Rattle.std.specs.Prelude.{◌≡◌};
 ghost use Rattle.std.specs.Option.{option_copied};
 ghost use Rattle.std.specs.List.{find};
 ghost use Rattle.snap_tree.specs.Grown.{is_number};
-ghost use Rattle.snap_tree.specs.Rows.{is_text, is_html, attrs_of, attribute, same_folded};
+ghost use Rattle.snap_tree.specs.Rows.{is_text, is_html, attrs_of, attribute};
+ghost use Rattle.texts.specs.Words.{same_folded};
 
-use crate::list::List;
-use crate::text::Text;
+use texts::{List, Text, same_folded};
 
 /// A node's number. Numbers of a well tree are above 0 and differ.
 #[derive(Clone, Copy, Debug, PartialEq, Eq, PartialOrd, Ord, Hash)]
@@ -128,11 +128,4 @@ pub(crate) fn is_number(parent: Option<NodeId>, id: NodeId) -> bool
         Some(parent) => parent.0 == id.0,
         None => false,
     }
-}
-
-/// Whether two texts are equal but for the case of ASCII letters.
-pub fn same_folded(a: &str, b: &str) -> bool
-    ensures { result ≡ same_folded a.now b.now }
-{
-    a.eq_ignore_ascii_case(b)
 }

@@ -3,9 +3,9 @@ ghost use Rattle.snap_tree.specs.Trees.{sizes_of};
 ghost use Rattle.snap_tree.specs.Grown.{grown};
 ghost use Rattle.snap_tree.specs.Sizing.{end_of, left_roots};
 
-use crate::memory::OutOfMemory;
 use crate::row::{NodeId, Row, is_number};
 use std::alloc::Global;
+use texts::OutOfMemory;
 
 // A tree that waits for its parent, which comes before it: the parent that its root names, and the
 // place where it ends.

@@ -21,14 +21,12 @@ use crate::groups::{Groups, Key, folded, group, groups_of};
 use crate::index::{Index, Places};
 use crate::kids::Kids;
 use crate::labels::all_labels;
-use crate::list::List;
-use crate::memory::OutOfMemory;
 use crate::row::{NodeId, Raw, Row};
-use crate::text::Text;
 use crate::weight::{MOST_WEIGHT, reference_weight};
 use std::alloc::Global;
 use std::marker::Model;
 use std::sync::Arc;
+use texts::{List, OutOfMemory, Text};
 
 /// A page: its address, and the tree of its nodes. Contracts see it as a `Document`. Nothing changes a
 /// tree, so its copies share one page in memory, in any threads.

@@ -14,12 +14,10 @@ use crate::build::MOST_NODES;
 use crate::groups::group;
 use crate::index::Index;
 use crate::labels::{id_of, labels_by};
-use crate::memory::OutOfMemory;
 use crate::row::{Attr, Body, NodeId, Row};
-use crate::text::Text;
-use crate::words::next_word;
 use std::alloc::Global;
 use std::marker::Model;
+use texts::{OutOfMemory, Text, next_word};
 
 /// How much the references of a page weigh at the most.
 pub const MOST_WEIGHT: u64 = 100_000;

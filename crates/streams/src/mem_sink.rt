@@ -6,9 +6,9 @@ use crate::sink::Sink;
 use counts::next;
 use links::Failed;
 use named_calls::is_named;
-use snap_tree::{List, OutOfMemory};
 use std::alloc::Global;
 use std::marker::Model;
+use texts::{List, OutOfMemory};
 
 /// A sink in memory. It takes no memory after it is made.
 #[derive(Drop)]

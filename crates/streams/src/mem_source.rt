@@ -7,8 +7,8 @@ use crate::source::Source;
 use counts::next;
 use links::Failed;
 use named_calls::is_named;
-use snap_tree::List;
 use std::marker::Model;
+use texts::List;
 
 /// A source in memory. It takes no memory after it is made.
 #[derive(Drop)]

@@ -1,8 +1,8 @@
 use http_messages::{Field, Got, HeadFault, Item, ReadFault, Sent, read_item};
 use links::MemLink;
-use snap_tree::{List, OutOfMemory};
 use std::alloc::Global;
 use std::test::Fail;
+use texts::{List, OutOfMemory};
 
 // The most items that a case has.
 const MOST_ITEMS: usize = 4;

@@ -7,9 +7,9 @@ use desk_http::{LinkEnd, serve_link};
 use keep_core::MemoryKeeper;
 use links::MemLink;
 use rule_book::Thirty;
-use snap_tree::{List, OutOfMemory};
 use std::alloc::Global;
 use std::thread::Threads;
+use texts::{List, OutOfMemory};
 
 pub fn list<T: Copy>(alloc: Global, items: &[T]) -> Result<List<T>, OutOfMemory> {
     Ok(List::from_vec(Vec::from_slice(alloc, items)?))

@@ -6,10 +6,10 @@ use crate::asking::{empty_keeper, link, list};
 use desk_http::serve;
 use links::{Door, MemDoor};
 use rule_book::Thirty;
-use snap_tree::{List, OutOfMemory};
 use std::alloc::Global;
 use std::process::Abort;
 use std::test::Fail;
+use texts::{List, OutOfMemory};
 
 const MADE: &[u8] = b"PUT /sites/acme HTTP/1.1\r\nx-caller: ann\r\ncontent-length: 0\r\n\r\n";
 

@@ -3,11 +3,11 @@
 use crate::asking::{empty_keeper, list, talk};
 use desk_http::LinkEnd;
 use keep_core::MemoryKeeper;
-use snap_tree::OutOfMemory;
 use std::alloc::Global;
 use std::process::Abort;
 use std::test::Fail;
 use std::thread::Threads;
+use texts::OutOfMemory;
 
 // What is asked in turn, and what is answered.
 static STORY: [(&str, &str, &str); 10] = [

@@ -6,10 +6,10 @@ use desk_http::{LinkEnd, serve_link};
 use keep_core::MemoryKeeper;
 use links::MemLink;
 use rule_book::Thirty;
-use snap_tree::{List, OutOfMemory};
 use std::alloc::{AllocError, Global};
 use std::process::Abort;
 use std::thread::Threads;
+use texts::{List, OutOfMemory};
 
 // Room for what is written to a link, and how many reads it allows.
 const ROOM: usize = 100_000;

@@ -6,11 +6,11 @@ use crate::connection::{
 use desk_http::LinkEnd;
 use keep_core::{Keeper, MemoryKeeper};
 use rule_book::Thirty;
-use snap_tree::{OutOfMemory, Text};
 use std::alloc::{AllocError, Global};
 use std::process::Abort;
 use std::test::Fail;
 use std::thread::Threads;
+use texts::{OutOfMemory, Text};
 
 // The page p02, and all others: an ordinary page, in two parts, between which the parent of its second row
 // stands.

@@ -3,7 +3,7 @@ use Rattle.std.proofs.lemmas.List.{take-append-drop}
 use Rattle.aria_tables.specs.declared.attr.AriaAttr.TheVariants as aria
 use Rattle.aria_tables.specs.declared.role.Role.{Role}
 use Rattle.snap_tree.specs.declared.row.Row.{Row}
-use Rattle.snap_tree.specs.Words.{blank}
+use Rattle.texts.specs.Words.{blank}
 use Rattle.acc_tree.specs.declared.attributes.Attribute.TheVariants as attribute
 use Rattle.acc_tree.specs.Seen.{seen_row, text_at}
 use Rattle.acc_name.specs.declared.clauses.Said.{Said}

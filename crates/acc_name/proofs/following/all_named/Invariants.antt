@@ -1,7 +1,7 @@
 use Rattle.std.proofs.Common.{◌≡◌, map, length}
 use denote.Text.{Utf8}
 use denote.Shadow.{shadow}
-use Rattle.snap_tree.specs.Words.{words}
+use Rattle.texts.specs.Words.{words}
 use Rattle.acc_tree.specs.References.{found}
 use Rattle.acc_tree.specs.Seen.{seen}
 use Rattle.acc_name.specs.Names.{joined, referred}

@@ -1,6 +1,6 @@
 use Rattle.std.proofs.Common.{◌≡◌, ℕ, List, [], not, Bool, IfOk, ◌∙◌, ap, subst}
 use Rattle.std.specs.Option.{option_map_or}
-use Rattle.snap_tree.specs.Words.{tidy}
+use Rattle.texts.specs.Words.{tidy}
 use Rattle.acc_tree.specs.Inclusion.{exposed}
 use Rattle.acc_tree.specs.Seen.{seen}
 use Rattle.acc_tree.specs.Sights.{Sight, seen_sight}

@@ -1,5 +1,5 @@
 use Rattle.std.proofs.Common.{◌∙◌, sym, ap}
-use Rattle.snap_tree.specs.Words.{blank}
+use Rattle.texts.specs.Words.{blank}
 use Rattle.acc_name.proofs.Blanks.{blank_nothing}
 use Rattle.acc_name.proofs.naming.alone.Goals as goal
 

@@ -1,5 +1,5 @@
 use Rattle.std.proofs.Common.{◌∙◌, sym, arith, rules}
-use Rattle.snap_tree.specs.Words.{words}
+use Rattle.texts.specs.Words.{words}
 use Rattle.acc_tree.specs.Seen.{seen}
 use Rattle.acc_tree.proofs.Finding.{found_first, found_later}
 use Rattle.acc_tree.proofs.references.first_found.Goals as goal

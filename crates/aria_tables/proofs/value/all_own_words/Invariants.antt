@@ -2,7 +2,7 @@ use Rattle.std.proofs.Common.{◌≡◌, length}
 use Rattle.std.specs.List.{list_all}
 use denote.Text.{Utf8}
 use denote.Shadow.{shadow}
-use Rattle.snap_tree.specs.Words.{words}
+use Rattle.texts.specs.Words.{words}
 use Rattle.aria_tables.specs.Tokens.{tokens}
 use Rattle.aria_tables.specs.Values.{value_words}
 use Rattle.aria_tables.specs.Words.{is_among}

@@ -3,7 +3,7 @@ use Rattle.std.specs.List.{list_any}
 use Rattle.std.specs.Str.{bytes_eq}
 use denote.Text.{Utf8}
 use denote.Shadow.{shadow}
-use Rattle.snap_tree.specs.Words.{words}
+use Rattle.texts.specs.Words.{words}
 use Rattle.rules_tables.proofs.assigned.has_word.Given as goal
 
 abbrev pub invariant-loop-next : goal.invariant-loop-next

@@ -1,7 +1,7 @@
 use Rattle.std.proofs.Common.{◌≡◌, length}
 use denote.Text.{Utf8}
 use denote.Shadow.{shadow}
-use Rattle.snap_tree.specs.Words.{words}
+use Rattle.texts.specs.Words.{words}
 use Rattle.acc_tree.specs.Seen.{seen}
 use Rattle.rules_tables.specs.HeadersReferToCells.{refer_inside}
 use Rattle.rules_tables.proofs.headers_refer_to_cells.refer_inside.Given as goal

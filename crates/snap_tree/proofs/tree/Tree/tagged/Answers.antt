@@ -1,7 +1,7 @@
 use Rattle.std.proofs.Common.{sym, ◌∙◌, ap, map, filter}
 use Rattle.snap_tree.specs.Rows.{is_html}
 use Rattle.snap_tree.specs.Trees.{rows_of}
-use Rattle.snap_tree.specs.Words.{folded}
+use Rattle.texts.specs.Words.{folded}
 use Rattle.snap_tree.specs.declared.groups.Key.TheVariants.{Tag}
 use Rattle.snap_tree.specs.Groups.{keyed}
 use Rattle.snap_tree.proofs.Growth.{rows_of_grown}

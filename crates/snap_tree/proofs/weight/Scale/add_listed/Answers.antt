@@ -1,6 +1,6 @@
 use Rattle.std.proofs.Common.{ap, ◌∙◌}
 use Rattle.std.specs.List.{sum_by}
-use Rattle.snap_tree.specs.Words.{words}
+use Rattle.texts.specs.Words.{words}
 use Rattle.snap_tree.specs.Weight.{id_weight}
 use Rattle.snap_tree.proofs.Weights.{saturated_end}
 use Rattle.snap_tree.proofs.weight.Scale.add_listed.Goals as goal

@@ -3,7 +3,7 @@ use Rattle.std.specs.List.{sum_by}
 use Rattle.std.specs.Option.{option_copied}
 use denote.Text.{Utf8}
 use denote.Shadow.{shadow}
-use Rattle.snap_tree.specs.Words.{words}
+use Rattle.texts.specs.Words.{words}
 use Rattle.snap_tree.specs.Weight.{id_weight, listed}
 use Rattle.snap_tree.specs.Weighing.{saturated}
 use Rattle.snap_tree.proofs.weight.Scale.add_listed.Given as goal

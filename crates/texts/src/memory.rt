@@ -1,5 +1,5 @@
 ghost use Rattle.std.specs.Prelude.{◌≡◌, Some, codes};
-ghost use Rattle.snap_tree.specs.declared.memory.OutOfMemory.{OutOfMemory};
+ghost use Rattle.texts.specs.declared.memory.OutOfMemory.{OutOfMemory};
 
 use std::alloc::{AllocError, AllocFailed};
 use std::error::Error;

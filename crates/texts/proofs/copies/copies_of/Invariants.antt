@@ -1,5 +1,5 @@
 use Rattle.std.proofs.Common.{◌≡◌, take}
-use Rattle.snap_tree.proofs.copies.copies_of.Given as goal
+use Rattle.texts.proofs.copies.copies_of.Given as goal
 
 abbrev pub invariant-loop-item : goal.invariant-loop-item
 invariant-loop-item g l = l.copies.items ≡ take l.item-index l.items

@@ -1,7 +1,7 @@
 use Rattle.std.proofs.Common.{◌≡◌, ◌<◌, length, arith}
 use Rattle.std.proofs.lemmas.Bool.Decides.{nat_tests}
-use Rattle.snap_tree.proofs.Wording.{first_word}
-use Rattle.snap_tree.proofs.words.next_word.Goals as goal
+use Rattle.texts.proofs.Wording.{first_word}
+use Rattle.texts.proofs.words.next_word.Goals as goal
 
 pub returns-then-is_empty : goal.returns-then-is_empty
 returns-then-is_empty c =

@@ -1,8 +1,8 @@
 use Rattle.std.proofs.Common.{◌≡◌, ◌+◌, length, drop}
 use Rattle.std.specs.Prelude.{encode_utf8_all}
 use Rattle.std.specs.Str.{chars}
-use Rattle.snap_tree.specs.Words.{front, front_len}
-use Rattle.snap_tree.proofs.words.front_len.Given as goal
+use Rattle.texts.specs.Words.{front, front_len}
+use Rattle.texts.proofs.words.front_len.Given as goal
 
 abbrev pub invariant-loop-c : goal.invariant-loop-c
 invariant-loop-c l =

@@ -6,7 +6,7 @@ use Rattle.std.specs.Prelude.{encode_utf8, encode_utf8_all}
 use Rattle.std.specs.Char.{is_whitespace, len_utf8}
 use Rattle.std.specs.Str.{chars, IsUtf8, IsCharBoundary, skip_leading_whitespace, trim_start}
 use Rattle.std.proofs.Math.Utf8.{scalars, scalar}
-use Rattle.snap_tree.specs.Words.{ended, cut, words, spaced, front, back, front_len}
+use Rattle.texts.specs.Words.{ended, cut, words, spaced, front, back, front_len}
 
 cut-white : (word cs : List ℕ) (c : ℕ) → is_whitespace c ≡ true → cut word (c ∷ cs) ≡ ended word ++ cut [] cs
 cut-white word cs c e = ap (λ b. cond b (ended word ++ cut [] cs) (cut (word ++ encode_utf8 c) cs)) e

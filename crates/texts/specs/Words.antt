@@ -2,7 +2,7 @@
 use Rattle.std.specs.Prelude.{◌≡◌, ◌<◌, ℕ, List, [], ◌∷◌, ◌++◌, map, Bool, if◌then◌else◌, encode_utf8, encode_utf8_all, length}
 use Rattle.std.specs.List.{list_all}
 use Rattle.std.specs.Char.{is_whitespace, to_ascii_lowercase}
-use Rattle.std.specs.Str.{chars}
+use Rattle.std.specs.Str.{chars, bytes_eq}
 
 -- only white space, or no character
 abbrev pub blank : List ℕ → Bool
@@ -41,6 +41,10 @@ tidy text = spaced (words text)
 -- ASCII letters in lower case
 abbrev pub folded : List ℕ → List ℕ
 folded text = map to_ascii_lowercase text
+
+-- equal but for the case of ASCII letters
+abbrev pub same_folded : List ℕ → List ℕ → Bool
+same_folded a b = bytes_eq (folded a) (folded b)
 
 -- the characters before the first white space, and those from there on
 abbrev pub front : List ℕ → List ℕ

@@ -4,9 +4,9 @@ use Rattle.std.proofs.lemmas.List.{at_drop_all, length_push}
 use Rattle.std.proofs.lemmas.Iterator.Consumers.{YieldsList-turn, YieldsList-end}
 use Rattle.std.specs.Prelude.{encode_utf8_all}
 use Rattle.std.specs.Str.{chars}
-use Rattle.snap_tree.specs.Words.{front}
-use Rattle.snap_tree.proofs.Wording.{front_bytes-turn, front_bytes-le}
-use Rattle.snap_tree.proofs.words.front_len.Goals as goal
+use Rattle.texts.specs.Words.{front}
+use Rattle.texts.proofs.Wording.{front_bytes-turn, front_bytes-le}
+use Rattle.texts.proofs.words.front_len.Goals as goal
 
 pub returns-then-is_whitespace : goal.returns-then-is_whitespace
 returns-then-is_whitespace c =

@@ -1,6 +1,6 @@
 ghost use Rattle.std.specs.Prelude.{◌≡◌, [], MatchOption, IfOk};
 ghost use Rattle.std.specs.Char.{is_whitespace};
-ghost use Rattle.snap_tree.specs.Words.{blank, words, tidy, front_len, IsFirstWord};
+ghost use Rattle.texts.specs.Words.{blank, words, tidy, same_folded, front_len, IsFirstWord};
 
 use crate::memory::OutOfMemory;
 use crate::text::Text;
@@ -59,4 +59,11 @@ pub fn tidy(alloc: Global, text: &Text) -> Result<Text, OutOfMemory>
         rest = later;
     }
     Ok(Text::from_string(tidied))
+}
+
+/// Whether two texts are equal but for the case of ASCII letters.
+pub fn same_folded(a: &str, b: &str) -> bool
+    ensures { result ≡ same_folded a.now b.now }
+{
+    a.eq_ignore_ascii_case(b)
 }
