@@ -5,3 +5,4 @@ pub mod Hearing
 pub mod Deciding
 pub mod Alone
 pub mod Plain
+pub mod Trimmed

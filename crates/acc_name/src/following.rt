@@ -177,7 +177,7 @@ impl References for OnPage<'_> {
         room: &mut Room,
         row: &Row,
         _below: &Branches<'_>,
-        _above: &Above,
+        _above: &Above<'_>,
     ) -> Result<Told, OutOfMemory> {
         told_of(alloc, room, self.tree, self.node, row)
     }

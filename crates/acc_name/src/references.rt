@@ -23,7 +23,7 @@ pub(crate) trait References {
         room: &mut Room,
         row: &Row,
         below: &Branches<'_>,
-        above: &Above,
+        above: &Above<'_>,
     ) -> Result<Told, OutOfMemory>
         ensures { IfOk result (λ told. told ≡ tells self.now (seen_at row.now below.now above.now)) };
 }
@@ -41,7 +41,7 @@ impl References for Untold {
         _room: &mut Room,
         _row: &Row,
         _below: &Branches<'_>,
-        _above: &Above,
+        _above: &Above<'_>,
     ) -> Result<Told, OutOfMemory> {
         Ok(Told {
             labelled_by: Text::new(alloc),

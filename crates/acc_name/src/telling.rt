@@ -82,14 +82,14 @@ fn nest(room: &mut Room, wanted: Wanted, row: &Row, inner: &Aside) -> Result<(),
 
 // Writes what trees say within a name, given what is above them, and answers what they say beside it.
 // Each subtree is heard once, and what it says is written once.
-fn hear<R: References>(
+fn hear<'a, R: References>(
     alloc: Global,
     references: &R,
     scope: Scope,
     room: &mut Room,
-    above: &Above,
+    above: &Above<'a>,
     wanted: Wanted,
-    trees: Branches<'_>,
+    trees: Branches<'a>,
     content: &mut String,
 ) -> Result<Aside, OutOfMemory>
     ensures content { OnOk result (string_bytes content.new ≡ string_bytes content.old ++ (heard (asked_of scope (R.tells references.now)) above.now wanted.caption (seen trees.entry)).content) }

@@ -28,13 +28,25 @@ fn is_plainly_tidy(text: &str) -> bool
     plain & (before != b' ')
 }
 
-/// The text, tidied. One that is tidy at a glance isn't written again.
+// The text without the white space at its ends, which texts that stand apart have around them.
+fn trimmed(text: &str) -> &str
+    ensures { tidy result.now ≡ tidy text.now }
+{
+    text.trim()
+}
+
+/// The text, tidied. One that is tidy at a glance isn't written again, and one that is so between the white
+/// space at its ends is copied.
 pub(crate) fn tidied(alloc: Global, text: Text) -> Result<Text, OutOfMemory>
     ensures { IfOk result (λ t. t ≡ tidy text) }
 {
-    if is_plainly_tidy(text.as_str()) {
-        Ok(text)
-    } else {
-        tidy(alloc, &text)
+    let inside = trimmed(text.as_str());
+    if inside.len() < text.len() {
+        if is_plainly_tidy(inside) {
+            return Text::from_str(alloc, inside);
+        }
+    } else if is_plainly_tidy(text.as_str()) {
+        return Ok(text);
     }
+    tidy(alloc, &text)
 }

@@ -7,12 +7,13 @@ use Rattle.snap_tree.specs.declared.row.NodeId.{NodeId}
 use Rattle.snap_tree.specs.declared.row.Space.{Space}
 use Rattle.snap_tree.specs.declared.row.Row.{Row}
 use Rattle.acc_tree.specs.declared.above.Above.{Above}
+use Rattle.acc_tree.specs.declared.above.TableAbove.{TableAbove}
 use Rattle.acc_tree.specs.declared.attributes.Attribute.TheVariants as attribute
 use Rattle.acc_tree.specs.declared.tags.Tag.{Tag}
 use Rattle.acc_tree.specs.declared.tags.Tag.TheVariants as tag
 use Rattle.acc_tree.specs.Tags.{known_tag, space_in, tag_in, in_html}
 use Rattle.acc_tree.specs.Seen.{attr, is_keyword}
-use Rattle.acc_tree.specs.Roles.{role_at}
+use Rattle.acc_tree.specs.Roles.{role_at, table_role}
 
 -- all that a node says of those below it, and more that is asked of a node alone; tag and values as sent
 pub record Frame : Type 0 where
@@ -72,6 +73,10 @@ is_fieldset (Some tag.Fieldset) = true
 is_fieldset _ = false
 
 -- ---- what is above
+
+-- a `table` with its role
+abbrev pub table_at : Row → TableAbove
+table_at row = record { node = row.id; role = table_role row }
 
 abbrev pub nothing_above : Above
 nothing_above = record { in_section = false; in_list = false; table = None; label = None; hidden = false; disabled = false }

@@ -59,6 +59,10 @@ unless_conflicting row (Some r) = if conflicts row r then None else Some r
 abbrev pub explicit : Row → Option Role
 explicit row = unless_conflicting row (named_role row)
 
+-- the role of a `table`, which what is above it doesn't change
+abbrev pub table_role : Row → Option Role
+table_role row = option_or (explicit row) (Some role.TableRole)
+
 -- ---- the implicit role
 
 -- the element has a name of its author, at least by these attributes

@@ -8,7 +8,7 @@ pub struct TableAbove {
     pub role: Option<Role>,
 }
 
-/// What the ancestors of a node say of it.
+/// What the ancestors of a node say of it, as contracts see it. Code has it as `lent::Above`.
 #[derive(Clone, Copy, Debug)]
 pub struct Above {
     /// The tag of an ancestor, in any name space, is article, aside, main, nav or section.

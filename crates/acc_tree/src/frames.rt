@@ -1,31 +1,16 @@
-ghost use Rattle.std.specs.Prelude.{◌≡◌, ◌&&◌, ◌||◌, if◌then◌else◌};
+ghost use Rattle.std.specs.Prelude.{◌≡◌, ◌&&◌, ◌||◌, if◌then◌else◌, option_map};
+ghost use Rattle.std.specs.Option.{option_copied};
 ghost use Rattle.acc_tree.specs.declared.attributes.Attribute.TheVariants as attribute;
 ghost use Rattle.acc_tree.specs.Seen.{seen_row, has};
 ghost use Rattle.acc_tree.specs.Roles.{role_at};
-ghost use Rattle.acc_tree.specs.Frames.{is_sectioning, holds_items, is_table, is_label, is_fieldset, nothing_above, under};
+ghost use Rattle.acc_tree.specs.Tags.{html_tag};
+ghost use Rattle.acc_tree.specs.Frames.{is_sectioning, holds_items, is_table, is_label, is_fieldset, table_at, under};
 
-use crate::above::{Above, TableAbove};
 use crate::attributes::{Attribute, has};
 use crate::inclusion::is_hidden;
-use crate::roles::role_at;
+use crate::lent::Above;
 use crate::tags::{Tag, any_tag, html_tag};
 use snap_tree::{NodeId, Row};
-
-impl Above {
-    /// What is above a root: nothing.
-    pub const fn nothing() -> Self
-        ensures { result ≡ nothing_above }
-    {
-        Above {
-            in_section: false,
-            in_list: false,
-            table: None,
-            label: None,
-            hidden: false,
-            disabled: false,
-        }
-    }
-}
 
 fn is_sectioning(tag: Option<Tag>) -> bool
     ensures { result ≡ is_sectioning tag }
@@ -60,22 +45,21 @@ fn is_fieldset(tag: Option<Tag>) -> bool
     matches!(tag, Some(Tag::Fieldset))
 }
 
-fn table_above(above: &Above, row: &Row, tag: Option<Tag>) -> Option<TableAbove>
-    ensures { result ≡ (if is_table tag
+#[tactic(auto, using(crate::proofs::Asking::table_alone))]
+fn table_above<'a>(above: &Above<'a>, row: &'a Row, tag: Option<Tag>) -> Option<&'a Row>
+    requires { tag ≡ html_tag (seen_row row.now) }
+    ensures { option_map (λ row. table_at (seen_row row)) (option_copied result) ≡ (if is_table tag
         then Some (record { node = row.now.id; role = role_at above.now (seen_row row.now) })
         else above.now.table) }
 {
     if is_table(tag) {
-        Some(TableAbove {
-            node: row.id,
-            role: role_at(above, row),
-        })
+        Some(row)
     } else {
         above.table
     }
 }
 
-fn label_above(above: &Above, row: &Row, tag: Option<Tag>) -> Option<NodeId>
+fn label_above(above: &Above<'_>, row: &Row, tag: Option<Tag>) -> Option<NodeId>
     ensures { result ≡ (if is_label tag then Some row.now.id else above.now.label) }
 {
     if is_label(tag) {
@@ -85,7 +69,7 @@ fn label_above(above: &Above, row: &Row, tag: Option<Tag>) -> Option<NodeId>
     }
 }
 
-fn is_disabled(above: &Above, row: &Row, tag: Option<Tag>) -> bool
+fn is_disabled(above: &Above<'_>, row: &Row, tag: Option<Tag>) -> bool
     ensures { result ≡ (above.now.disabled
         || (is_fieldset tag && has attribute.Disabled (seen_row row.now))) }
 {
@@ -93,7 +77,7 @@ fn is_disabled(above: &Above, row: &Row, tag: Option<Tag>) -> bool
 }
 
 /// What is above the children of a row, given what is above the row.
-pub fn under(above: &Above, row: &Row) -> Above
+pub fn under<'a>(above: &Above<'a>, row: &'a Row) -> Above<'a>
     ensures { result ≡ under above.now (seen_row row.now) }
 {
     let tag = html_tag(row);

@@ -2,8 +2,8 @@ ghost use Rattle.std.specs.Prelude.{◌≡◌};
 ghost use Rattle.acc_tree.specs.Seen.{seen_row};
 ghost use Rattle.acc_tree.specs.Inclusion.{is_hidden, exposed, included};
 
-use crate::above::Above;
 use crate::attributes::{Attribute, is_word_at};
+use crate::lent::Above;
 use crate::roles::decorative_at;
 use aria_tables::AriaAttr;
 use snap_tree::Row;
@@ -17,7 +17,7 @@ pub fn is_hidden(row: &Row) -> bool
 
 /// Whether a row is exposed, given what is above it: it is rendered and visible, and neither it nor an
 /// ancestor has aria-hidden with the value `true`.
-pub fn exposed_at(above: &Above, row: &Row) -> bool
+pub fn exposed_at(above: &Above<'_>, row: &Row) -> bool
     ensures { result ≡ exposed above.now (seen_row row.now) }
 {
     row.facts.rendered && row.facts.visible && !above.hidden && !is_hidden(row)
@@ -25,7 +25,7 @@ pub fn exposed_at(above: &Above, row: &Row) -> bool
 
 /// Whether a row is in the accessibility tree, given what is above it: it is exposed, and its role is
 /// neither none nor presentation.
-pub fn included_at(above: &Above, row: &Row) -> bool
+pub fn included_at(above: &Above<'_>, row: &Row) -> bool
     ensures { result ≡ included above.now (seen_row row.now) }
 {
     exposed_at(above, row) && !decorative_at(above, row)

@@ -5,9 +5,9 @@ ghost use Rattle.acc_tree.specs.Seen.{seen_row, seen};
 ghost use Rattle.acc_tree.specs.Sights.{seen_sight};
 ghost use Rattle.acc_tree.specs.Owning.{is_bare, by_role, standing_of, owned_in, owned_by, owned};
 
-use crate::above::Above;
 use crate::frames::under;
 use crate::inclusion::is_hidden;
+use crate::lent::Above;
 use crate::roles::role_at;
 use crate::sights::{Sight, sight_of};
 use aria_tables::Role;
@@ -60,7 +60,7 @@ fn is_left(row: &Row) -> bool
     row.is_text() || !row.facts.rendered || is_hidden(row)
 }
 
-fn standing_of(through: &[Role], above: &Above, row: &Row) -> Standing
+fn standing_of(through: &[Role], above: &Above<'_>, row: &Row) -> Standing
     ensures { result ≡ standing_of through.now above.now (seen_row row.now) }
 {
     if is_left(row) {
@@ -73,11 +73,11 @@ fn standing_of(through: &[Role], above: &Above, row: &Row) -> Standing
     }
 }
 
-fn add_owned(
+fn add_owned<'a>(
     list: &mut Vec<OwnedElement>,
     through: &[Role],
-    above: &Above,
-    trees: Branches<'_>,
+    above: &Above<'a>,
+    trees: Branches<'a>,
 ) -> Result<(), OutOfMemory>
     ensures { OnOk result
         (list.new.items ≡ list.old.items ++ owned_in through.now above.now (seen trees.entry)) }

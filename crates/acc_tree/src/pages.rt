@@ -5,8 +5,8 @@ ghost use Rattle.acc_tree.specs.Inclusion.{exposed, included};
 ghost use Rattle.acc_tree.specs.Sights.{above_children};
 ghost use Rattle.acc_tree.specs.Pages.{explicit_role, implicit_role, role, is_exposed, is_included, is_decorative};
 
-use crate::above::Above;
 use crate::inclusion::is_hidden;
+use crate::lent::Above;
 use crate::roles::{explicit_at, is_presentational, tag_role};
 use crate::sights::{above_children, law_of_climbing};
 use crate::tags::{Tag, html_tag};

@@ -4,16 +4,16 @@ ghost use Rattle.aria_tables.specs.Roles.{role_of};
 ghost use Rattle.texts.specs.Words.{words};
 ghost use Rattle.acc_tree.specs.Seen.{seen_row};
 ghost use Rattle.acc_tree.specs.Roles.{first_known, named_role, is_presentational, is_focusable, is_global_name};
-ghost use Rattle.acc_tree.specs.Roles.{has_global, conflicts, unless_conflicting, explicit, is_labelled};
+ghost use Rattle.acc_tree.specs.Roles.{has_global, conflicts, unless_conflicting, explicit, table_role, is_labelled};
 ghost use Rattle.acc_tree.specs.Roles.{is_empty_text, is_above_one, shows_several, shows_list, with_suggestions};
 ghost use Rattle.acc_tree.specs.Roles.{input_role, is_grid, in_grid, heads_rows, link_role, of_page, form_role};
 ghost use Rattle.acc_tree.specs.Roles.{section_role, image_role, item_role, select_role, cell_role, header_role};
 ghost use Rattle.acc_tree.specs.Roles.{tag_role, implicit, role_at, is_decoration, decorative};
 
-use crate::above::Above;
 use crate::aria::aria_attrs;
 use crate::attributes::{Attribute, attr, has, is_blank_at, is_word_at};
 use crate::inputs::{InputType, input_type};
+use crate::lent::Above;
 use crate::numbers::whole_number;
 use crate::tags::{Tag, html_tag};
 use aria_tables::{AriaAttr, Role, attr_of, is_global, role_of};
@@ -87,6 +87,16 @@ pub fn explicit_at(row: &Row) -> Option<Role>
     ensures { result ≡ explicit (seen_row row.now) }
 {
     unless_conflicting(row, named_role(row))
+}
+
+/// The role of an HTML `table`: the explicit one, else table. It doesn't depend on what is above it.
+pub(crate) fn table_role(row: &Row) -> Option<Role>
+    ensures { result ≡ table_role (seen_row row.now) }
+{
+    match explicit_at(row) {
+        Some(role) => Some(role),
+        None => Some(Role::TableRole),
+    }
 }
 
 fn is_labelled(row: &Row) -> bool
@@ -165,10 +175,10 @@ fn input_role(row: &Row, kind: InputType) -> Option<Role>
     }
 }
 
-fn in_grid(above: &Above) -> bool
+fn in_grid(above: &Above<'_>) -> bool
     ensures { result ≡ in_grid above.now }
 {
-    match above.table {
+    match above.table() {
         Some(table) => matches!(table.role, Some(Role::Grid | Role::Treegrid)),
         None => false,
     }
@@ -190,7 +200,7 @@ fn link_role(row: &Row) -> Role
     }
 }
 
-fn of_page(above: &Above, role: Role) -> Role
+fn of_page(above: &Above<'_>, role: Role) -> Role
     ensures { result ≡ of_page above.now role }
 {
     if above.in_section {
@@ -230,7 +240,7 @@ fn image_role(row: &Row) -> Role
     }
 }
 
-fn item_role(above: &Above) -> Role
+fn item_role(above: &Above<'_>) -> Role
     ensures { result ≡ item_role above.now }
 {
     if above.in_list {
@@ -250,7 +260,7 @@ fn select_role(row: &Row) -> Role
     }
 }
 
-fn cell_role(above: &Above) -> Role
+fn cell_role(above: &Above<'_>) -> Role
     ensures { result ≡ cell_role above.now }
 {
     if in_grid(above) {
@@ -271,7 +281,7 @@ fn header_role(row: &Row) -> Role
 }
 
 #[tactic(auto, unfolding(crate::specs::Roles::tag_role))]
-pub(crate) fn tag_role(above: &Above, row: &Row, tag: Tag) -> Option<Role>
+pub(crate) fn tag_role(above: &Above<'_>, row: &Row, tag: Tag) -> Option<Role>
     ensures { result ≡ tag_role above.now (seen_row row.now) tag }
 {
     match tag {
@@ -329,7 +339,7 @@ pub(crate) fn tag_role(above: &Above, row: &Row, tag: Tag) -> Option<Role>
 }
 
 /// The implicit role of a row, given what is above it. Only HTML elements have one.
-pub fn implicit_at(above: &Above, row: &Row) -> Option<Role>
+pub fn implicit_at(above: &Above<'_>, row: &Row) -> Option<Role>
     ensures { result ≡ implicit above.now (seen_row row.now) }
 {
     match html_tag(row) {
@@ -339,7 +349,7 @@ pub fn implicit_at(above: &Above, row: &Row) -> Option<Role>
 }
 
 /// The role of a row, given what is above it: the explicit role, else the implicit one.
-pub fn role_at(above: &Above, row: &Row) -> Option<Role>
+pub fn role_at(above: &Above<'_>, row: &Row) -> Option<Role>
     ensures { result ≡ role_at above.now (seen_row row.now) }
 {
     match explicit_at(row) {
@@ -349,7 +359,7 @@ pub fn role_at(above: &Above, row: &Row) -> Option<Role>
 }
 
 /// Whether a row's role is none or presentation, given what is above it.
-pub fn decorative_at(above: &Above, row: &Row) -> bool
+pub fn decorative_at(above: &Above<'_>, row: &Row) -> bool
     ensures { result ≡ decorative above.now (seen_row row.now) }
 {
     match role_at(above, row) {

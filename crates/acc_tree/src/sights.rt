@@ -3,8 +3,8 @@ ghost use Rattle.std.specs.Option.{option_copied};
 ghost use Rattle.acc_tree.specs.Seen.{seen_row, seen};
 ghost use Rattle.acc_tree.specs.Sights.{IsClimbed, sight_of, seen_sight, row_of, above_children, aboves_in, aboves};
 
-use crate::above::Above;
 use crate::frames::under;
+use crate::lent::Above;
 use snap_tree::{Branches, List, NodeId, OutOfMemory, Row, Tree, laws_of_spots};
 use std::alloc::Global;
 
@@ -13,7 +13,7 @@ use std::alloc::Global;
 pub struct Sight<'a> {
     pub row: &'a Row,
     pub below: Branches<'a>,
-    pub above: Above,
+    pub above: Above<'a>,
 }
 
 // The tree's nodes can be climbed by their parents' numbers. It does nothing: the clause is what it is for.
@@ -26,7 +26,7 @@ pub(crate) fn law_of_climbing(tree: &Tree)
 
 /// What is above the children of a node, given its number; nothing is above the roots, nor above the
 /// children of a number that the tree doesn't hold. It walks up by the parents' numbers.
-pub fn above_children(tree: &Tree, parent: Option<NodeId>) -> Above
+pub fn above_children(tree: &Tree, parent: Option<NodeId>) -> Above<'_>
     ensures { result ≡ above_children (seen tree.now.trees) parent }
 {
     let Some(n) = parent else {
@@ -64,12 +64,16 @@ pub fn sight_of(tree: &Tree, n: NodeId) -> Option<Sight<'_>>
     }
 }
 
-fn add_aboves(list: &mut Vec<Above>, above: &Above, trees: Branches<'_>) -> Result<(), OutOfMemory>
+fn add_aboves<'a>(
+    list: &mut Vec<Above<'a>>,
+    above: &Above<'a>,
+    trees: Branches<'a>,
+) -> Result<(), OutOfMemory>
     ensures { OnOk result (list.new.items ≡ list.old.items ++ aboves_in above.now (seen trees.entry)) }
 {
     let mut rest = trees;
     while let Some(branch) = rest.first() {
-        list.push(*above)?;
+        list.push(above.copied())?;
         add_aboves(list, &under(above, branch.row), branch.kids)?;
         rest = branch.after;
     }
@@ -77,7 +81,7 @@ fn add_aboves(list: &mut Vec<Above>, above: &Above, trees: Branches<'_>) -> Resu
 }
 
 /// What is above each node of a page, in document order, by one pass over it.
-pub fn aboves(alloc: Global, tree: &Tree) -> Result<List<Above>, OutOfMemory>
+pub fn aboves(alloc: Global, tree: &Tree) -> Result<List<Above<'_>>, OutOfMemory>
     ensures { IfOk result (λ list. list ≡ aboves (seen tree.now.trees)) }
 {
     let mut list = Vec::new(alloc);

@@ -246,7 +246,7 @@ fn is_disabled(above: &Above, row: &Row) -> bool
     ensures { result ≡ is_disabled above.now (seen_row row.now) }
 {
     has(row, Attribute::Disabled)
-        | above.disabled
+        | above.is_disabled()
         | is_word_at(row, Attribute::Aria(AriaAttr::Disabled), "true")
 }
 

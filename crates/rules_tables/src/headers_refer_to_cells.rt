@@ -153,7 +153,7 @@ impl Rule for HeadersReferToCells {
         let Some(sight) = sight_with(tree, n, Attribute::Headers) else {
             return Ok(None);
         };
-        match sight.above.table {
+        match sight.above.table() {
             Some(table) => verdict(alloc, tree, table.node, &sight.above, sight.row),
             None => Ok(None),
         }

@@ -21,7 +21,7 @@ fn is_table_role(role: Option<Role>) -> bool
 pub(crate) fn in_table(above: &Above) -> bool
     ensures { result ≡ in_table above.now }
 {
-    match above.table {
+    match above.table() {
         Some(table) => is_table_role(table.role),
         None => false,
     }
@@ -83,7 +83,7 @@ pub(crate) fn below(tree: &Tree, n: NodeId) -> Option<Branches<'_>>
 pub(crate) fn below_table<'a>(tree: &'a Tree, above: &Above) -> Option<Branches<'a>>
     ensures { option_map seen result ≡ below_table (seen tree.now.trees) above.now }
 {
-    match above.table {
+    match above.table() {
         Some(table) => below(tree, table.node),
         None => None,
     }
