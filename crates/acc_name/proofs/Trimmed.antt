@@ -7,8 +7,8 @@ use Rattle.std.proofs.lemmas.Str.{chars-encodes, scalars-chars}
 use Rattle.std.specs.Prelude.{encode_utf8}
 use Rattle.std.specs.Char.{is_whitespace}
 use Rattle.std.specs.Str.{chars, skip_leading_whitespace, drop_trailing_whitespace, trim_start, trim_end, trim}
-use Rattle.snap_tree.specs.Words.{ended, cut, words, spaced, tidy}
-use Rattle.snap_tree.proofs.Wording.{cut-skip}
+use Rattle.texts.specs.Words.{ended, cut, words, spaced, tidy}
+use Rattle.texts.proofs.Wording.{cut-skip}
 
 -- ---- characters stay characters
 

@@ -1,5 +1,5 @@
 use Rattle.std.proofs.Common.{◌∙◌, ap}
-use Rattle.snap_tree.specs.Words.{tidy}
+use Rattle.texts.specs.Words.{tidy}
 use Rattle.acc_name.proofs.Trimmed.{tidy_trim}
 use Rattle.acc_name.proofs.tidying.trimmed.Goals as goal
 
