@@ -4,3 +4,4 @@ pub mod PartLaws
 pub mod Judgings
 pub mod AgainLaws
 pub mod Shares
+pub mod Verdicts

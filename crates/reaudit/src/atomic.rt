@@ -1,14 +1,13 @@
-ghost use Rattle.std.specs.Prelude.{◌≡◌, ◌+◌, ◌≤◌, List, length, IfOk};
+ghost use Rattle.std.specs.Prelude.{◌≡◌, ◌+◌, ◌≤◌, List, map, length, IfOk};
 ghost use Rattle.snap_tree.specs.Trees.{rows_of};
 ghost use Rattle.judge_core.specs.declared.judgement.Judgement.{Judgement};
-ghost use Rattle.judge_core.specs.Outcomes.{row_of, atomic_row, atomic_rows};
+ghost use Rattle.judge_core.specs.Outcomes.{row_of, atomic_rows};
 ghost use Rattle.reaudit.specs.ByNode.{IsByNode};
 
 use crate::by_node::ByNode;
 use crate::finals::final_of;
-use crate::rows::push_row;
 use judge_core::OutRow;
-use rule_core::{RuleBook, RuleNo, Verdict};
+use rule_core::{NodeVerdict, RuleBook, RuleNo, Verdict};
 use snap_tree::{List, NodeId, OutOfMemory, Tree};
 use std::alloc::Global;
 
@@ -34,26 +33,25 @@ fn row_of(
     })
 }
 
-// The row of an atomic rule on a node.
-fn atomic_row<B: RuleBook>(
+// The rows of the verdicts of a rule on a page.
+fn rows_of(
     alloc: Global,
-    book: &mut B,
-    tree: &Tree,
     by_node: &ByNode<'_>,
     rule: RuleNo,
-    node: NodeId,
-) -> Result<Option<OutRow>, OutOfMemory>
-    ensures row { (js : List Judgement) → IsByNode js by_node.now → IfOk result
-        (λ row. row ≡ atomic_row (record { infos = B.infos; means = B.means }) tree.now js rule node) }
-    ensures counted { B.calls book.new ≤ B.calls book.old + 1 }
+    verdicts: Vec<NodeVerdict>,
+) -> Result<Vec<OutRow>, OutOfMemory>
+    ensures { (js : List Judgement) → IsByNode js by_node.now
+        → IfOk result (λ rows. rows.items ≡ map (λ v. row_of rule v.node js v.verdict) verdicts.items) }
 {
-    match book.judge(alloc, tree, rule, node)? {
-        Some(verdict) => Ok(Some(row_of(alloc, by_node, rule, node, verdict)?)),
-        None => Ok(None),
+    let mut rows = Vec::with_capacity(alloc, verdicts.len())?;
+    for found in verdicts {
+        let row = row_of(alloc, by_node, rule, found.node, found.verdict)?;
+        rows.push(row)?;
     }
+    Ok(rows)
 }
 
-/// The rows of an atomic rule: it is judged on each node.
+/// The rows of an atomic rule: the page is judged by it.
 pub(crate) fn atomic_rows<B: RuleBook>(
     alloc: Global,
     book: &mut B,
@@ -65,10 +63,7 @@ pub(crate) fn atomic_rows<B: RuleBook>(
         (λ rows. rows ≡ atomic_rows (record { infos = B.infos; means = B.means }) tree.now js rule) }
     ensures counted { B.calls book.new ≤ B.calls book.old + length (rows_of tree.now.trees) }
 {
-    let mut rows = Vec::new(alloc);
-    for row in tree.rows() {
-        let row = atomic_row(alloc, book, tree, by_node, rule, row.id)?;
-        push_row(&mut rows, row)?;
-    }
+    let verdicts = book.judge_page(alloc, tree, rule)?;
+    let rows = rows_of(alloc, by_node, rule, verdicts)?;
     Ok(List::from_vec(rows))
 }

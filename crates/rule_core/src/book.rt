@@ -1,4 +1,4 @@
-ghost use Rattle.std.specs.Prelude.{◌≡◌, ℕ, ◌<◌, ◌^◌, List, length, Option, None, IfOk, IsTrue, false, slice_get};
+ghost use Rattle.std.specs.Prelude.{◌≡◌, ℕ, ◌+◌, ◌<◌, ◌≤◌, ◌^◌, List, length, Option, None, IfOk, IsTrue, false, slice_get};
 ghost use Rattle.counts.specs.Counts.{next};
 ghost use Rattle.snap_tree.specs.declared.row.NodeId.{NodeId};
 ghost use Rattle.snap_tree.specs.Trees.{Document};
@@ -6,9 +6,10 @@ ghost use Rattle.rule_core.specs.declared.info.RuleNo.{RuleNo};
 ghost use Rattle.rule_core.specs.declared.info.RuleInfo.{RuleInfo};
 ghost use Rattle.rule_core.specs.declared.verdict.Verdict.{Verdict};
 ghost use Rattle.rule_core.specs.Infos.{is_orderly, has_atomic};
+ghost use Rattle.rule_core.specs.Pages.{page_verdicts, node_count};
 
 use crate::info::{RuleInfo, RuleNo};
-use crate::verdict::Verdict;
+use crate::verdict::{NodeVerdict, Verdict, push_verdict};
 use snap_tree::{NodeId, OutOfMemory, Tree};
 use std::alloc::Global;
 
@@ -38,6 +39,29 @@ pub trait RuleBook {
     ) -> Result<Option<Verdict>, OutOfMemory>
         ensures verdict { IfOk result (λ verdict. verdict ≡ means rule tree.now n) }
         ensures counted { calls self.new ≡ next (calls self.old) };
+
+    /// The verdicts of an atomic rule on a page, in document order: of each node that is a target of the
+    /// rule; none where the number isn't that of an atomic rule of the book. The count of judgings rises
+    /// by at most the number of the nodes. Fails only for want of memory.
+    ///
+    /// A rule that compares the nodes of a page with one another may answer it in less time than one
+    /// node after another.
+    fn judge_page(
+        &mut self,
+        alloc: Global,
+        tree: &Tree,
+        rule: RuleNo,
+    ) -> Result<Vec<NodeVerdict>, OutOfMemory>
+        ensures verdicts { IfOk result (λ verdicts. verdicts.items ≡ page_verdicts (means rule) tree.now) }
+        ensures counted { calls self.new ≤ calls self.old + node_count tree.now }
+    {
+        let mut verdicts = Vec::new(alloc);
+        for row in tree.rows() {
+            let verdict = self.judge(alloc, tree, rule, row.id)?;
+            push_verdict(&mut verdicts, row.id, verdict)?;
+        }
+        Ok(verdicts)
+    }
 
     /// The number of judgings so far; at the greatest `u64` it stays.
     fn calls(&self) -> u64

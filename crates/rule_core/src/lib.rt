@@ -17,4 +17,4 @@ pub use finding::Finding;
 pub use info::{Class, RuleInfo, RuleNo};
 pub use reason::{Reason, laws_of_words};
 pub use rule::Rule;
-pub use verdict::{Auto, Verdict};
+pub use verdict::{Auto, NodeVerdict, Verdict, push_verdict};

@@ -1,6 +1,6 @@
--- What a pass over a table notes decides what is found of a header.
+-- What is kept of a table decides what is found of a header.
 use Rattle.std.proofs.Common.{◌≡◌, ◌<◌, ◌≤◌, ◌*◌, ◌/◌, ◌^◌, ℕ, suc, max, List, [], ◌∷◌, length, filter, Bool, true}
-use Rattle.std.proofs.Common.{false, ◌&&◌, ◌||◌, not, cond, ltb, Option, refl, sym, ap, ◌∙◌, arith, ⊎_elim, div-lt_iff_lt-mul}
+use Rattle.std.proofs.Common.{false, ◌&&◌, ◌||◌, not, cond, ltb, Option, refl, sym, ap, ◌∙◌, arith, subst, ⊎_elim, div-lt_iff_lt-mul}
 use Rattle.std.proofs.lemmas.Bool.{lt-ltb, le-ltb, cases_lt}
 use Rattle.std.specs.List.{list_any}
 use Rattle.snap_tree.specs.declared.row.Row.{Row}
@@ -14,10 +14,13 @@ use Rattle.rules_tables.specs.declared.grid.Area.{Area}
 use Rattle.rules_tables.specs.Assigned.{direction_of, is_meant, is_assigned, place_of, assigned}
 use Rattle.rules_tables.specs.Grid.{Placed, width, grid, slots}
 use Rattle.rules_tables.specs.HeaderHasCells.{cells_finding, header_finding, cell_count}
-use Rattle.rules_tables.specs.Survey.{Question, Noted, is_its, question, surveyed}
+use Rattle.rules_tables.specs.declared.heads.Heads.{Heads}
+use Rattle.rules_tables.specs.Heads.{finds, Keeps, IsOf}
+use Rattle.rules_tables.specs.Survey.{Noted, is_its, most_columns, all_row_count, surveyed}
 use Rattle.rules_tables.specs.TableRows.{TableRow, table_rows}
 use Rattle.rules_tables.proofs.Celled.{GridCelled, grid_celled}
 use Rattle.rules_tables.proofs.Counting.{rows_length, rows_placed_length, rows_few, count_seen}
+use Rattle.rules_tables.proofs.Asking.{finds_in_grid}
 use Rattle.rules_tables.proofs.Placing.{survey_told}
 use Rattle.rules_tables.proofs.RoleOfCell.{data_is}
 
@@ -58,39 +61,47 @@ same_assigned above header o (p ∷ placed) h =
     ap (λ x. (not (has_number header.id p.cell) && (is_meant header (direction_of header) o p && x)) || list_any (is_its header (direction_of header) o) placed) (data_is above p.cell h.0)
     ∙ ap (λ x. is_assigned above header (direction_of header) o p || x) (same_assigned above header o placed h.1)
 
--- ---- the finding
+-- ---- what is kept
 
-wide_is_large : (header : Row) (t : Trees) → (surveyed (question header t) t).wide ≡ ltb 100000 (slots (table_rows 0 t))
-wide_is_large header t =
-    (survey_told (question header t) (table_rows 0 t)).wide_is ∙ sym (ap (λ n. ltb (100000 / max n 1) (width (the_grid t))) (rows_length 0 t)) ∙ slots_wide (table_rows 0 t)
+wide_is_large : (t : Trees) → (surveyed t).wide ≡ ltb 100000 (slots (table_rows 0 t))
+wide_is_large t =
+    (survey_told (most_columns (all_row_count t)) (table_rows 0 t)).wide_is ∙ sym (ap (λ n. ltb (100000 / max n 1) (width (the_grid t))) (rows_length 0 t)) ∙ slots_wide (table_rows 0 t)
 
-pub large_found : (above : Above) (header : Row) (t : Trees) (s : Noted) → s ≡ surveyed (question header t) t → s.wide ≡ true → cant_tell LargeGrid ≡ header_finding above header (table_rows 0 t)
-large_found above header t s e wide =
-    sym (ap (λ b. cond b (cant_tell LargeGrid) (cells_finding (assigned above header (the_grid t)))) (sym (wide_is_large header t) ∙ sym (ap (λ s. s.wide) e) ∙ wide))
-
--- what a pass found of a grid that isn't large
-found_is : (above : Above) (header : Row) (t : Trees) (s : Noted) → s ≡ surveyed (question header t) t → s.wide ≡ false → cond s.found met (failed NoCells) ≡ header_finding above header (table_rows 0 t)
-found_is above header t s e narrow =
-    let small : ltb 100000 (slots (table_rows 0 t)) ≡ false = sym (wide_is_large header t) ∙ sym (ap (λ s. s.wide) e) ∙ narrow in
-    let was = (survey_told (question header t) (table_rows 0 t)).told (sym (ap (λ s. s.wide) e) ∙ narrow) in
-    let place = place_of header.id (the_grid t) in
-    ap (λ b. cond b met (failed NoCells)) (ap (λ s. s.found) e ∙ was.found_is ∙ same_assigned above header place (the_grid t) (grid_celled t))
-    ∙ sym (any_found (is_assigned above header (direction_of header) place) (the_grid t))
-    ∙ sym (ap (λ b. cond b (cant_tell LargeGrid) (cells_finding (assigned above header (the_grid t)))) small)
-
-pub some_found : (above : Above) (header : Row) (t : Trees) (s : Noted) → s ≡ surveyed (question header t) t → s.wide ≡ false → s.found ≡ true → met ≡ header_finding above header (table_rows 0 t)
-some_found above header t s e narrow found = sym (ap (λ b. cond b met (failed NoCells)) found) ∙ found_is above header t s e narrow
-
-pub none_found : (above : Above) (header : Row) (t : Trees) (s : Noted) → s ≡ surveyed (question header t) t → s.wide ≡ false → s.found ≡ false → failed NoCells ≡ header_finding above header (table_rows 0 t)
-none_found above header t s e narrow found = sym (ap (λ b. cond b met (failed NoCells)) found) ∙ found_is above header t s e narrow
-
--- ---- the number of cells
-
-pub cells_counted : (q : Question) (t : Trees) (s : Noted) → s ≡ surveyed q (seen t) → count t < 2 ^ 64 → s.cells ≡ cell_count (table_rows 0 (seen t))
-cells_counted q t s e few =
-    let told = (survey_told q (table_rows 0 (seen t))).cells_are in
+cells_counted : (t : Trees) (s : Noted) → s ≡ surveyed (seen t) → count t < 2 ^ 64 → s.cells ≡ cell_count (table_rows 0 (seen t))
+cells_counted t s e few =
+    let told = (survey_told (most_columns (all_row_count (seen t))) (table_rows 0 (seen t))).cells_are in
     let all = rows_placed_length [] 0 (table_rows 0 (seen t)) in
     let most = rows_few 0 (seen t) in
     let same = count_seen t in
     let is = ap (λ s. s.cells) e in
     omega arith
+
+-- what is kept of the cells that a pass placed is that of the table
+pub is_of : (t : Trees) (s : Noted) (h : Heads) → s ≡ surveyed (seen t) → count t < 2 ^ 64 → h.count ≡ s.cells → h.wide ≡ s.wide → Keeps h.cells s.placed → IsOf (seen t) h
+is_of t s h e few counted wide keeps = record {
+  wide_is = wide ∙ ap (λ s. s.wide) e ∙ wide_is_large (seen t);
+  count_is = counted ∙ cells_counted t s e few;
+  found = λ narrow.
+      let placed = ap (λ s. s.placed) e ∙ ((survey_told (most_columns (all_row_count (seen t))) (table_rows 0 (seen t))).told (sym (wide ∙ ap (λ s. s.wide) e) ∙ narrow)).placed_are in
+      finds_in_grid h.cells (the_grid (seen t)) (subst (Keeps h.cells) placed keeps);
+}
+
+-- ---- the finding
+
+pub large_found : (above : Above) (header : Row) (t : Trees) (h : Heads) → IsOf t h → h.wide ≡ true → cant_tell LargeGrid ≡ header_finding above header (table_rows 0 t)
+large_found above header t h is wide =
+    sym (ap (λ b. cond b (cant_tell LargeGrid) (cells_finding (assigned above header (the_grid t)))) (sym is.wide_is ∙ wide))
+
+-- what is found in a grid that isn't large
+found_is : (above : Above) (header : Row) (t : Trees) (h : Heads) → IsOf t h → h.wide ≡ false → cond (finds h.cells header) met (failed NoCells) ≡ header_finding above header (table_rows 0 t)
+found_is above header t h is narrow =
+    let place = place_of header.id (the_grid t) in
+    ap (λ b. cond b met (failed NoCells)) (is.found narrow header ∙ same_assigned above header place (the_grid t) (grid_celled t))
+    ∙ sym (any_found (is_assigned above header (direction_of header) place) (the_grid t))
+    ∙ sym (ap (λ b. cond b (cant_tell LargeGrid) (cells_finding (assigned above header (the_grid t)))) (sym is.wide_is ∙ narrow))
+
+pub some_found : (above : Above) (header : Row) (t : Trees) (h : Heads) → IsOf t h → h.wide ≡ false → true ≡ finds h.cells header → met ≡ header_finding above header (table_rows 0 t)
+some_found above header t h is narrow found = ap (λ b. cond b met (failed NoCells)) found ∙ found_is above header t h is narrow
+
+pub none_found : (above : Above) (header : Row) (t : Trees) (h : Heads) → IsOf t h → h.wide ≡ false → false ≡ finds h.cells header → failed NoCells ≡ header_finding above header (table_rows 0 t)
+none_found above header t h is narrow found = ap (λ b. cond b met (failed NoCells)) found ∙ found_is above header t h is narrow

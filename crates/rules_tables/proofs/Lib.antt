@@ -2,13 +2,15 @@ pub mod Seeing
 pub mod Covering
 pub mod Freeing
 pub mod Lawful
-pub mod Leading
 pub mod Placing
+pub mod Bearing
+pub mod Asking
 pub mod Counting
 pub mod Celled
 pub mod Tagging
 pub mod Nearest
 pub mod Referring
+pub mod Naming
 pub mod RoleOfCell
 pub mod Deciding
 pub mod Judged

@@ -9,3 +9,6 @@ pub mod HeadersReferToCells
 pub mod GridLaws
 pub mod RoleLaws
 pub mod TargetLaws
+pub mod Bearers
+pub mod Heads
+pub mod TableIds

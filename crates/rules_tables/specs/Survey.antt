@@ -1,21 +1,18 @@
 -- What a pass over the cells of a table keeps: for each column the row from which on it is free, and what
 -- was asked of the cells.
-use Rattle.std.specs.Prelude.{◌&&◌, ◌||◌, not, codes, ◌+◌, ◌-◌, ◌/◌, ◌^◌, nat_lt, ℕ, zero, suc, min, max, List, [], ◌∷◌, ◌++◌, length, drop, slice_index, slice_set, Bool, true, false, if◌then◌else◌, Option, Some, None}
-use Rattle.std.specs.Option.{is_some, option_or}
-use Rattle.std.specs.List.{list_any}
+use Rattle.std.specs.Prelude.{◌&&◌, not, codes, ◌+◌, ◌-◌, ◌/◌, ◌^◌, nat_lt, ℕ, zero, suc, min, max, List, [], ◌∷◌, ◌++◌, length, map, drop, slice_index, slice_set, Bool, true, false, if◌then◌else◌, Option, Some, None}
 use Rattle.aria_tables.specs.declared.role.Role.{Role}
 use Rattle.snap_tree.specs.declared.row.Row.{Row}
 use Rattle.snap_tree.specs.Rows.{has_number, is_html}
 use Rattle.snap_tree.specs.Trees.{Trees, empty, tree}
-use Rattle.acc_tree.specs.declared.attributes.Attribute.TheVariants as attribute
 use Rattle.acc_tree.specs.Roles.{explicit}
-use Rattle.acc_tree.specs.Seen.{seen_row, is_blank_at}
+use Rattle.acc_tree.specs.Seen.{seen_row}
 use Rattle.rules_tables.specs.declared.assigned.Direction.{Direction}
 use Rattle.rules_tables.specs.declared.grid.Area.{Area}
-use Rattle.rules_tables.specs.declared.survey.Question.{Question as LentQuestion}
+use Rattle.rules_tables.specs.declared.survey.PlacedCell.{PlacedCell}
 use Rattle.rules_tables.specs.declared.survey.Survey.{Survey}
 use Rattle.rules_tables.specs.declared.survey.TheConstants.{MOST_SLOTS}
-use Rattle.rules_tables.specs.Assigned.{direction_of, is_led_to, is_data_role, is_meant}
+use Rattle.rules_tables.specs.Assigned.{is_data_role, is_meant}
 use Rattle.rules_tables.specs.Grid.{Placed, area_at}
 use Rattle.rules_tables.specs.TableRows.{TableRow, is_row_group, is_table_row, row_count, table_rows}
 
@@ -55,19 +52,6 @@ most_columns rows = MOST_SLOTS / max rows 1
 
 -- ---- cells
 
--- the header that is asked for, where its cells lie, and the greatest width of a grid that isn't large
-pub record Question : Type 0 where
-  pub header : Row
-  pub direction : Direction
-  pub most : ℕ
-
--- what is asked of the cells of a table for a header of it
-abbrev pub question : Row → Trees → Question
-question header table = record { header = header; direction = direction_of header; most = most_columns (all_row_count table) }
-
-abbrev pub seen_question : LentQuestion → Question
-seen_question q = record { header = seen_row q.header.now; direction = q.direction; most = q.most }
-
 -- a cell without an explicit role is a data cell where it is a `td`, which has the role cell or gridcell
 abbrev pub is_data_by : Row → Option Role → Bool
 is_data_by cell None = is_html (codes "td") cell
@@ -80,48 +64,33 @@ is_data cell = is_data_by cell (explicit cell)
 abbrev pub is_its : Row → Direction → Option Area → Placed → Bool
 is_its header d place p = not (has_number header.id p.cell) && (is_meant header d place p && is_data p.cell)
 
--- the cell is assigned to a header wherever the header leads to it
-abbrev pub is_open : Row → Row → Bool
-is_open header cell = not (has_number header.id cell) && (is_blank_at attribute.Headers cell && is_data cell)
-
--- the cell is open, and reaches below its own row
-abbrev pub is_tall : Question → Row → Area → Bool
-is_tall q cell a = nat_lt 1 (a.bottom - a.top) && is_open q.header cell
-
 -- what has been noted
 pub record Noted : Type 0 where
   pub columns : List ℕ
   pub column : ℕ
   pub cells : ℕ
-  pub tall : List Area
-  pub place : Option Area
+  pub placed : List Placed
   pub wide : Bool
-  pub found : Bool
+
+abbrev pub seen_placed : PlacedCell → Placed
+seen_placed p = record { cell = seen_row p.cell.now; area = p.area }
 
 abbrev pub noted : Survey → Noted
-noted s = record { columns = s.columns.items; column = s.column; cells = s.cells; tall = s.tall.items; place = s.place; wide = s.wide; found = s.found }
+noted s = record { columns = s.columns.items; column = s.column; cells = s.cells; placed = map seen_placed s.placed.items; wide = s.wide }
 
 abbrev pub nothing_noted : Noted
-nothing_noted = record { columns = []; column = 0; cells = 0; tall = []; place = None; wide = false; found = false }
+nothing_noted = record { columns = []; column = 0; cells = 0; placed = []; wide = false }
 
 -- a count that stands still at the end of its type
 abbrev pub counted : ℕ → ℕ
 counted n = min (n + 1) (2 ^ 64 - 1)
 
--- a cell at its place is assigned to the header; or it is the header, and leads to a tall cell before it
-abbrev pub finds : Question → Noted → Row → Area → Bool
-finds q s cell a =
-    if has_number q.header.id cell then not (is_some s.place) && list_any (is_led_to q.direction (Some a)) s.tall
-    else is_its q.header q.direction s.place (record { cell = cell; area = a })
-
 -- a cell at its place
-abbrev pub placed_at : Question → Noted → Row → Area → Noted
-placed_at q s cell a = record s {
+abbrev pub placed_at : Noted → Row → Area → Noted
+placed_at s cell a = record s {
   columns = raised_all s.columns a.left (a.right - a.left) a.bottom;
   column = a.right;
-  tall = if is_tall q cell a then s.tall ++ a ∷ [] else s.tall;
-  place = option_or s.place (if has_number q.header.id cell then Some a else None);
-  found = s.found || finds q s cell a;
+  placed = s.placed ++ record { cell = cell; area = a } ∷ [];
 }
 
 -- an area, unless it reaches past the limit
@@ -129,28 +98,28 @@ abbrev pub within : ℕ → Area → Option Area
 within most a = if nat_lt most a.right then None else Some a
 
 -- a cell that reaches past the limit isn't placed, and from it on cells are only counted
-abbrev pub fitted : Question → Noted → Row → Option Area → Noted
-fitted q s cell None = record s { wide = true }
-fitted q s cell (Some a) = placed_at q s cell a
+abbrev pub fitted : Noted → Row → Option Area → Noted
+fitted s cell None = record s { wide = true }
+fitted s cell (Some a) = placed_at s cell a
 
-abbrev pub after_cell : Question → ℕ → ℕ → Noted → Row → Noted
-after_cell q row end s cell =
+abbrev pub after_cell : ℕ → ℕ → ℕ → Noted → Row → Noted
+after_cell most row end s cell =
     let more = record s { cells = counted s.cells }
     in
-    if s.wide then more else fitted q more cell (within q.most (next_area s.columns row end s.column cell))
+    if s.wide then more else fitted more cell (within most (next_area s.columns row end s.column cell))
 
-abbrev pub after_cells : Question → ℕ → ℕ → Noted → List Row → Noted
-after_cells q row end s [] = s
-after_cells q row end s (cell ∷ cells) = after_cells q row end (after_cell q row end s cell) cells
+abbrev pub after_cells : ℕ → ℕ → ℕ → Noted → List Row → Noted
+after_cells most row end s [] = s
+after_cells most row end s (cell ∷ cells) = after_cells most row end (after_cell most row end s cell) cells
 
 -- a row begins at its first column
-abbrev pub after_row : Question → ℕ → ℕ → Noted → List Row → Noted
-after_row q row end s cells = after_cells q row end (record s { column = 0 }) cells
+abbrev pub after_row : ℕ → ℕ → ℕ → Noted → List Row → Noted
+after_row most row end s cells = after_cells most row end (record s { column = 0 }) cells
 
-abbrev pub after_rows : Question → ℕ → Noted → List TableRow → Noted
-after_rows q n s [] = s
-after_rows q n s (row ∷ rows) = after_rows q (n + 1) (after_row q n row.end s row.cells) rows
+abbrev pub after_rows : ℕ → ℕ → Noted → List TableRow → Noted
+after_rows most n s [] = s
+after_rows most n s (row ∷ rows) = after_rows most (n + 1) (after_row most n row.end s row.cells) rows
 
 -- what a pass over a table notes
-abbrev pub surveyed : Question → Trees → Noted
-surveyed q table = after_rows q 0 nothing_noted (table_rows 0 table)
+abbrev pub surveyed : Trees → Noted
+surveyed table = after_rows (most_columns (all_row_count table)) 0 nothing_noted (table_rows 0 table)

@@ -1,15 +1,18 @@
-ghost use Rattle.std.specs.Prelude.{◌≡◌, ◌++◌, codes, decimal, IfOk};
+ghost use Rattle.std.specs.Prelude.{◌≡◌, ◌++◌, codes, decimal, option_and_then, IfOk};
+ghost use Rattle.rule_core.specs.Findings.{verdict_of};
+ghost use Rattle.rule_core.specs.Pages.{page_verdicts};
 ghost use Rattle.acc_tree.specs.Seen.{seen_row, seen};
 ghost use Rattle.rules_tables.specs.HeaderHasCells.{is_header_role, is_header_target, header_finding, cells_text};
 ghost use Rattle.rules_tables.specs.HeaderHasCells.{header_verdict, header_has_cells, header_has_cells_info};
-ghost use Rattle.rules_tables.specs.Survey.{question, seen_question, noted, surveyed};
+ghost use Rattle.rules_tables.specs.Heads.{IsOf, AreOfPage};
 ghost use Rattle.rules_tables.specs.TableRows.{table_rows};
+ghost use Rattle.rules_tables.specs.Tables.{below};
 
-use crate::survey::{Question, Survey};
-use crate::tables::{below_table, in_table};
+use crate::heads::{Heads, heads_among, heads_of};
+use crate::tables::{below, in_table};
 use acc_tree::{Above, included_at, role_at};
 use aria_tables::Role;
-use rule_core::{Class, Finding, Reason, Rule, RuleInfo, Verdict};
+use rule_core::{Class, Finding, NodeVerdict, Reason, Rule, RuleInfo, Verdict, push_verdict};
 use rule_sights::sight_of_html;
 use snap_tree::{Branches, NodeId, OutOfMemory, Row, Text, Tree};
 use std::alloc::Global;
@@ -34,13 +37,13 @@ fn is_target(above: &Above, row: &Row) -> bool
     is_header_role(role_at(above, row)) && in_table(above) && included_at(above, row)
 }
 
-fn finding(above: &Above, header: &Row, survey: &Survey, table: &Branches<'_>) -> Finding
-    requires { noted survey.now ≡ surveyed (question (seen_row header.now) (seen table.now)) (seen table.now) }
+fn finding(heads: &Heads<'_>, above: &Above, header: &Row, table: &Branches<'_>) -> Finding
+    requires { IsOf (seen table.now) heads.now }
     ensures { result ≡ header_finding above.now (seen_row header.now) (table_rows 0 (seen table.now)) }
 {
-    if survey.wide {
+    if heads.wide {
         Finding::cant_tell(Reason::LargeGrid)
-    } else if survey.found {
+    } else if heads.cells.finds(header) {
         Finding::met()
     } else {
         Finding::failed(Reason::NoCells)
@@ -53,36 +56,86 @@ fn cells_text(alloc: Global, cells: usize) -> Result<Text, OutOfMemory>
     Ok(Text::from_string(format!(in alloc; "cells {cells}")?))
 }
 
-fn evidence(
-    alloc: Global,
-    question: &Question<'_>,
-    survey: &Survey,
-    table: &Branches<'_>,
-) -> Result<Text, OutOfMemory>
-    requires { noted survey.now ≡ surveyed (seen_question question.now) (seen table.now) }
-    ensures { IfOk result (λ text. text ≡ cells_text (table_rows 0 (seen table.now))) }
-{
-    let _most = table.len();
-    cells_text(alloc, survey.cells)
-}
-
+// The verdict on a header, given what is kept of its table, and what is below that.
 fn verdict(
     alloc: Global,
+    heads: &Heads<'_>,
     above: &Above,
     header: &Row,
     table: &Branches<'_>,
-) -> Result<Option<Verdict>, OutOfMemory>
+) -> Result<Verdict, OutOfMemory>
+    requires { IsOf (seen table.now) heads.now }
     ensures { IfOk result (λ verdict.
-        verdict ≡ header_verdict above.now (seen_row header.now) (seen table.now)) }
+        verdict ≡ verdict_of (header_finding above.now (seen_row header.now) (table_rows 0 (seen table.now)))
+        (cells_text (table_rows 0 (seen table.now)))) }
 {
-    if !is_target(above, header) {
+    let finding = finding(heads, above, header, table);
+    let text = cells_text(alloc, heads.count)?;
+    finding.verdict(alloc, &text)
+}
+
+// The verdict on a cell, given the number of its nearest table. What is kept of that is looked for among
+// these, and else found anew.
+fn verdict_in(
+    alloc: Global,
+    tables: &[Heads<'_>],
+    tree: &Tree,
+    table: NodeId,
+    above: &Above,
+    row: &Row,
+) -> Result<Option<Verdict>, OutOfMemory>
+    requires { AreOfPage (seen tree.now.trees) tables.now }
+    ensures { IfOk result (λ verdict. verdict ≡ option_and_then
+        (header_verdict above.now (seen_row row.now)) (below (seen tree.now.trees) table)) }
+{
+    let Some(inside) = below(tree, table) else {
+        return Ok(None);
+    };
+    if !is_target(above, row) {
         return Ok(None);
     }
-    let question = Question::new(header, table);
-    let survey = Survey::of(alloc, &question, table)?;
-    let finding = finding(above, header, &survey, table);
-    let text = evidence(alloc, &question, &survey, table)?;
-    Ok(Some(finding.verdict(alloc, &text)?))
+    match heads_among(tables, table) {
+        Some(heads) => Ok(Some(verdict(alloc, heads, above, row, &inside)?)),
+        None => {
+            let heads = Heads::of(alloc, table, &inside)?;
+            Ok(Some(verdict(alloc, &heads, above, row, &inside)?))
+        }
+    }
+}
+
+// The verdict on a node, given what is kept of some tables of the page.
+fn verdict_among(
+    alloc: Global,
+    tables: &[Heads<'_>],
+    tree: &Tree,
+    n: NodeId,
+) -> Result<Option<Verdict>, OutOfMemory>
+    requires { AreOfPage (seen tree.now.trees) tables.now }
+    ensures { IfOk result (λ verdict. verdict ≡ header_has_cells tree.now n) }
+{
+    let Some(sight) = sight_of_html(tree, n, "th") else {
+        return Ok(None);
+    };
+    match sight.above.table() {
+        Some(table) => verdict_in(alloc, tables, tree, table.node, &sight.above, sight.row),
+        None => Ok(None),
+    }
+}
+
+impl HeaderHasCells {
+    /// The verdicts on a page, in document order: of each node that is a target. Each table of the page is
+    /// gone over once, whatever the number of its headers. Fails only for want of memory.
+    pub fn judge_page(&self, alloc: Global, tree: &Tree) -> Result<Vec<NodeVerdict>, OutOfMemory>
+        ensures { IfOk result (λ verdicts. verdicts.items ≡ page_verdicts header_has_cells tree.now) }
+    {
+        let tables = heads_of(alloc, tree)?;
+        let mut verdicts = Vec::new(alloc);
+        for row in tree.rows() {
+            let verdict = verdict_among(alloc, tables.as_slice(), tree, row.id)?;
+            push_verdict(&mut verdicts, row.id, verdict)?;
+        }
+        Ok(verdicts)
+    }
 }
 
 impl Rule for HeaderHasCells {
@@ -95,12 +148,6 @@ impl Rule for HeaderHasCells {
     }
 
     fn judge(&self, alloc: Global, tree: &Tree, n: NodeId) -> Result<Option<Verdict>, OutOfMemory> {
-        let Some(sight) = sight_of_html(tree, n, "th") else {
-            return Ok(None);
-        };
-        match below_table(tree, &sight.above) {
-            Some(table) => verdict(alloc, &sight.above, sight.row, &table),
-            None => Ok(None),
-        }
+        verdict_among(alloc, &[], tree, n)
     }
 }

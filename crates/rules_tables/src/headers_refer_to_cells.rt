@@ -1,19 +1,22 @@
-ghost use Rattle.std.specs.Prelude.{◌≡◌, Some, option_and_then, IsTrue, IfOk};
-ghost use Rattle.snap_tree.specs.Labels.{id_of};
-ghost use Rattle.snap_tree.specs.Rows.{is_key};
+ghost use Rattle.std.specs.Prelude.{◌≡◌, option_and_then, IfOk};
 ghost use Rattle.texts.specs.Words.{words};
-ghost use Rattle.acc_tree.specs.Seen.{seen_row, seen};
-ghost use Rattle.rules_tables.specs.HeadersReferToCells.{is_other_named, refers_inside, IsCellOf, refer_inside};
-ghost use Rattle.rules_tables.specs.HeadersReferToCells.{headers_finding, is_headers_target, headers_verdict};
+ghost use Rattle.acc_tree.specs.declared.attributes.Attribute.TheVariants as attribute;
+ghost use Rattle.acc_tree.specs.Seen.{seen_row, seen, text_at};
+ghost use Rattle.rule_core.specs.Findings.{verdict_of};
+ghost use Rattle.rule_core.specs.Pages.{page_verdicts};
+ghost use Rattle.rules_tables.specs.HeadersReferToCells.{refer_inside, headers_finding, is_headers_target, headers_verdict};
 ghost use Rattle.rules_tables.specs.HeadersReferToCells.{headers_refer_to_cells, headers_refer_to_cells_info};
+ghost use Rattle.rules_tables.specs.TableIds.{AreIds, AreAllIds};
 ghost use Rattle.rules_tables.specs.Tables.{below};
 
+use crate::bearers::{Bearers, has_other};
+use crate::table_ids::{TableIds, all_ids, ids_among, ids_inside};
 use crate::table_rows::is_cell;
-use crate::tables::{below, in_table, is_number, is_table, law_of_climbing, nearest_table};
+use crate::tables::{below, in_table};
 use acc_tree::{Above, Attribute, attr, exposed_at, is_blank_at, text_at};
-use rule_core::{Class, Finding, Reason, Rule, RuleInfo, Verdict};
+use rule_core::{Class, Finding, NodeVerdict, Reason, Rule, RuleInfo, Verdict, push_verdict};
 use rule_sights::sight_with;
-use snap_tree::{Branch, Branches, NodeId, OutOfMemory, Row, Tree, next_word};
+use snap_tree::{Branches, NodeId, OutOfMemory, Row, Tree, next_word};
 use std::alloc::Global;
 
 /// ACT rule a25f45, Headers attribute specified on a cell refers to cells in the same table element
@@ -23,75 +26,13 @@ use std::alloc::Global;
 #[derive(Clone, Copy, Debug, PartialEq, Eq)]
 pub struct HeadersReferToCells;
 
-fn has_id(row: &Row, id: &str) -> bool
-    ensures { result ≡ is_key id.now (id_of (seen_row row.now)) }
-{
-    match attr(row, Attribute::Id) {
-        Some(own) => !own.is_empty() && id == own.as_str(),
-        None => false,
-    }
-}
-
-fn is_other_named(row: &Row, n: NodeId, id: &str) -> bool
-    ensures { result ≡ is_other_named n id.now (seen_row row.now) }
-{
-    row.id.0 != n.0 && has_id(row, id)
-}
-
-// Whether another cell of a table has this id. It goes over what is below the table.
-#[tactic(auto, using(crate::proofs::Seeing::lent_first))]
-fn has_cell(table: &Branches<'_>, n: NodeId, id: &str) -> bool
-    ensures { result ≡ refers_inside (seen table.now) n id.now }
-{
-    let mut next = table.first();
-    while let Some(Branch { row, kids, after }) = next {
-        if is_cell(row) && is_other_named(row, n, id) {
-            return true;
-        }
-        if !is_table(row) && has_cell(&kids, n, id) {
-            return true;
-        }
-        next = after.first();
-    }
-    false
-}
-
-// Whether a node is another cell of a table and has this id.
-fn is_cell_of(tree: &Tree, table: NodeId, n: NodeId, id: &str, m: NodeId) -> bool
-    ensures { IsTrue result → IsCellOf (seen tree.now.trees) table n id.now }
-{
-    law_of_climbing(tree);
-    let Some(row) = tree.node(m) else {
-        return false;
-    };
-    if !is_cell(row) {
-        return false;
-    }
-    if !is_other_named(row, n, id) {
-        return false;
-    }
-    is_number(nearest_table(tree, row.parent), table)
-}
-
-// Whether a word is the id of another cell of a table. The first element with the id is nearly always
-// that cell; only where it is another one the table is gone over.
-fn refers_inside(tree: &Tree, table: NodeId, inside: &Branches<'_>, n: NodeId, word: &str) -> bool
-    requires { Some (seen inside.now) ≡ below (seen tree.now.trees) table }
-    ensures { result ≡ refers_inside (seen inside.now) n word.now }
-{
-    match tree.by_id(word) {
-        Some(m) => is_cell_of(tree, table, n, word, m) || has_cell(inside, n, word),
-        None => false,
-    }
-}
-
-fn refer_inside(tree: &Tree, table: NodeId, inside: &Branches<'_>, n: NodeId, text: &str) -> bool
-    requires { Some (seen inside.now) ≡ below (seen tree.now.trees) table }
+fn refer_inside(ids: &Bearers<'_>, inside: &Branches<'_>, n: NodeId, text: &str) -> bool
+    requires { AreIds (seen inside.now) ids.now }
     ensures { result ≡ refer_inside (seen inside.now) n (words text.now) }
 {
     let mut rest = text;
     while let Some((word, later)) = next_word(rest) {
-        if !refers_inside(tree, table, inside, n, word) {
+        if !has_other(ids, word, n) {
             return false;
         }
         rest = later;
@@ -99,12 +40,12 @@ fn refer_inside(tree: &Tree, table: NodeId, inside: &Branches<'_>, n: NodeId, te
     true
 }
 
-fn finding(tree: &Tree, table: NodeId, inside: &Branches<'_>, row: &Row) -> Finding
-    requires { Some (seen inside.now) ≡ below (seen tree.now.trees) table }
+fn finding(ids: &Bearers<'_>, inside: &Branches<'_>, row: &Row) -> Finding
+    requires { AreIds (seen inside.now) ids.now }
     ensures { result ≡ headers_finding (seen_row row.now) (seen inside.now) }
 {
     let headers = text_at(row, Attribute::Headers);
-    if refer_inside(tree, table, inside, row.id, headers) {
+    if refer_inside(ids, inside, row.id, headers) {
         Finding::met()
     } else {
         Finding::failed(Reason::HeadersOutside)
@@ -120,13 +61,32 @@ fn is_target(above: &Above, row: &Row) -> bool
         && exposed_at(above, row)
 }
 
+// The verdict on a target, given the ids of its table's cells, and what is below that.
 fn verdict(
     alloc: Global,
+    ids: &Bearers<'_>,
+    inside: &Branches<'_>,
+    row: &Row,
+) -> Result<Verdict, OutOfMemory>
+    requires { AreIds (seen inside.now) ids.now }
+    ensures { IfOk result (λ verdict. verdict
+        ≡ verdict_of (headers_finding (seen_row row.now) (seen inside.now)) (text_at attribute.Headers (seen_row row.now))) }
+{
+    let finding = finding(ids, inside, row);
+    finding.verdict_on(alloc, attr(row, Attribute::Headers))
+}
+
+// The verdict on a node, given the number of its nearest table. The ids of that are looked for among these,
+// and else found anew.
+fn verdict_in(
+    alloc: Global,
+    tables: &[TableIds<'_>],
     tree: &Tree,
     table: NodeId,
     above: &Above,
     row: &Row,
 ) -> Result<Option<Verdict>, OutOfMemory>
+    requires { AreAllIds (seen tree.now.trees) tables.now }
     ensures { IfOk result (λ verdict. verdict ≡ option_and_then
         (headers_verdict above.now (seen_row row.now)) (below (seen tree.now.trees) table)) }
 {
@@ -136,8 +96,49 @@ fn verdict(
     if !is_target(above, row) {
         return Ok(None);
     }
-    let finding = finding(tree, table, &inside, row);
-    Ok(Some(finding.verdict_on(alloc, attr(row, Attribute::Headers))?))
+    match ids_among(tables, table) {
+        Some(known) => Ok(Some(verdict(alloc, &known.ids, &inside, row)?)),
+        None => {
+            let ids = ids_inside(alloc, &inside)?;
+            Ok(Some(verdict(alloc, &ids, &inside, row)?))
+        }
+    }
+}
+
+// The verdict on a node, given the ids of the cells of some tables of the page.
+fn verdict_among(
+    alloc: Global,
+    tables: &[TableIds<'_>],
+    tree: &Tree,
+    n: NodeId,
+) -> Result<Option<Verdict>, OutOfMemory>
+    requires { AreAllIds (seen tree.now.trees) tables.now }
+    ensures { IfOk result (λ verdict. verdict ≡ headers_refer_to_cells tree.now n) }
+{
+    let Some(sight) = sight_with(tree, n, Attribute::Headers) else {
+        return Ok(None);
+    };
+    match sight.above.table() {
+        Some(table) => verdict_in(alloc, tables, tree, table.node, &sight.above, sight.row),
+        None => Ok(None),
+    }
+}
+
+impl HeadersReferToCells {
+    /// The verdicts on a page, in document order: of each node that is a target. Each table of the page is
+    /// gone over once, whatever the number of the cells with `headers`. Fails only for want of memory.
+    pub fn judge_page(&self, alloc: Global, tree: &Tree) -> Result<Vec<NodeVerdict>, OutOfMemory>
+        ensures { IfOk result
+            (λ verdicts. verdicts.items ≡ page_verdicts headers_refer_to_cells tree.now) }
+    {
+        let tables = all_ids(alloc, tree)?;
+        let mut verdicts = Vec::new(alloc);
+        for row in tree.rows() {
+            let verdict = verdict_among(alloc, tables.as_slice(), tree, row.id)?;
+            push_verdict(&mut verdicts, row.id, verdict)?;
+        }
+        Ok(verdicts)
+    }
 }
 
 impl Rule for HeadersReferToCells {
@@ -150,12 +151,6 @@ impl Rule for HeadersReferToCells {
     }
 
     fn judge(&self, alloc: Global, tree: &Tree, n: NodeId) -> Result<Option<Verdict>, OutOfMemory> {
-        let Some(sight) = sight_with(tree, n, Attribute::Headers) else {
-            return Ok(None);
-        };
-        match sight.above.table() {
-            Some(table) => verdict(alloc, tree, table.node, &sight.above, sight.row),
-            None => Ok(None),
-        }
+        verdict_among(alloc, &[], tree, n)
     }
 }

@@ -4,12 +4,15 @@
 #![tactic(auto)]
 
 mod assigned;
+mod bearers;
 mod grid;
 mod header_has_cells;
 mod headers_refer_to_cells;
+mod heads;
 mod laws;
 mod spans;
 mod survey;
+mod table_ids;
 mod table_rows;
 mod tables;
 

@@ -1,6 +1,5 @@
 use super::*;
 use crate::tables::below;
-use acc_tree::sight_of;
 use snap_tree::{Attr, Body, Facts, List, NodeId, Raw, Space, Text, Tree};
 use std::test::Fail;
 
@@ -475,15 +474,12 @@ impl Sketch {
 
 // Where a cell of the first node is placed, and the number of all cells.
 fn place_of(alloc: Global, tree: &Tree, n: u32) -> Result<(Option<Area>, usize), Fail> {
-    let Some(sight) = sight_of(tree, NodeId(n)) else {
-        return Ok((None, 0));
-    };
     let Some(table) = below(tree, NodeId(1)) else {
         return Ok((None, 0));
     };
-    let question = Question::new(sight.row, &table);
-    let survey = Survey::of(alloc, &question, &table)?;
-    Ok((survey.place, survey.cells))
+    let survey = Survey::of(alloc, &table)?;
+    let found = survey.placed.iter().find(|p| p.cell.id.0 == n);
+    Ok((found.map(|p| p.area), survey.cells))
 }
 
 // Whether the cells of a table are placed so.
