@@ -10,7 +10,6 @@ import time
 from typing import Any, Callable
 
 from collecting.browser import start_browser
-from collecting.ends import End, Stop
 from collecting.taking import take
 from serving import HOST, PROGRAM, ROOT, Serving
 from tests.support import SITE, expect, same
@@ -296,13 +295,7 @@ def desk_is_away(reader: Reader, end_desk: Callable[[], None]) -> None:
 
 def test_page() -> None:
     """The page to judge on, by the keyboard, in each of its states."""
-    try:
-        browser = start_browser()
-    except Stop as stop:
-        if stop.end is not End.BROWSER:
-            raise
-        print(f"tools/test-team: test_page is left out: {stop.line}")
-        return
+    browser = start_browser()
     try:
         browser.set_script_timeout(PATIENCE)
         with Serving(connections=1_000_000) as desk, Proxy("sign-on.conf", [desk.port]) as proxy:

@@ -38,9 +38,6 @@ def audited(folder: str, jobs: int) -> float:
 
 def test_many_pages() -> None:
     """The command of docs/team.md, on one core and on four."""
-    if shutil.which("parallel") is None:
-        print("tools/test-team: test_many_pages is left out (on Debian: apt-get install parallel)")
-        return
     with tempfile.TemporaryDirectory() as folder:
         os.mkdir(f"{folder}/snapshots")
         os.symlink(PROGRAM, f"{folder}/act_desk")

@@ -38,13 +38,6 @@ http {{
 """
 
 
-def missing() -> str:
-    """The Debian packages that these tests need and that aren't there."""
-    needed = (("nginx", "nginx"), ("openssl", "openssl"), ("htpasswd", "apache2-utils"))
-    os.environ["PATH"] += ":/usr/sbin:/sbin"
-    return " ".join(package for program, package in needed if shutil.which(program) is None)
-
-
 def make_certificate(folder: str) -> None:
     """A key, and a certificate for this machine that it signs itself."""
     subprocess.run(["openssl", "req", "-x509", "-newkey", "rsa:2048", "-nodes", "-days", "2", "-subj", "/CN=desk.example.org",
@@ -57,6 +50,19 @@ def make_users(folder: str) -> None:
     pathlib.Path(folder, "users").touch()
     for user in USERS:
         subprocess.run(["htpasswd", "-iB", "-C", "4", f"{folder}/users", user], input=PASSWORD.encode(), check=True, capture_output=True)
+
+
+def wait_for(program: subprocess.Popen[bytes], port: int, name: str) -> None:
+    """Waits until a program listens at a port; a RuntimeError where it ends before, or doesn't for a minute."""
+    end = time.monotonic() + 60
+    while program.poll() is None and time.monotonic() < end:
+        try:
+            socket.create_connection((HOST, port), timeout=5).close()
+            return
+        except OSError:
+            time.sleep(0.05)
+    program.kill()
+    raise RuntimeError(f"{name} doesn't listen: it ended with {program.wait()}")
 
 
 class Proxy:
@@ -96,16 +102,12 @@ class Proxy:
         self.folder = tempfile.mkdtemp(prefix="test-team-")
         self.write()
         self.nginx = subprocess.Popen(["nginx", "-e", f"{self.folder}/error.log", "-p", self.folder, "-c", f"{self.folder}/nginx.conf"],
-                                      stdin=subprocess.DEVNULL, stdout=subprocess.DEVNULL, stderr=subprocess.PIPE)
-        for _ in range(400):
-            if self.nginx.poll() is not None:
-                raise RuntimeError(f"nginx doesn't start with {self.example}: {self.nginx.stderr.read().decode()}")
-            try:
-                socket.create_connection((HOST, self.port), timeout=5).close()
-                return self
-            except OSError:
-                time.sleep(0.05)
-        raise RuntimeError(f"nginx doesn't listen with {self.example}")
+                                      stdin=subprocess.DEVNULL, stdout=subprocess.DEVNULL, stderr=subprocess.DEVNULL)
+        try:
+            wait_for(self.nginx, self.port, f"nginx with {self.example}")
+        except RuntimeError as error:
+            raise RuntimeError(f"{error}: {pathlib.Path(self.folder, 'error.log').read_text(encoding='utf-8')}") from None
+        return self
 
     def __exit__(self, *rest: object) -> None:
         self.nginx.terminate()
