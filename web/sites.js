@@ -13,7 +13,7 @@ function nameForm(id, label, button, done) {
   const input = el('input', { type: 'text', id, required: true, pattern: NAME, autocomplete: 'off', spellcheck: 'false', autocapitalize: 'none', 'aria-describedby': hint });
   return el('form', { class: 'choose', onsubmit: (event) => { event.preventDefault(); done(input.value); } },
     el('div', {}, el('label', { for: id }, label), input), el('div', {}, el('button', { type: 'submit' }, button)),
-    el('p', { class: 'quiet', id: hint }, 'Small letters, digits, dots, lines and hyphens, at most 64.'));
+    el('p', { class: 'quiet', id: hint }, 'Small letters, digits, dots, underscores and hyphens, at most 64.'));
 }
 
 /** Asks for a site. */

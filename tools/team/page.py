@@ -118,6 +118,11 @@ def outcomes(proxy: Proxy, page: str = "home") -> list[dict[str, Any]]:
     return json.loads(ask(proxy, f"GET /sites/library/pages/{page}/outcomes", None, signed_in("ann")).body)["outcomes"]
 
 
+def has_route(proxy: Proxy, path: str) -> bool:
+    """Whether the desk has a route for this path, which a later desk may have."""
+    return b"NoRoute" not in ask(proxy, f"GET {path}", None, signed_in("ann")).body
+
+
 def checked(reader: Reader, what: str, picture: str | None = None) -> None:
     """Expects a state of the page to be accessible: by the desk's own audit, narrow, in dark, in high contrast and still."""
     browser = reader.browser
@@ -173,7 +178,9 @@ def looks_around(reader: Reader) -> None:
     reader.tab_to("the site", "at.closest('#trail') && at.textContent === 'library'")
     reader.keys(Keys.ENTER)
     reader.wait("the site's table", "return document.querySelectorAll('section[aria-labelledby=pages] tbody tr').length === 3")
-    expect("progress is said", "Asking for page 3 of 3" in reader.browser.execute_script("return window.said"))
+    if not has_route(reader.proxy, "/sites/library/report"):
+        expect("progress is said", "Asking for page 3 of 3" in reader.browser.execute_script("return window.said"))
+        expect("a desk without a list of its pages says so", "no list of its pages yet" in reader.text("main"))
     row = reader.browser.execute_script("return [...document.querySelector('tbody tr').cells].map((cell) => cell.innerText)")
     final = [one["outcome"] for one in outcomes(reader.proxy)]
     same("a page's counts", row[:5], ["home", "1", str(final.count("failed")), f"{final.count('cantTell')} to judge on home", str(final.count("passed"))])
@@ -186,17 +193,28 @@ def looks_around(reader: Reader) -> None:
 
 def reads_findings(reader: Reader) -> None:
     """A page's findings, all of them and filtered, with what they mean and what mends them."""
+    from selenium.webdriver.common.keys import Keys
     reader.open("?site=library&page=home")
     final = [one["outcome"] for one in outcomes(reader.proxy)]
     same("all findings are shown", reader.browser.execute_script("return document.querySelectorAll('.target').length"), len(final))
     advice = next(rule for rule in json.loads(pathlib.Path(ROOT, "docs", "rules.json").read_text(encoding="utf-8"))["rules"] if rule["id"] == "97a4e1")
     expect("what mends a finding is said", next(one for one in advice["reasons"] if one["reason"] == "no-name")["mends"] in reader.text("main"))
     checked(reader, "a page", "page")
-    reader.browser.execute_script("const s = document.getElementById('outcome'); s.value = 'failed'; s.dispatchEvent(new Event('change'))")
+    reader.tab_to("the outcomes", "at.id === 'outcome'")
+    reader.keys("For")
+    same("a choice alone moves nothing", reader.browser.execute_script("return [document.activeElement.id, document.activeElement.value, location.search]"),
+         ["outcome", "cantTell", "?site=library&page=home"])
+    reader.keys("Fai")
+    reader.tab_to("the button", "at.innerText === 'Show these'")
+    reader.keys(Keys.ENTER)
     reader.wait("the filtered page", "return location.search.includes('outcome=failed')")
     reader.wait("what failed", f"return document.querySelectorAll('.target').length === {final.count('failed')}")
     reader.settle()
-    expect("a desk without names says so", "does not give the names" in reader.text("main"))
+    said = reader.browser.execute_script("return document.querySelectorAll('.said li').length")
+    if has_route(reader.proxy, "/sites/library/pages/home/names"):
+        expect("the names are listed", said > 0, said)
+    else:
+        expect("a desk without names says so", said == 0 and "does not give the names" in reader.text("main"))
     checked(reader, "a filtered page")
 
 
@@ -250,6 +268,7 @@ def judges(reader: Reader) -> None:
     reader.settle()
     expect("then it is taken", any(one["rule"] == "c4a8a4" and one["by"] == "bob" for one in outcomes(proxy, "search")))
     not_allowed(reader, to_judge[1])
+    taken_alone(reader, to_judge[1])
 
 
 def change_title(proxy: Proxy, page: str) -> None:
@@ -283,6 +302,18 @@ def not_allowed(reader: Reader, place: str) -> None:
     expect("a stranger is told so", "it takes a reader" in reader.text(".told"), reader.text())
     checked(reader, "a stranger")
     reader.sign_in("cid")
+
+
+def taken_alone(reader: Reader, place: str) -> None:
+    """The desk takes a judgement, and what comes next can't be asked for: both are said."""
+    begin(reader, place)
+    reader.browser.execute_cdp_cmd("Network.setBlockedURLs", {"urls": ["*/outcomes"]})
+    submit(reader)
+    reader.wait("a refusal", "return document.querySelector('.told')")
+    reader.browser.execute_cdp_cmd("Network.setBlockedURLs", {"urls": []})
+    expect("it says that it was taken and what wasn't shown", "has your judgement, but the next" in reader.text("#status") and "is away" in reader.text(".told"),
+           reader.text())
+    same("the desk has that one too", [one["by"] for one in outcomes(reader.proxy) if f"{one['rule']}-{one['node']}" == place], ["cid"])
 
 
 def desk_is_away(reader: Reader, end_desk: Callable[[], None]) -> None:

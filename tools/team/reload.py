@@ -60,6 +60,8 @@ class Queue:
         text = QUEUE.read_text(encoding="utf-8")
         for old, new in ((f"{HOST}:8079", f"{HOST}:{self.port}"), (f"{HOST}:8080", f"{HOST}:{desk}")):
             text = text.replace(old, new)
+        if os.geteuid() != 0:  # only root can become another user
+            text = text.replace("    user haproxy\n    group haproxy\n", "")
         self.path = f"{folder}/act-desk.cfg"
         pathlib.Path(self.path).write_text(text, encoding="utf-8")
 
