@@ -201,10 +201,10 @@ def reads_findings(reader: Reader) -> None:
     expect("what mends a finding is said", next(one for one in advice["reasons"] if one["reason"] == "no-name")["mends"] in reader.text("main"))
     checked(reader, "a page", "page")
     reader.tab_to("the outcomes", "at.id === 'outcome'")
-    reader.keys("For")
+    reader.keys(Keys.ARROW_DOWN, Keys.ARROW_DOWN)
     same("a choice alone moves nothing", reader.browser.execute_script("return [document.activeElement.id, document.activeElement.value, location.search]"),
          ["outcome", "cantTell", "?site=library&page=home"])
-    reader.keys("Fai")
+    reader.keys(Keys.ARROW_UP)
     reader.tab_to("the button", "at.innerText === 'Show these'")
     reader.keys(Keys.ENTER)
     reader.wait("the filtered page", "return location.search.includes('outcome=failed')")

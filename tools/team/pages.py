@@ -18,13 +18,17 @@ PAGES = 100
 BROKEN = "it's no snapshot"
 
 
+def command(jobs: int) -> str:
+    """The command of docs/team.md with so many jobs."""
+    blocks = re.findall(r"^```sh\n(.*?)^```$", DOCUMENT.read_text(encoding="utf-8"), re.MULTILINE | re.DOTALL)
+    return next(text for text in blocks if text.startswith("find snapshots")).replace("--jobs 100%", f"--jobs {jobs}")
+
+
 def audited(folder: str, jobs: int) -> float:
     """How many snapshots a second the command of docs/team.md audits with so many jobs; each report is as it should be,
     and the one file that is no snapshot is named."""
-    command = next(text for text in re.findall(r"^```sh\n(.*?)^```$", DOCUMENT.read_text(encoding="utf-8"), re.MULTILINE | re.DOTALL)
-                   if text.startswith("find snapshots")).replace("--jobs 100%", f"--jobs {jobs}")
     began = time.monotonic()
-    done = subprocess.run(["bash", "-c", command], cwd=folder, capture_output=True, check=False, stdin=subprocess.DEVNULL,
+    done = subprocess.run(["bash", "-c", command(jobs)], cwd=folder, capture_output=True, check=False, stdin=subprocess.DEVNULL,
                           env={**os.environ, "PATH": f"{folder}:{os.environ['PATH']}", "HOME": folder})
     seconds = time.monotonic() - began
     same(f"{jobs} jobs: what is said of the file that is no snapshot", (done.returncode, done.stderr.decode()),
