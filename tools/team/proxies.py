@@ -3,11 +3,13 @@ from __future__ import annotations
 
 import os
 import pathlib
+import re
 import shutil
 import socket
 import subprocess
 import tempfile
 import time
+from typing import Sequence
 
 from serving import HOST, ROOT, free_port
 
@@ -66,10 +68,13 @@ def wait_for(program: subprocess.Popen[bytes], port: int, name: str) -> None:
 
 
 class Proxy:
-    """nginx with an example as it stands, but for ports and paths, before one desk or three, until the block ends."""
+    """nginx with an example as it stands, but for ports and paths, before one desk or three, until the block ends.
 
-    def __init__(self, example: str, desks: list[int], limit: str = NO_LIMIT) -> None:
-        self.example, self.desks, self.limit = example, desks, limit
+    Where a desk joins three, the sites that were there before are named, as docs/team.md says.
+    """
+
+    def __init__(self, example: str, desks: list[int], limit: str = NO_LIMIT, joining: int | None = None, before: Sequence[str] = ()) -> None:
+        self.example, self.desks, self.limit, self.joining, self.before = example, desks, limit, joining, before
         self.port, self.plain_port = free_port(), free_port()
 
     def replaced(self) -> str:
@@ -83,7 +88,14 @@ class Proxy:
         pairs += [(f"server {HOST}:{8080 + place} ", f"server {HOST}:{desk} ") for place, desk in enumerate(self.desks)]
         for old, new in pairs:
             text = text.replace(old, new)
-        return text
+        return self.joined(text) if self.joining is not None else text
+
+    def joined(self, text: str) -> str:
+        """The text with one more desk on the ring, and the ring as it was for the sites that were there."""
+        ring = re.search(r"^upstream act_desk \{\n.*?^\}\n", text, re.MULTILINE | re.DOTALL).group()
+        larger = ring.replace("}", f"    server {HOST}:{self.joining} max_fails=0;\n}}")
+        text = text.replace(ring, larger + ring.replace("act_desk {", "act_desk_before {"))
+        return text.replace("    # library act_desk_before;\n", "".join(f"    {site} act_desk_before;\n" for site in self.before))
 
     def write(self) -> None:
         """Writes all files of this nginx, those of the package with paths into the repository."""
