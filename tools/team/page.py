@@ -38,6 +38,11 @@ import('./report.js').then(({ readReport }) => {
   done([pages.map(({ name, rev, counts }) => [name, rev, counts.passed, counts.failed, counts.cantTell, counts.inapplicable]), [...results]]);
 }, (error) => done(String(error)));
 """
+# Begins a note.
+KEEP = """
+const [place, note, done] = arguments;
+import('./kept.js').then((kept) => { kept.keepDraft(place, { note, verdict: '' }); done(); });
+"""
 # The texts that were said, one after another, from when this runs.
 LISTEN = """
 window.said = [];
@@ -169,6 +174,7 @@ def looks_around(reader: Reader) -> None:
     reader.wait("the site", "return document.getElementById('title').innerText === 'Site library'")
     reader.settle()
     same("the focus goes along", reader.browser.execute_script("return document.activeElement.id"), "title")
+    checked(reader, "a site of which no page was opened")
     for page in PAGES:
         reader.open("?site=library")
         reader.tab_to("the page's name", "at.id === 'page'")
@@ -216,6 +222,9 @@ def reads_findings(reader: Reader) -> None:
     else:
         expect("a desk without names says so", said == 0 and "does not give the names" in reader.text("main"))
     checked(reader, "a filtered page")
+    reader.open("?site=library&page=home&outcome=failed&criterion=2.4.2")
+    expect("choices that nothing meets", "Nothing here is as you chose" in reader.text("main"), reader.text("main"))
+    checked(reader, "choices that nothing meets")
 
 
 def begin(reader: Reader, place: str, verdict: str = "passed", note: str = NOTE, page: str = "home") -> None:
@@ -268,6 +277,7 @@ def judges(reader: Reader) -> None:
     reader.settle()
     expect("then it is taken", any(one["rule"] == "c4a8a4" and one["by"] == "bob" for one in outcomes(proxy, "search")))
     not_allowed(reader, to_judge[1])
+    is_no_more(reader)
     taken_alone(reader, to_judge[1])
 
 
@@ -302,6 +312,14 @@ def not_allowed(reader: Reader, place: str) -> None:
     expect("a stranger is told so", "it takes a reader" in reader.text(".told"), reader.text())
     checked(reader, "a stranger")
     reader.sign_in("cid")
+
+
+def is_no_more(reader: Reader) -> None:
+    """A finding that is no more, on which a note was begun."""
+    reader.browser.execute_async_script(KEEP, {"site": "library", "page": "home", "rule": "c4a8a4", "node": "9999"}, NOTE)
+    reader.open("?site=library&page=home&judge=c4a8a4-9999")
+    expect("a finding that is no more", reader.title() == "Nothing to judge here" and NOTE in reader.text("main"), reader.text("main"))
+    checked(reader, "a finding that is no more")
 
 
 def taken_alone(reader: Reader, place: str) -> None:
