@@ -2,7 +2,6 @@
 from __future__ import annotations
 
 import os
-import pathlib
 import re
 import shutil
 import subprocess
@@ -17,7 +16,7 @@ from .pages import command
 from .proxies import Proxy
 from .samples import PAGE
 
-REQUESTS, CLIENTS, SNAPSHOTS = 4_000, 16, 2_000
+REQUESTS, CLIENTS = 4_000, 16
 
 
 def requests_a_second(proxy: Proxy, path: str) -> float:
@@ -30,16 +29,16 @@ def requests_a_second(proxy: Proxy, path: str) -> float:
     return float(re.search(r"^Requests per second: +([0-9.]+)", done.stdout, re.MULTILINE).group(1))
 
 
-def snapshots_a_second(folder: str, jobs: int) -> float:
+def snapshots_a_second(folder: str, jobs: int, snapshots: int) -> float:
     """How many snapshots a second the command of docs/team.md audits with so many jobs."""
     began = time.monotonic()
     subprocess.run(["bash", "-c", command(jobs)], cwd=folder, check=True, stdin=subprocess.DEVNULL,
                    env={**os.environ, "PATH": f"{folder}:{os.environ['PATH']}", "HOME": folder})
-    return SNAPSHOTS / (time.monotonic() - began)
+    return snapshots / (time.monotonic() - began)
 
 
-def print_speeds() -> None:
-    """Prints each figure with the machine's load."""
+def print_speeds(snapshots: int) -> None:
+    """Prints each figure, of audits that of so many snapshots, and last the machine's load."""
     with Serving(connections=1_000_000) as desk, Proxy("basic.conf", [desk.port]) as proxy:
         ask(proxy, "PUT /sites/acme", b"", basic("ann"))
         ask(proxy, "PUT /sites/acme/pages/small", PAGE, {**basic("ann"), "x-rev": "0"})
@@ -50,8 +49,10 @@ def print_speeds() -> None:
     with tempfile.TemporaryDirectory() as folder:
         os.mkdir(f"{folder}/snapshots")
         os.symlink(PROGRAM, f"{folder}/act_desk")
-        for number in range(SNAPSHOTS):
-            shutil.copy(SITE / "home.json", pathlib.Path(folder, "snapshots", f"{number}.json"))
+        shutil.copy(SITE / "home.json", f"{folder}/snapshots/0.json")
+        for number in range(1, snapshots):
+            os.link(f"{folder}/snapshots/0.json", f"{folder}/snapshots/{number}.json")
         for jobs in (1, 4):
-            print(f"{jobs} jobs: {snapshots_a_second(folder, jobs):.0f} snapshots a second", flush=True)
+            rate = snapshots_a_second(folder, jobs, snapshots)
+            print(f"{snapshots} times the page home by parallel, {jobs} at once: {rate:.0f} snapshots a second", flush=True)
     print(f"on a machine with a load of {os.getloadavg()[0]:.1f} of {os.cpu_count()} processors")
