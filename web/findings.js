@@ -22,18 +22,20 @@ export async function loadPage(site, page) {
 /** A choice among values, the first of which is all of them. */
 function filter(app, name, label, all, options) {
   const chosen = app.words[name] ?? '';
-  const select = el('select', { id: name, onchange: () => app.go({ ...app.words, [name]: select.value }) },
-    el('option', { value: '' }, all), options.map(([value, text]) => el('option', { value, selected: value === chosen }, text)));
-  return el('div', {}, el('label', { for: name }, label), select);
+  return el('div', {}, el('label', { for: name }, label), el('select', { id: name, name },
+    el('option', { value: '' }, all), options.map(([value, text]) => el('option', { value, selected: value === chosen }, text))));
 }
 
+/** The choices, which count when they are sent: a list that moved on at each arrow key couldn't be walked by keyboard. */
 function filters(app, outcomes) {
   const ids = [...new Set(outcomes.map((one) => one.rule))];
   const used = new Set(ids.flatMap((id) => app.rules.rule(id).criteria));
-  return el('form', { class: 'choose', 'aria-label': 'What to show', onsubmit: (event) => event.preventDefault() },
+  const choose = (event) => { event.preventDefault(); app.go({ ...app.words, ...Object.fromEntries(new FormData(event.target)) }); };
+  return el('form', { class: 'choose', 'aria-label': 'What to show', onsubmit: choose },
     filter(app, 'outcome', 'Outcome', 'All outcomes', OUTCOMES.map((one) => [one, HEADINGS[one]])),
     filter(app, 'criterion', 'Criterion', 'All criteria', app.rules.criteria.filter((one) => used.has(one.number)).map((one) => [one.number, `${one.number} ${one.name}`])),
-    filter(app, 'rule', 'Rule', 'All rules', ids.map((id) => [id, app.rules.rule(id).name])));
+    filter(app, 'rule', 'Rule', 'All rules', ids.map((id) => [id, app.rules.rule(id).name])),
+    el('div', {}, el('button', { type: 'submit', class: 'second' }, 'Show these')));
 }
 
 /** Whether the filters let an outcome through. */

@@ -44,29 +44,35 @@ function refuse(app, told, error) {
 
 /** Sends what the form holds, and goes on to the next finding. */
 async function send(app, place, outcome, form, told) {
+  if (form.note.readOnly) return; // it is being sent
   const { verdict, note } = begunIn(form);
   if (size(note) > MOST_BYTES) {
     told.replaceChildren(el('div', { class: 'told' }, el('p', {}, `The note has ${size(note)} bytes, and the desk takes ${MOST_BYTES}.`)));
     return;
   }
-  const button = form.querySelector('[type=submit]');
-  button.disabled = true;
+  form.note.readOnly = true; // what is typed while it is sent would be in no judgement
   app.say('Sending the judgement…');
   try {
     await desk.judge(place.site, place.page, { rule: outcome.rule, node: outcome.node, verdict, digest: outcome.digest, note });
-    kept.dropDraft(place);
-    told.replaceChildren();
-    await goOn(app, place, outcome);
   } catch (error) {
     refuse(app, told, error);
-  } finally {
-    button.disabled = false;
+    form.note.readOnly = false;
+    return;
   }
+  kept.dropDraft(place);
+  await goOn(app, place, outcome);
 }
 
 /** Shows the finding that comes next, or the page where none is left. */
 async function goOn(app, { site, page }, outcome) {
-  const { outcomes } = await loadPage(site, page);
+  let outcomes;
+  try {
+    ({ outcomes } = await loadPage(site, page));
+  } catch (error) {
+    app.refuse(error);
+    app.say('The desk has your judgement, but the next finding can\'t be shown.');
+    return;
+  }
   const same = outcomes.find((one) => placeOf(one) === placeOf(outcome));
   const next = nextOpen(outcomes, same);
   await app.go(next ? { site, page, judge: placeOf(next) } : { site, page });

@@ -13,7 +13,7 @@ function nameForm(id, label, button, done) {
   const input = el('input', { type: 'text', id, required: true, pattern: NAME, autocomplete: 'off', spellcheck: 'false', autocapitalize: 'none', 'aria-describedby': hint });
   return el('form', { class: 'choose', onsubmit: (event) => { event.preventDefault(); done(input.value); } },
     el('div', {}, el('label', { for: id }, label), input), el('div', {}, el('button', { type: 'submit' }, button)),
-    el('p', { class: 'quiet', id: hint }, 'Small letters, digits, dots, lines and hyphens, at most 64.'));
+    el('p', { class: 'quiet', id: hint }, 'Small letters, digits, dots, underscores and hyphens, at most 64.'));
 }
 
 /** Asks for a site. */
@@ -64,5 +64,6 @@ export async function showSite(app, site, current) {
       nameForm('page', 'Another page', 'Show the page', (page) => app.go({ site, page }))),
     pages.length ? el('section', { 'aria-labelledby': 'criteria' }, el('h2', { id: 'criteria' }, 'Criteria'),
       table('Criteria with their results', ['WCAG 2.2 criterion', 'Level', 'On these pages'], app.rules.criteria.map((criterion) => criterionRow(app, results, criterion))),
+      byHand ? el('p', { class: 'quiet' }, 'This desk has no report on a whole site yet: these are the results of the pages above alone.') : null,
       el('p', { class: 'quiet' }, 'No result says that a criterion is met: these rules look at a part of each.')) : null);
 }

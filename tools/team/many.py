@@ -13,6 +13,8 @@ from .proxies import Proxy
 from .samples import compact, life
 
 SITES, REQUESTS = 16, 1_000
+# So many sites that it can't be chance that one of four desks has none of them.
+NEW_SITES = 100
 
 
 def thousand() -> Iterator[tuple[str, str, int | None, object]]:
@@ -43,11 +45,25 @@ def test_many_desks() -> None:
         same("replies of three desks that aren't those of one", [pair for pair in zip(spread, alone) if pair[0] != pair[1]][:2], [])
         same("their number", len(spread), REQUESTS)
         has = [holds(desk) for desk in three]
-        expect("each desk has sites, and each site has one desk", all(has) and sum(map(len, has)) == SITES, has)
+        expect("the sites are on several desks, and each site has one desk", sum(map(bool, has)) > 1 and sum(map(len, has)) == SITES, has)
+        another_joins(three, stack.enter_context(Serving(workers=1, connections=1_000_000)))
 
 
-def holds(desk: Serving) -> list[int]:
+def another_joins(three: list[Serving], fourth: Serving) -> None:
+    """A desk joins three: the sites that are there stay where they are, and new ones are spread over all four."""
+    before = [f"site-{number}" for number in range(SITES)]
+    with Proxy("basic.conf", [desk.port for desk in three], joining=fourth.port, before=before) as proxy:
+        link = connection(proxy)
+        lost = [site for site in before if b"NoSite" in reply_over(link, f"GET /sites/{site}/pages/none", None, basic("ann")).body]
+        same("sites that aren't found any more", lost, [])
+        for number in range(SITES, SITES + NEW_SITES):
+            reply_over(link, f"PUT /sites/site-{number}", b"", basic("ann"))
+    has = [holds(desk, range(SITES, SITES + NEW_SITES)) for desk in (*three, fourth)]
+    expect("all four have new sites, and each site has one desk", all(has) and sum(map(len, has)) == NEW_SITES, has)
+
+
+def holds(desk: Serving, numbers: range = range(SITES)) -> list[int]:
     """The sites that a desk holds; to the others it says NoSite."""
     link = http.client.HTTPConnection(HOST, desk.port, timeout=120)
-    asked = ((number, reply_over(link, f"GET /sites/site-{number}/pages/none", None, {"x-caller": "ann"})) for number in range(SITES))
+    asked = ((number, reply_over(link, f"GET /sites/site-{number}/pages/none", None, {"x-caller": "ann"})) for number in numbers)
     return [number for number, reply in asked if b"NoSite" not in reply.body]

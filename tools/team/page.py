@@ -10,7 +10,6 @@ import time
 from typing import Any, Callable
 
 from collecting.browser import start_browser
-from collecting.ends import End, Stop
 from collecting.taking import take
 from serving import HOST, PROGRAM, ROOT, Serving
 from tests.support import SITE, expect, same
@@ -38,6 +37,11 @@ import('./report.js').then(({ readReport }) => {
   const { pages, results } = readReport(text);
   done([pages.map(({ name, rev, counts }) => [name, rev, counts.passed, counts.failed, counts.cantTell, counts.inapplicable]), [...results]]);
 }, (error) => done(String(error)));
+"""
+# Begins a note.
+KEEP = """
+const [place, note, done] = arguments;
+import('./kept.js').then((kept) => { kept.keepDraft(place, { note, verdict: '' }); done(); });
 """
 # The texts that were said, one after another, from when this runs.
 LISTEN = """
@@ -119,6 +123,11 @@ def outcomes(proxy: Proxy, page: str = "home") -> list[dict[str, Any]]:
     return json.loads(ask(proxy, f"GET /sites/library/pages/{page}/outcomes", None, signed_in("ann")).body)["outcomes"]
 
 
+def has_route(proxy: Proxy, path: str) -> bool:
+    """Whether the desk has a route for this path, which a later desk may have."""
+    return b"NoRoute" not in ask(proxy, f"GET {path}", None, signed_in("ann")).body
+
+
 def checked(reader: Reader, what: str, picture: str | None = None) -> None:
     """Expects a state of the page to be accessible: by the desk's own audit, narrow, in dark, in high contrast and still."""
     browser = reader.browser
@@ -165,6 +174,7 @@ def looks_around(reader: Reader) -> None:
     reader.wait("the site", "return document.getElementById('title').innerText === 'Site library'")
     reader.settle()
     same("the focus goes along", reader.browser.execute_script("return document.activeElement.id"), "title")
+    checked(reader, "a site of which no page was opened")
     for page in PAGES:
         reader.open("?site=library")
         reader.tab_to("the page's name", "at.id === 'page'")
@@ -174,7 +184,9 @@ def looks_around(reader: Reader) -> None:
     reader.tab_to("the site", "at.closest('#trail') && at.textContent === 'library'")
     reader.keys(Keys.ENTER)
     reader.wait("the site's table", "return document.querySelectorAll('section[aria-labelledby=pages] tbody tr').length === 3")
-    expect("progress is said", "Asking for page 3 of 3" in reader.browser.execute_script("return window.said"))
+    if not has_route(reader.proxy, "/sites/library/report"):
+        expect("progress is said", "Asking for page 3 of 3" in reader.browser.execute_script("return window.said"))
+        expect("a desk without a list of its pages says so", "no list of its pages yet" in reader.text("main"))
     row = reader.browser.execute_script("return [...document.querySelector('tbody tr').cells].map((cell) => cell.innerText)")
     final = [one["outcome"] for one in outcomes(reader.proxy)]
     same("a page's counts", row[:5], ["home", "1", str(final.count("failed")), f"{final.count('cantTell')} to judge on home", str(final.count("passed"))])
@@ -187,18 +199,32 @@ def looks_around(reader: Reader) -> None:
 
 def reads_findings(reader: Reader) -> None:
     """A page's findings, all of them and filtered, with what they mean and what mends them."""
+    from selenium.webdriver.common.keys import Keys
     reader.open("?site=library&page=home")
     final = [one["outcome"] for one in outcomes(reader.proxy)]
     same("all findings are shown", reader.browser.execute_script("return document.querySelectorAll('.target').length"), len(final))
     advice = next(rule for rule in json.loads(pathlib.Path(ROOT, "docs", "rules.json").read_text(encoding="utf-8"))["rules"] if rule["id"] == "97a4e1")
     expect("what mends a finding is said", next(one for one in advice["reasons"] if one["reason"] == "no-name")["mends"] in reader.text("main"))
     checked(reader, "a page", "page")
-    reader.browser.execute_script("const s = document.getElementById('outcome'); s.value = 'failed'; s.dispatchEvent(new Event('change'))")
+    reader.tab_to("the outcomes", "at.id === 'outcome'")
+    reader.keys(Keys.ARROW_DOWN, Keys.ARROW_DOWN)
+    same("a choice alone moves nothing", reader.browser.execute_script("return [document.activeElement.id, document.activeElement.value, location.search]"),
+         ["outcome", "cantTell", "?site=library&page=home"])
+    reader.keys(Keys.ARROW_UP)
+    reader.tab_to("the button", "at.innerText === 'Show these'")
+    reader.keys(Keys.ENTER)
     reader.wait("the filtered page", "return location.search.includes('outcome=failed')")
     reader.wait("what failed", f"return document.querySelectorAll('.target').length === {final.count('failed')}")
     reader.settle()
-    expect("a desk without names says so", "does not give the names" in reader.text("main"))
+    said = reader.browser.execute_script("return document.querySelectorAll('.said li').length")
+    if has_route(reader.proxy, "/sites/library/pages/home/names"):
+        expect("the names are listed", said > 0, said)
+    else:
+        expect("a desk without names says so", said == 0 and "does not give the names" in reader.text("main"))
     checked(reader, "a filtered page")
+    reader.open("?site=library&page=home&outcome=failed&criterion=2.4.2")
+    expect("choices that nothing meets", "Nothing here is as you chose" in reader.text("main"), reader.text("main"))
+    checked(reader, "choices that nothing meets")
 
 
 def begin(reader: Reader, place: str, verdict: str = "passed", note: str = NOTE, page: str = "home") -> None:
@@ -251,6 +277,8 @@ def judges(reader: Reader) -> None:
     reader.settle()
     expect("then it is taken", any(one["rule"] == "c4a8a4" and one["by"] == "bob" for one in outcomes(proxy, "search")))
     not_allowed(reader, to_judge[1])
+    is_no_more(reader)
+    taken_alone(reader, to_judge[1])
 
 
 def change_title(proxy: Proxy, page: str) -> None:
@@ -286,6 +314,26 @@ def not_allowed(reader: Reader, place: str) -> None:
     reader.sign_in("cid")
 
 
+def is_no_more(reader: Reader) -> None:
+    """A finding that is no more, on which a note was begun."""
+    reader.browser.execute_async_script(KEEP, {"site": "library", "page": "home", "rule": "c4a8a4", "node": "9999"}, NOTE)
+    reader.open("?site=library&page=home&judge=c4a8a4-9999")
+    expect("a finding that is no more", reader.title() == "Nothing to judge here" and NOTE in reader.text("main"), reader.text("main"))
+    checked(reader, "a finding that is no more")
+
+
+def taken_alone(reader: Reader, place: str) -> None:
+    """The desk takes a judgement, and what comes next can't be asked for: both are said."""
+    begin(reader, place)
+    reader.browser.execute_cdp_cmd("Network.setBlockedURLs", {"urls": ["*/outcomes"]})
+    submit(reader)
+    reader.wait("a refusal", "return document.querySelector('.told')")
+    reader.browser.execute_cdp_cmd("Network.setBlockedURLs", {"urls": []})
+    expect("it says that it was taken and what wasn't shown", "has your judgement, but the next" in reader.text("#status") and "is away" in reader.text(".told"),
+           reader.text())
+    same("the desk has that one too", [one["by"] for one in outcomes(reader.proxy) if f"{one['rule']}-{one['node']}" == place], ["cid"])
+
+
 def desk_is_away(reader: Reader, end_desk: Callable[[], None]) -> None:
     """The desk ends while somebody judges."""
     place = next(f"{one['rule']}-{one['node']}" for one in outcomes(reader.proxy) if one["automatic"] == "cantTell" and one["by"] == "" and one["reason"] != "merged")
@@ -296,13 +344,7 @@ def desk_is_away(reader: Reader, end_desk: Callable[[], None]) -> None:
 
 def test_page() -> None:
     """The page to judge on, by the keyboard, in each of its states."""
-    try:
-        browser = start_browser()
-    except Stop as stop:
-        if stop.end is not End.BROWSER:
-            raise
-        print(f"tools/test-team: test_page is left out: {stop.line}")
-        return
+    browser = start_browser()
     try:
         browser.set_script_timeout(PATIENCE)
         with Serving(connections=1_000_000) as desk, Proxy("sign-on.conf", [desk.port]) as proxy:

@@ -3,11 +3,13 @@ from __future__ import annotations
 
 import os
 import pathlib
+import re
 import shutil
 import socket
 import subprocess
 import tempfile
 import time
+from typing import Sequence
 
 from serving import HOST, ROOT, free_port
 
@@ -38,13 +40,6 @@ http {{
 """
 
 
-def missing() -> str:
-    """The Debian packages that these tests need and that aren't there."""
-    needed = (("nginx", "nginx"), ("openssl", "openssl"), ("htpasswd", "apache2-utils"))
-    os.environ["PATH"] += ":/usr/sbin:/sbin"
-    return " ".join(package for program, package in needed if shutil.which(program) is None)
-
-
 def make_certificate(folder: str) -> None:
     """A key, and a certificate for this machine that it signs itself."""
     subprocess.run(["openssl", "req", "-x509", "-newkey", "rsa:2048", "-nodes", "-days", "2", "-subj", "/CN=desk.example.org",
@@ -59,11 +54,27 @@ def make_users(folder: str) -> None:
         subprocess.run(["htpasswd", "-iB", "-C", "4", f"{folder}/users", user], input=PASSWORD.encode(), check=True, capture_output=True)
 
 
-class Proxy:
-    """nginx with an example as it stands, but for ports and paths, before one desk or three, until the block ends."""
+def wait_for(program: subprocess.Popen[bytes], port: int, name: str) -> None:
+    """Waits until a program listens at a port; a RuntimeError where it ends before, or doesn't for a minute."""
+    end = time.monotonic() + 60
+    while program.poll() is None and time.monotonic() < end:
+        try:
+            socket.create_connection((HOST, port), timeout=5).close()
+            return
+        except OSError:
+            time.sleep(0.05)
+    program.kill()
+    raise RuntimeError(f"{name} doesn't listen: it ended with {program.wait()}")
 
-    def __init__(self, example: str, desks: list[int], limit: str = NO_LIMIT) -> None:
-        self.example, self.desks, self.limit = example, desks, limit
+
+class Proxy:
+    """nginx with an example as it stands, but for ports and paths, before one desk or three, until the block ends.
+
+    Where a desk joins three, the sites that were there before are named, as docs/team.md says.
+    """
+
+    def __init__(self, example: str, desks: list[int], limit: str = NO_LIMIT, joining: int | None = None, before: Sequence[str] = ()) -> None:
+        self.example, self.desks, self.limit, self.joining, self.before = example, desks, limit, joining, before
         self.port, self.plain_port = free_port(), free_port()
 
     def replaced(self) -> str:
@@ -77,7 +88,14 @@ class Proxy:
         pairs += [(f"server {HOST}:{8080 + place} ", f"server {HOST}:{desk} ") for place, desk in enumerate(self.desks)]
         for old, new in pairs:
             text = text.replace(old, new)
-        return text
+        return self.joined(text) if self.joining is not None else text
+
+    def joined(self, text: str) -> str:
+        """The text with one more desk on the ring, and the ring as it was for the sites that were there."""
+        ring = re.search(r"^upstream act_desk \{\n.*?^\}\n", text, re.MULTILINE | re.DOTALL).group()
+        larger = ring.replace("}", f"    server {HOST}:{self.joining} max_fails=0;\n}}")
+        text = text.replace(ring, larger + ring.replace("act_desk {", "act_desk_before {"))
+        return text.replace("    # library act_desk_before;\n", "".join(f"    {site} act_desk_before;\n" for site in self.before))
 
     def write(self) -> None:
         """Writes all files of this nginx, those of the package with paths into the repository."""
@@ -96,16 +114,12 @@ class Proxy:
         self.folder = tempfile.mkdtemp(prefix="test-team-")
         self.write()
         self.nginx = subprocess.Popen(["nginx", "-e", f"{self.folder}/error.log", "-p", self.folder, "-c", f"{self.folder}/nginx.conf"],
-                                      stdin=subprocess.DEVNULL, stdout=subprocess.DEVNULL, stderr=subprocess.PIPE)
-        for _ in range(400):
-            if self.nginx.poll() is not None:
-                raise RuntimeError(f"nginx doesn't start with {self.example}: {self.nginx.stderr.read().decode()}")
-            try:
-                socket.create_connection((HOST, self.port), timeout=5).close()
-                return self
-            except OSError:
-                time.sleep(0.05)
-        raise RuntimeError(f"nginx doesn't listen with {self.example}")
+                                      stdin=subprocess.DEVNULL, stdout=subprocess.DEVNULL, stderr=subprocess.DEVNULL)
+        try:
+            wait_for(self.nginx, self.port, f"nginx with {self.example}")
+        except RuntimeError as error:
+            raise RuntimeError(f"{error}: {pathlib.Path(self.folder, 'error.log').read_text(encoding='utf-8')}") from None
+        return self
 
     def __exit__(self, *rest: object) -> None:
         self.nginx.terminate()
