@@ -3,7 +3,7 @@ use std::test::Fail;
 
 const PAGE: &str = "1 0 html;2 1 body";
 
-const CASES: [Case; 18] = [
+static CASES: [Case; 18] = [
     ("insert 2 0 60 0 #x", "1 0 html;2 1 body;60 2 #x"),
     ("insert 2 0 60 0 #", "1 0 html;2 1 body;60 2 #"),
     ("insert 2 0 ", "0: 8 1"),
@@ -26,5 +26,5 @@ const CASES: [Case; 18] = [
 
 #[test]
 fn inserted_rows_are_tried_alone(rt: HostRuntime) -> Result<(), Fail> {
-    each_answers(&rt, rt.alloc(), PAGE, CASES.as_slice())
+    each_answers(rt.alloc(), PAGE, CASES.as_slice())
 }

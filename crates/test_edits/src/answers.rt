@@ -4,7 +4,6 @@ use fixture_pages::page_in;
 use snap_edit::{Edit, apply};
 use snap_tree::Tree;
 use std::alloc::Global;
-use std::process::Abort;
 use std::test::Fail;
 
 /// A page: its body 2 holds heading 5 and div 7, which holds heading 8.
@@ -29,43 +28,55 @@ fn verdict(alloc: Global, tree: &Tree, edits: &[Edit]) -> Result<String, Fail> {
 }
 
 /// The text of a page after edits, or what is refused.
-pub(crate) fn answer_to(alloc: Global, text: &str, edits: &str) -> Result<String, Fail> {
+fn answer_to(alloc: Global, text: &str, edits: &str) -> Result<String, Fail> {
     let tree = page_in(alloc, text)?;
     let edits = edits_of(alloc, edits)?;
     answer(alloc, &tree, edits.as_slice())
 }
 
 /// `well` where edits of a page are carried out, or what is refused.
-pub(crate) fn verdict_on(alloc: Global, text: &str, edits: &str) -> Result<String, Fail> {
+fn verdict_on(alloc: Global, text: &str, edits: &str) -> Result<String, Fail> {
     let tree = page_in(alloc, text)?;
     let edits = edits_of(alloc, edits)?;
     verdict(alloc, &tree, edits.as_slice())
 }
 
-/// Fails unless each case says what comes of its edits of the page.
-pub(crate) fn each_answers(
-    rt: &impl Abort,
+/// Whether that comes of edits of a page.
+pub(crate) fn answers_so(
     alloc: Global,
     text: &str,
-    cases: &[Case],
-) -> Result<(), Fail> {
+    edits: &str,
+    wanted: &str,
+) -> Result<bool, Fail> {
+    Ok(answer_to(alloc, text, edits)?.as_str() == wanted)
+}
+
+/// Whether that is said of edits of a page.
+pub(crate) fn verdict_is(
+    alloc: Global,
+    text: &str,
+    edits: &str,
+    wanted: &str,
+) -> Result<bool, Fail> {
+    Ok(verdict_on(alloc, text, edits)?.as_str() == wanted)
+}
+
+/// Fails with the first edits of the page that are answered otherwise than their case says.
+pub(crate) fn each_answers(alloc: Global, text: &str, cases: &[Case]) -> Result<(), Fail> {
     for (edits, wanted) in cases {
-        let answer = answer_to(alloc, text, edits)?;
-        assert_eq!(rt; answer.as_str(), *wanted, "{edits}");
+        if !answers_so(alloc, text, edits, wanted)? {
+            return Err(Fail::from(*edits));
+        }
     }
     Ok(())
 }
 
-/// Fails unless each case says whether its edits of the page are carried out.
-pub(crate) fn each_verdict_is(
-    rt: &impl Abort,
-    alloc: Global,
-    text: &str,
-    cases: &[Case],
-) -> Result<(), Fail> {
+/// Fails with the first edits of the page of which something else is said than their case says.
+pub(crate) fn each_verdict_is(alloc: Global, text: &str, cases: &[Case]) -> Result<(), Fail> {
     for (edits, wanted) in cases {
-        let verdict = verdict_on(alloc, text, edits)?;
-        assert_eq!(rt; verdict.as_str(), *wanted, "{edits}");
+        if !verdict_is(alloc, text, edits, wanted)? {
+            return Err(Fail::from(*edits));
+        }
     }
     Ok(())
 }

@@ -3,7 +3,7 @@ use std::test::Fail;
 
 const FORM: &str = "1 0 form;2 1 input CLASS=a id=b;3 1 #Go~on";
 
-const CASES: [Case; 15] = [
+static CASES: [Case; 15] = [
     (
         "set 2 class x",
         "1 0 form;2 1 input CLASS=x id=b;3 1 #Go~on",
@@ -41,5 +41,5 @@ const CASES: [Case; 15] = [
 
 #[test]
 fn rows_are_changed(rt: HostRuntime) -> Result<(), Fail> {
-    each_answers(&rt, rt.alloc(), FORM, CASES.as_slice())
+    each_answers(rt.alloc(), FORM, CASES.as_slice())
 }

@@ -2,7 +2,7 @@ use crate::answers::{Case, HEADINGS, each_answers};
 use std::test::Fail;
 
 // A fault of each kind but the page's, for each edit that has it.
-const CASES: [Case; 22] = [
+static CASES: [Case; 22] = [
     ("set 4 class x", "0: 1"),
     ("set 6 class x", "0: 2"),
     ("set 5  x", "0: 8 12 5"),
@@ -29,5 +29,5 @@ const CASES: [Case; 22] = [
 
 #[test]
 fn each_edit_has_its_faults(rt: HostRuntime) -> Result<(), Fail> {
-    each_answers(&rt, rt.alloc(), HEADINGS, CASES.as_slice())
+    each_answers(rt.alloc(), HEADINGS, CASES.as_slice())
 }

@@ -1,7 +1,6 @@
-use crate::answers::{Case, each_verdict_is, verdict_on};
+use crate::answers::{Case, each_verdict_is, verdict_is};
 use crate::shown::show_number;
 use std::alloc::Global;
-use std::process::Abort;
 use std::test::Fail;
 
 const FORM: &str = "1 0 form;2 1 input id=q;3 1 #Go";
@@ -28,7 +27,7 @@ fn fan(alloc: Global, first: &str, rest: &str, between: &str, count: u32) -> Res
 }
 
 // Below the root stand a chain down to depth 128, and nodes 129 and 130 one below the other.
-const DEEP: [Case; 7] = [
+static DEEP: [Case; 7] = [
     ("insert 127 1 200 0 p", "well"),
     ("insert 128 0 200 0 p", "0: 8 5 200"),
     ("insert 127 0 200 0 p+201 200 #x", "0: 8 5 201"),
@@ -43,11 +42,11 @@ fn edited_pages_are_128_deep_at_most(rt: HostRuntime) -> Result<(), Fail> {
     let alloc = rt.alloc();
     let chain = chain(alloc, 1, 128)?;
     let page = format!(in alloc; "1 0 html;{chain}129 1 p;130 129 p")?;
-    each_verdict_is(&rt, alloc, page.as_str(), DEEP.as_slice())
+    each_verdict_is(alloc, page.as_str(), DEEP.as_slice())
 }
 
 // Below the root stand 9,999 nodes, numbered from 2,000.
-const FULL: [Case; 6] = [
+static FULL: [Case; 6] = [
     ("", "well"),
     ("insert 1 0 60 0 p", "0: 8 2"),
     ("insert 1 0 60 0 p+61 0 p", "0: 8 4 61"),
@@ -60,16 +59,16 @@ const FULL: [Case; 6] = [
 fn edited_pages_have_10000_nodes_at_most(rt: HostRuntime) -> Result<(), Fail> {
     let alloc = rt.alloc();
     let page = fan(alloc, "1 0 html", " 1 p", ";", 9_999)?;
-    each_verdict_is(&rt, alloc, page.as_str(), FULL.as_slice())
+    each_verdict_is(alloc, page.as_str(), FULL.as_slice())
 }
 
-fn verdict_on_rows(alloc: Global, first: &str, count: u32) -> Result<String, Fail> {
+fn rows_answer(alloc: Global, first: &str, count: u32, wanted: &str) -> Result<bool, Fail> {
     let rows = fan(alloc, first, " 60 b", "+", count)?;
     let edit = format!(in alloc; "insert 1 0 {rows}")?;
-    verdict_on(alloc, FORM, edit.as_str())
+    verdict_is(alloc, FORM, edit.as_str(), wanted)
 }
 
-const INSERTED: [(&str, u32, &str); 4] = [
+static INSERTED: [(&str, u32, &str); 4] = [
     ("60 0 p", 9_996, "well"),
     ("60 0 p", 9_997, "0: 8 2"),
     ("60 0 #x", 9_999, "0: 8 9 2000"),
@@ -78,21 +77,21 @@ const INSERTED: [(&str, u32, &str); 4] = [
 
 #[test]
 fn inserted_rows_are_10000_at_most(rt: HostRuntime) -> Result<(), Fail> {
-    let alloc = rt.alloc();
-    for (first, count, wanted) in INSERTED {
-        let verdict = verdict_on_rows(alloc, first, count)?;
-        assert_eq!(rt; verdict.as_str(), wanted, "{first} {count}");
+    for (first, count, wanted) in INSERTED.as_slice() {
+        if !rows_answer(rt.alloc(), first, *count, wanted)? {
+            return Err(Fail::from((*first, *count)));
+        }
     }
     Ok(())
 }
 
-fn verdict_is(rt: &impl Abort, alloc: Global, edits: &str, wanted: &str) -> Result<(), Fail> {
-    let verdict = verdict_on(alloc, FORM, edits)?;
-    assert_eq!(rt; verdict.as_str(), wanted);
-    Ok(())
+// Whether that is said of edits with a long text between two parts.
+fn is_said(alloc: Global, first: &str, text: &str, last: &str, wanted: &str) -> Result<bool, Fail> {
+    let edits = format!(in alloc; "{first}{text}{last}")?;
+    verdict_is(alloc, FORM, edits.as_str(), wanted)
 }
 
-const TEXTS: [(&str, &str, &str); 8] = [
+static TEXTS: [(&str, &str, &str); 8] = [
     ("text 3 ", "", "well"),
     ("text 3 ", "x", "0: 8 7 3"),
     ("set 2 id ", "", "well"),
@@ -107,9 +106,10 @@ const TEXTS: [(&str, &str, &str); 8] = [
 fn texts_have_65536_bytes_at_most(rt: HostRuntime) -> Result<(), Fail> {
     let alloc = rt.alloc();
     let text = "x".repeat(alloc, 65_536)?;
-    for (first, last, wanted) in TEXTS {
-        let edits = format!(in alloc; "{first}{text}{last}")?;
-        verdict_is(&rt, alloc, edits.as_str(), wanted)?;
+    for (first, last, wanted) in TEXTS.as_slice() {
+        if !is_said(alloc, first, text.as_str(), last, wanted)? {
+            return Err(Fail::from((*first, *last)));
+        }
     }
     Ok(())
 }
@@ -124,7 +124,7 @@ fn attributes(alloc: Global, count: u32) -> Result<String, Fail> {
     Ok(edits)
 }
 
-const ATTRIBUTES: [(u32, &str, &str); 5] = [
+static ATTRIBUTES: [(u32, &str, &str); 5] = [
     (63, "", "well"),
     (64, "", "63: 8 6 2"),
     (63, "set 2 ID y", "well"),
@@ -132,13 +132,17 @@ const ATTRIBUTES: [(u32, &str, &str); 5] = [
     (63, "drop 2 id;set 2 b y", "well"),
 ];
 
+fn are_so_many(alloc: Global, count: u32, last: &str, wanted: &str) -> Result<bool, Fail> {
+    let attributes = attributes(alloc, count)?;
+    is_said(alloc, "", attributes.as_str(), last, wanted)
+}
+
 #[test]
 fn elements_have_64_attributes_at_most(rt: HostRuntime) -> Result<(), Fail> {
-    let alloc = rt.alloc();
-    for (count, last, wanted) in ATTRIBUTES {
-        let attributes = attributes(alloc, count)?;
-        let edits = format!(in alloc; "{attributes}{last}")?;
-        verdict_is(&rt, alloc, edits.as_str(), wanted)?;
+    for (count, last, wanted) in ATTRIBUTES.as_slice() {
+        if !are_so_many(rt.alloc(), *count, last, wanted)? {
+            return Err(Fail::from((*count, *last)));
+        }
     }
     Ok(())
 }

@@ -6,7 +6,7 @@ use snap_tree::{NodeId, Text, Tree};
 use std::alloc::Global;
 use std::test::Fail;
 
-const INSERTED: [Case; 6] = [
+static INSERTED: [Case; 6] = [
     (
         "insert 2 0 60 0 p+61 60 #x",
         "1 0 html;2 1 body;60 2 p;61 60 #x;5 2 h2;6 5 #A;7 2 div;8 7 h2;9 8 #B",
@@ -33,14 +33,14 @@ const INSERTED: [Case; 6] = [
     ),
 ];
 
-const REMOVED: [Case; 4] = [
+static REMOVED: [Case; 4] = [
     ("remove 7", "1 0 html;2 1 body;5 2 h2;6 5 #A"),
     ("remove 5", "1 0 html;2 1 body;7 2 div;8 7 h2;9 8 #B"),
     ("remove 6", "1 0 html;2 1 body;5 2 h2;7 2 div;8 7 h2;9 8 #B"),
     ("remove 2", "1 0 html"),
 ];
 
-const MOVED: [Case; 9] = [
+static MOVED: [Case; 9] = [
     (
         "move 5 7 1",
         "1 0 html;2 1 body;7 2 div;8 7 h2;9 8 #B;5 7 h2;6 5 #A",
@@ -78,17 +78,17 @@ const MOVED: [Case; 9] = [
 
 #[test]
 fn rows_are_inserted(rt: HostRuntime) -> Result<(), Fail> {
-    each_answers(&rt, rt.alloc(), HEADINGS, INSERTED.as_slice())
+    each_answers(rt.alloc(), HEADINGS, INSERTED.as_slice())
 }
 
 #[test]
 fn nodes_are_removed(rt: HostRuntime) -> Result<(), Fail> {
-    each_answers(&rt, rt.alloc(), HEADINGS, REMOVED.as_slice())
+    each_answers(rt.alloc(), HEADINGS, REMOVED.as_slice())
 }
 
 #[test]
 fn nodes_are_moved(rt: HostRuntime) -> Result<(), Fail> {
-    each_answers(&rt, rt.alloc(), HEADINGS, MOVED.as_slice())
+    each_answers(rt.alloc(), HEADINGS, MOVED.as_slice())
 }
 
 fn edited(alloc: Global, tree: &Tree, edits: &[Edit]) -> Result<Tree, Fail> {
@@ -107,7 +107,7 @@ fn gives_headings(alloc: Global, edits: &str, nodes: &[NodeId]) -> Result<bool, 
     has_headings(alloc, &edited, nodes)
 }
 
-const HEADED: [(&str, &[NodeId]); 4] = [
+static HEADED: [(&str, &[NodeId]); 4] = [
     ("move 5 7 1", &[NodeId(8), NodeId(5)]),
     ("move 5 7 0", &[NodeId(5), NodeId(8)]),
     ("remove 5", &[NodeId(8)]),
@@ -116,9 +116,10 @@ const HEADED: [(&str, &[NodeId]); 4] = [
 
 #[test]
 fn moved_headings_are_found_in_order(rt: HostRuntime) -> Result<(), Fail> {
-    for (edits, nodes) in HEADED {
-        let is_found = gives_headings(rt.alloc(), edits, nodes)?;
-        assert!(rt; is_found, "{edits}");
+    for (edits, nodes) in HEADED.as_slice() {
+        if !gives_headings(rt.alloc(), edits, nodes)? {
+            return Err(Fail::from(*edits));
+        }
     }
     Ok(())
 }

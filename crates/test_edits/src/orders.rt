@@ -2,7 +2,7 @@ use crate::answers::{Case, HEADINGS, each_answers};
 use std::test::Fail;
 
 // Edits with two faults: the one that comes first in the table of its kind is named.
-const CASES: [Case; 22] = [
+static CASES: [Case; 22] = [
     ("set 4  x", "0: 1"),
     ("set 6  x", "0: 2"),
     ("insert 4 9 9 0 p", "0: 1"),
@@ -29,5 +29,5 @@ const CASES: [Case; 22] = [
 
 #[test]
 fn the_first_fault_is_named(rt: HostRuntime) -> Result<(), Fail> {
-    each_answers(&rt, rt.alloc(), HEADINGS, CASES.as_slice())
+    each_answers(rt.alloc(), HEADINGS, CASES.as_slice())
 }

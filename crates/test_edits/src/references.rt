@@ -12,7 +12,7 @@ fn page(alloc: Global) -> Result<String, Fail> {
     Ok(page)
 }
 
-const CASES: [Case; 11] = [
+static CASES: [Case; 11] = [
     ("", "well"),
     ("remove 3", "0: 8 10"),
     ("drop 3 id", "0: 8 10"),
@@ -30,5 +30,5 @@ const CASES: [Case; 11] = [
 fn references_are_weighed_after_each_edit(rt: HostRuntime) -> Result<(), Fail> {
     let alloc = rt.alloc();
     let page = page(alloc)?;
-    each_verdict_is(&rt, alloc, page.as_str(), CASES.as_slice())
+    each_verdict_is(alloc, page.as_str(), CASES.as_slice())
 }
