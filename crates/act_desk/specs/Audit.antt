@@ -19,7 +19,7 @@ use Rattle.act_desk.specs.Status.{status_line, OneOf}
 use Rattle.streams.specs.Told.{Input, Outside}
 use Rattle.streams.specs.Streams.{IsReadTo, Took}
 use Rattle.act_desk.specs.Telling.{Writing, output_alone, line_alone}
-use Rattle.text_reports.specs.TextReport.{text_report, is_outcome}
+use Rattle.reports.specs.TextReport.{text_report, is_outcome}
 use Rattle.act_desk.specs.FaultLine.{fault_line}
 
 -- the text report of a page's outcomes by a book, of which nothing was judged

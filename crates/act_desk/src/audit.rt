@@ -12,7 +12,7 @@ use snap_json::{MOST_SNAPSHOT_BYTES, SnapFault, read_snapshot};
 use snap_tree::{List, OutOfMemory, Tree};
 use std::alloc::Global;
 use streams::{ReadFault, Source, read_all};
-use text_reports::{is_outcome, text_report};
+use reports::{is_outcome, text_report};
 
 /// How many bytes an audit reads at most: one more than a snapshot may have.
 pub const MOST_READ: usize = MOST_SNAPSHOT_BYTES + 1;

@@ -105,8 +105,8 @@ fn serving_of(matches: &ArgMatches<'_>) -> Result<Serving, OutOfMemory>
     ensures workers { IfOk result (λ s. 1 ≤ s.workers) }
 {
     Ok(Serving {
-        port: port(number(matches, "port")?)?,
-        workers: workers(number(matches, "workers")?)?,
+        port: port_of(number(matches, "port")?)?,
+        workers: workers_of(number(matches, "workers")?)?,
         connections: number(matches, "connections")?,
     })
 }
@@ -122,7 +122,7 @@ fn number(matches: &ArgMatches<'_>, id: &str) -> Result<u64, OutOfMemory>
     }
 }
 
-fn port(n: u64) -> Result<u16, OutOfMemory>
+fn port_of(n: u64) -> Result<u16, OutOfMemory>
     ensures { IfOk result (λ port. port ≡ n) }
 {
     match u16::try_from(n) {
@@ -131,7 +131,7 @@ fn port(n: u64) -> Result<u16, OutOfMemory>
     }
 }
 
-fn workers(n: u64) -> Result<u64, OutOfMemory>
+fn workers_of(n: u64) -> Result<u64, OutOfMemory>
     ensures same { IfOk result (λ workers. workers ≡ n) }
     ensures some { IfOk result (λ workers. 1 ≤ workers) }
 {

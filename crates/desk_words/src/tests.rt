@@ -66,8 +66,8 @@ static WORDS: [(&str, Option<Command>); 24] = [
 #[test]
 fn each_list_of_words_is_a_command_or_none(rt: HostRuntime) -> Result<(), Fail> {
     for (words, wanted) in WORDS.as_slice() {
-        let texts = texts(rt.alloc(), words)?;
-        let command = command_in(rt.alloc(), texts.as_slice())?;
+        let given = texts(rt.alloc(), words)?;
+        let command = command_in(rt.alloc(), given.as_slice())?;
         assert_eq!(rt; command, *wanted);
     }
     Ok(())

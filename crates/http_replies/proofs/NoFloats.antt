@@ -6,7 +6,7 @@ use Rattle.serde_json.specs.Written.{has_float, items_have_float}
 use Rattle.rule_core.specs.declared.info.RuleInfo.{RuleInfo}
 use Rattle.judge_core.specs.declared.outcomes.OutRow.{OutRow}
 use Rattle.keep_core.specs.declared.page.SitePage.{SitePage}
-use Rattle.text_reports.specs.TextReport.{is_inapplicable, is_known}
+use Rattle.reports.specs.TextReport.{is_inapplicable, is_known}
 use Rattle.snap_edit.specs.declared.fault.EditKind.{EditKind}
 use Rattle.snap_edit.specs.declared.fault.EditKind.TheVariants as kind
 use Rattle.desk_core.specs.declared.refusal.Refusal.{Refusal}

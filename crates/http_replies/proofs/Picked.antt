@@ -2,7 +2,7 @@
 use Rattle.std.proofs.Common.{◌≡◌, ℕ, ◌≤◌, Bool, true, false, cond, List, [], ◌∷◌, ◌++◌, length, take, filter, map, refl, ap, ◌∙◌}
 use Rattle.std.specs.List.{flat_map}
 use Rattle.std.proofs.lemmas.List.Concat.{flat_map_single}
-use Rattle.text_reports.proofs.Chosen.{all_walked}
+use Rattle.reports.proofs.Chosen.{all_walked}
 
 -- after a walk over all items, each of which was passed over or gave one
 pub all_picked : {X Y : Type 0} (f : X → Y) (p : X → Bool) (xs : List X) (i : ℕ) (now : List Y) → i ≤ length xs → length xs ≤ i →

@@ -6,7 +6,7 @@ use Rattle.snap_tree.specs.declared.row.NodeId.{NodeId}
 use Rattle.rule_core.specs.declared.info.RuleNo.{RuleNo}
 use Rattle.rule_core.specs.declared.info.RuleInfo.{RuleInfo}
 use Rattle.rule_core.specs.declared.verdict.Auto.{Auto}
-use Rattle.text_reports.specs.TextReport.{outcome_word}
+use Rattle.reports.specs.TextReport.{outcome_word}
 use Rattle.keep_core.specs.declared.member.MemberRole.{MemberRole}
 use Rattle.desk_core.specs.declared.limits.TheConstants.{MOST_ENTRIES}
 use Rattle.desk_core.specs.declared.reply.Summary.{Summary}

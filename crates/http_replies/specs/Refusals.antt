@@ -9,7 +9,7 @@ use Rattle.snap_tree.specs.FaultText.{fault_number, fault_node}
 use Rattle.snap_edit.specs.declared.fault.EditKind.{EditKind}
 use Rattle.snap_edit.specs.declared.fault.EditKind.TheVariants as kind
 use Rattle.snap_edit.specs.Numbers.{kind_number}
-use Rattle.text_reports.specs.TextReport.{outcome_word}
+use Rattle.reports.specs.TextReport.{outcome_word}
 use Rattle.desk_core.specs.declared.refusal.Refusal.{Refusal}
 use Rattle.desk_core.specs.declared.refusal.Refusal.TheVariants.{NoSite, SiteExists, NotAllowed, NoPage, PageLimit, StaleRevision, TreeFault as Misgrown, EditFault, NoTarget, NotOpen, SameHand, EvidenceMoved, KeeperFault, OutOfMemory}
 use Rattle.http_messages.specs.declared.fault.HeadFault.{HeadFault}

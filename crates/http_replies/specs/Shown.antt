@@ -11,7 +11,7 @@ use Rattle.rule_core.specs.declared.info.RuleInfo.{RuleInfo}
 use Rattle.rule_core.specs.Words.{word_of}
 use Rattle.rule_core.specs.Brief.{digest}
 use Rattle.judge_core.specs.declared.outcomes.OutRow.{OutRow}
-use Rattle.text_reports.specs.TextReport.{outcome_word, is_inapplicable, is_known}
+use Rattle.reports.specs.TextReport.{outcome_word, is_inapplicable, is_known}
 use Rattle.keep_core.specs.declared.page.Page.{Page}
 use Rattle.keep_core.specs.declared.page.SitePage.{SitePage}
 use Rattle.http_replies.specs.Words.{whole, id_of}

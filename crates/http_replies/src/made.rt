@@ -11,7 +11,7 @@ use keep_core::{MOST_NAME, MemberRole};
 use reply_frames::{push, push_number};
 use rule_core::{Auto, RuleInfo, RuleNo};
 use snap_tree::{NodeId, OutOfMemory, Text};
-use text_reports::outcome_word;
+use reports::outcome_word;
 
 // The most bytes of what is said of a page that is put.
 const MOST_STORED: usize = 256;

@@ -3,7 +3,7 @@ ghost use Rattle.std.specs.Str.{IsUtf8};
 ghost use Rattle.serde_json.specs.Data.{string, put as with_member};
 ghost use Rattle.serde_json.specs.View.{view, members_view};
 ghost use Rattle.serde_json.specs.Written.{compact_text};
-ghost use Rattle.text_reports.specs.TextReport.{is_inapplicable, is_known};
+ghost use Rattle.reports.specs.TextReport.{is_inapplicable, is_known};
 ghost use Rattle.http_replies.specs.Words.{id_of, HaveTexts};
 ghost use Rattle.http_replies.specs.Shown.{row_data, inapplicable_ids, known_rows, outcomes_data};
 
@@ -16,7 +16,7 @@ use serde_json::{Map, Value, put};
 use snap_tree::OutOfMemory;
 use std::alloc::Global;
 use std::str;
-use text_reports::{is_inapplicable, is_known, outcome_word};
+use reports::{is_inapplicable, is_known, outcome_word};
 
 // The body of the reply that shows the outcomes of a page.
 #[tactic(auto, using(crate::proofs::NoFloats::outcomes_have_no_float))]

@@ -15,7 +15,7 @@ use reply_frames::{MOST_HEAD, frame};
 use rule_core::RuleInfo;
 use snap_tree::OutOfMemory;
 use std::alloc::Global;
-use text_reports::text_report;
+use reports::text_report;
 
 /// The room that is taken before a change is made: the reply to a change fits into it.
 pub const MOST_REPLY: usize = 32_768;

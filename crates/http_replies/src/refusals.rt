@@ -18,7 +18,7 @@ use serde_json::Value;
 use snap_edit::EditKind;
 use snap_tree::{NodeId, OutOfMemory, Text, TreeFault};
 use std::alloc::Global;
-use text_reports::outcome_word;
+use reports::outcome_word;
 
 // The body of a refusal of the machine.
 #[tactic(auto, using(crate::proofs::NoFloats::refusal_has_no_float))]

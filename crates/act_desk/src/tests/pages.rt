@@ -8,7 +8,7 @@ use snap_json::read_snapshot;
 use snap_tree::{NodeId, Text, Tree};
 use std::alloc::Global;
 use std::test::Fail;
-use text_reports::text_report;
+use reports::text_report;
 
 // A page with a button, and the same page hidden from assistive technology.
 const BUTTON: &str =

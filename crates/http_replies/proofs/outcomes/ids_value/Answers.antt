@@ -1,6 +1,6 @@
 use Rattle.std.proofs.Common.{arith}
 use Rattle.serde_json.specs.Data.{string}
-use Rattle.text_reports.specs.TextReport.{is_inapplicable}
+use Rattle.reports.specs.TextReport.{is_inapplicable}
 use Rattle.http_replies.proofs.Picked.{all_picked}
 use Rattle.http_replies.proofs.outcomes.ids_value.Goals as goal
 

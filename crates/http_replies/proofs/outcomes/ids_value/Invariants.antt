@@ -2,7 +2,7 @@ use Rattle.std.proofs.Common.{◌≡◌, [], ◌∷◌, take, map, cond}
 use Rattle.std.specs.List.{flat_map}
 use Rattle.serde_json.specs.Data.{string}
 use Rattle.serde_json.specs.View.{view}
-use Rattle.text_reports.specs.TextReport.{is_inapplicable}
+use Rattle.reports.specs.TextReport.{is_inapplicable}
 use Rattle.http_replies.proofs.outcomes.ids_value.Given as goal
 
 abbrev pub invariant-loop-info : goal.invariant-loop-info

@@ -1,5 +1,5 @@
 use Rattle.std.proofs.Common.{arith}
-use Rattle.text_reports.specs.TextReport.{is_known}
+use Rattle.reports.specs.TextReport.{is_known}
 use Rattle.http_replies.specs.Shown.{row_data}
 use Rattle.http_replies.proofs.Picked.{all_picked}
 use Rattle.http_replies.proofs.outcomes.rows_value.Goals as goal

@@ -1,7 +1,7 @@
 use Rattle.std.proofs.Common.{◌≡◌, [], ◌∷◌, take, map, cond}
 use Rattle.std.specs.List.{flat_map}
 use Rattle.serde_json.specs.View.{view}
-use Rattle.text_reports.specs.TextReport.{is_known}
+use Rattle.reports.specs.TextReport.{is_known}
 use Rattle.http_replies.specs.Shown.{row_data}
 use Rattle.http_replies.proofs.outcomes.rows_value.Given as goal
 

@@ -1,0 +1,9 @@
+pub mod TextReport
+pub mod Criteria
+pub mod SiteReport
+pub mod Table
+pub mod Terms
+pub mod Earl
+pub mod Ids
+pub mod Walking
+pub mod Writing

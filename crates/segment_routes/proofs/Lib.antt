@@ -1,0 +1,5 @@
+pub mod Cuts
+pub mod Seeking
+pub mod Finding
+pub mod Walking
+pub mod Telling

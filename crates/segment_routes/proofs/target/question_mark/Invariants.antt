@@ -1,0 +1,6 @@
+use Rattle.std.proofs.Common.{◌≡◌, ℕ, ◌<◌, get_or}
+use Rattle.segment_routes.specs.Paths.{question}
+use Rattle.segment_routes.proofs.target.question_mark.Given as goal
+
+abbrev pub invariant-loop-at : goal.invariant-loop-at
+invariant-loop-at l = (k : ℕ) → k < l.at → get_or l.bytes k 0 ≡ question → ⊥
