@@ -58,7 +58,7 @@ static ORDERS: [Case; 13] = [
 
 #[test]
 fn clauses_are_tried_in_order(rt: HostRuntime) -> Result<(), Fail> {
-    each_is_named(&rt, rt.alloc(), &ORDERS)
+    each_is_named(rt.alloc(), &ORDERS)
 }
 
 // The roles that are named from content, and some that aren't.
@@ -80,5 +80,5 @@ static ROLES: [Case; 8] = [
 
 #[test]
 fn some_roles_are_named_from_content(rt: HostRuntime) -> Result<(), Fail> {
-    each_is_named(&rt, rt.alloc(), &ROLES)
+    each_is_named(rt.alloc(), &ROLES)
 }

@@ -52,7 +52,7 @@ static CONTENTS: [Case; 12] = [
 
 #[test]
 fn children_say_their_texts_in_order(rt: HostRuntime) -> Result<(), Fail> {
-    each_is_named(&rt, rt.alloc(), &CONTENTS)
+    each_is_named(rt.alloc(), &CONTENTS)
 }
 
 static HIDDEN: [Case; 8] = [
@@ -94,5 +94,5 @@ static HIDDEN: [Case; 8] = [
 
 #[test]
 fn hidden_nodes_do_not_count(rt: HostRuntime) -> Result<(), Fail> {
-    each_is_named(&rt, rt.alloc(), &HIDDEN)
+    each_is_named(rt.alloc(), &HIDDEN)
 }

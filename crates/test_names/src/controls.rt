@@ -71,7 +71,7 @@ static VALUES: [Case; 12] = [
 
 #[test]
 fn controls_within_a_name_say_their_values(rt: HostRuntime) -> Result<(), Fail> {
-    each_is_named(&rt, rt.alloc(), &VALUES)
+    each_is_named(rt.alloc(), &VALUES)
 }
 
 static BUTTONS: [Case; 7] = [
@@ -86,5 +86,5 @@ static BUTTONS: [Case; 7] = [
 
 #[test]
 fn buttons_say_their_values(rt: HostRuntime) -> Result<(), Fail> {
-    each_is_named(&rt, rt.alloc(), &BUTTONS)
+    each_is_named(rt.alloc(), &BUTTONS)
 }

@@ -50,5 +50,5 @@ static NATIVES: [Case; 13] = [
 
 #[test]
 fn elements_say_the_text_of_their_kind(rt: HostRuntime) -> Result<(), Fail> {
-    each_is_named(&rt, rt.alloc(), &NATIVES)
+    each_is_named(rt.alloc(), &NATIVES)
 }

@@ -27,7 +27,17 @@ fn owned_through(alloc: Global, tree: &Tree) -> Result<String, Fail> {
     Ok(text)
 }
 
-static OWNED: [(&str, &str, &str); 12] = [
+// A page, what its node 3 owns, and the same with groups looked through.
+type Case = (&'static str, &'static str, &'static str);
+
+fn owns_so(alloc: Global, case: &Case) -> Result<bool, Fail> {
+    let (rows, numbers, through) = *case;
+    let tree = page_with(alloc, rows)?;
+    let is_owned = owned_numbers(alloc, &tree)?.as_str() == numbers;
+    Ok(is_owned && owned_through(alloc, &tree)?.as_str() == through)
+}
+
+static OWNED: [Case; 12] = [
     ("3 2 ul", "", ""),
     ("3 2 ul;4 3 li;5 4 a href=x;6 5 #Books", "4", "4 listitem"),
     (
@@ -72,18 +82,10 @@ static OWNED: [(&str, &str, &str); 12] = [
 
 #[test]
 fn an_element_owns_what_counts_as_its_children(rt: HostRuntime) -> Result<(), Fail> {
-    for (rows, numbers, through) in OWNED {
-        let tree = page_with(rt.alloc(), rows)?;
-        assert_eq!(rt;
-            owned_numbers(rt.alloc(), &tree)?.as_str(),
-            numbers,
-            "{rows}"
-        );
-        assert_eq!(rt;
-            owned_through(rt.alloc(), &tree)?.as_str(),
-            through,
-            "{rows}"
-        );
+    for case in OWNED.as_slice() {
+        if !owns_so(rt.alloc(), case)? {
+            return Err(Fail::from(case.0));
+        }
     }
     Ok(())
 }

@@ -85,7 +85,7 @@ static LABELLED_BY: [Case; 12] = [
 
 #[test]
 fn elements_are_labelled_by_others(rt: HostRuntime) -> Result<(), Fail> {
-    each_is_named(&rt, rt.alloc(), &LABELLED_BY)
+    each_is_named(rt.alloc(), &LABELLED_BY)
 }
 
 // What an id finds moves when an element with that id is put in before it.
@@ -113,7 +113,7 @@ static MOVED: [Case; 3] = [
 
 #[test]
 fn an_id_finds_the_first_element(rt: HostRuntime) -> Result<(), Fail> {
-    each_is_named(&rt, rt.alloc(), &MOVED)
+    each_is_named(rt.alloc(), &MOVED)
 }
 
 static LABELS: [Case; 12] = [
@@ -191,5 +191,5 @@ static LABELS: [Case; 12] = [
 
 #[test]
 fn labels_name_controls(rt: HostRuntime) -> Result<(), Fail> {
-    each_is_named(&rt, rt.alloc(), &LABELS)
+    each_is_named(rt.alloc(), &LABELS)
 }

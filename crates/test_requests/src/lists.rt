@@ -1,8 +1,8 @@
-use crate::told::told;
+use crate::told::{Case, each_asks};
 use std::test::Fail;
 
 // Imports and edits, and what they ask; or the refusal, with the place of the first bad entry.
-static CASES: [(&str, &str, &str, &str); 37] = [
+static CASES: [Case; 37] = [
     (
         "POST /sites/a/import",
         "",
@@ -194,9 +194,5 @@ static CASES: [(&str, &str, &str, &str); 37] = [
 
 #[test]
 fn lists_and_their_first_bad_entry(rt: HostRuntime) -> Result<(), Fail> {
-    for (start, fields, body, text) in &CASES {
-        let got = told(rt.alloc(), start, fields, body)?;
-        assert_eq!(rt; got.as_str(), *text, "{start} {fields} {body}");
-    }
-    Ok(())
+    each_asks(rt.alloc(), &CASES)
 }

@@ -4,7 +4,7 @@ use http_replies::{Answer, MOST_REPLY, print};
 use rule_core::{Class, RuleInfo};
 use snap_tree::{OutOfMemory, Text};
 use std::alloc::Global;
-use std::process::Abort;
+use std::test::Fail;
 
 pub fn text(alloc: Global, text: &str) -> Result<Text, OutOfMemory> {
     Text::from_str(alloc, text)
@@ -30,30 +30,27 @@ fn printed(alloc: Global, answer: &Answer, closes: bool) -> Result<Vec<u8>, OutO
 }
 
 fn is_equal(
-    rt: &impl Abort,
     alloc: Global,
     answer: &Answer,
     closes: bool,
     status: &str,
     body: &str,
-) -> Result<(), OutOfMemory> {
+) -> Result<bool, OutOfMemory> {
     let wanted = json(alloc, status, body, closes)?;
-    assert_eq!(rt;
-        printed(alloc, answer, closes)?.as_slice(),
-        wanted.as_bytes(),
-        "{body}"
-    );
-    Ok(())
+    Ok(printed(alloc, answer, closes)?.as_slice() == wanted.as_bytes())
 }
 
-/// Whether this is printed for an answer.
+/// Fails with the body unless it is what is printed for an answer, after this status line.
 pub fn is_printed(
-    rt: &impl Abort,
     alloc: Global,
     answer: Answer,
     closes: bool,
     status: &str,
     body: &str,
-) -> Result<(), OutOfMemory> {
-    is_equal(rt, alloc, &answer, closes, status, body)
+) -> Result<(), Fail> {
+    if is_equal(alloc, &answer, closes, status, body)? {
+        Ok(())
+    } else {
+        Err(Fail::from(body))
+    }
 }

@@ -75,7 +75,7 @@ static CHANGES: [(&str, &str); 6] = [
 fn each_change_is_printed(rt: HostRuntime) -> Result<(), Fail> {
     for (place, (status, body)) in CHANGES.iter().enumerate() {
         let answer = Answer::Replied(change(rt.alloc(), place)?);
-        is_printed(&rt, rt.alloc(), answer, false, status, body)?;
+        is_printed(rt.alloc(), answer, false, status, body)?;
     }
     Ok(())
 }
@@ -113,7 +113,6 @@ fn outcomes_are_shown(rt: HostRuntime) -> Result<(), Fail> {
     let body =
         r#"{"inapplicable":["2779a5"],"outcomes":[{"automatic":"cantTell","by":"bob","digest":"e3b0c44298fc1c149afbf4c8996fb92427ae41e4649b934ca495991b7852b855","evidence":"","node":1,"outcome":"failed","reason":"no-lang","rule":"b5c3f8"}],"rev":5}"#;
     is_printed(
-        &rt,
         alloc,
         Answer::Replied(Reply::Outcomes(page)),
         false,

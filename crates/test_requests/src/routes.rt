@@ -115,16 +115,27 @@ fn told(alloc: Global, start: &str, fields: &str) -> Result<Vec<u8>, OutOfMemory
     Ok(out)
 }
 
+fn asks(alloc: Global, start: &str, fields: &str, wanted: &str) -> Result<bool, OutOfMemory> {
+    Ok(told(alloc, start, fields)?.as_slice() == wanted.as_bytes())
+}
+
 #[test]
 fn each_route_has_its_methods(rt: HostRuntime) -> Result<(), Fail> {
-    for (start, text) in &CASES {
-        let got = told(rt.alloc(), start, "x-caller: ann\r\n")?;
-        assert_eq!(rt; got.as_slice(), text.as_bytes(), "{start}");
+    for (start, wanted) in CASES.as_slice() {
+        if !asks(rt.alloc(), start, "x-caller: ann\r\n", wanted)? {
+            return Err(Fail::from(*start));
+        }
     }
-    for (fields, named) in &CALLERS {
-        let got = told(rt.alloc(), "PUT /sites/a", fields)?;
-        let text: &[u8] = if *named { b"put site a" } else { b"NoCaller" };
-        assert_eq!(rt; got.as_slice(), text, "{fields}");
+    Ok(())
+}
+
+#[test]
+fn a_request_names_its_caller(rt: HostRuntime) -> Result<(), Fail> {
+    for (fields, named) in CALLERS.as_slice() {
+        let wanted = if *named { "put site a" } else { "NoCaller" };
+        if !asks(rt.alloc(), "PUT /sites/a", fields, wanted)? {
+            return Err(Fail::from(*fields));
+        }
     }
     Ok(())
 }

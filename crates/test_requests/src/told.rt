@@ -8,8 +8,8 @@ use keep_core::MemberRole;
 use request_faults::RequestFault;
 use rule_core::Auto;
 use snap_edit::Edit;
-use snap_tree::{Facts, Raw, Text};
-use std::alloc::Global;
+use snap_tree::{Facts, NodeId, Raw, Text};
+use std::alloc::{AllocError, Global};
 use std::fmt::Write;
 use std::test::Fail;
 
@@ -31,115 +31,149 @@ fn verdict_word(verdict: Auto) -> &'static str {
     }
 }
 
-fn add_page(out: &mut String, raw: &Raw) -> Result<(), Fail> {
-    let address = raw.address.as_str();
-    let rows = raw.rows.as_slice().len();
-    write!(out, " {address} rows {rows}")?;
+// Adds a word and a text behind it.
+fn add(out: &mut String, word: &str, text: &str) -> Result<(), AllocError> {
+    out.push_str(word)?;
+    out.push_str(text)
+}
+
+// Adds a word and a number behind it.
+fn add_number(out: &mut String, word: &str, number: u64) -> Result<(), Fail> {
+    write!(out, "{word}{number}")?;
     Ok(())
+}
+
+fn add_page(out: &mut String, raw: &Raw) -> Result<(), Fail> {
+    add(out, " ", raw.address.as_str())?;
+    add_number(out, " rows ", raw.rows.as_slice().len() as u64)
 }
 
 fn add_entry(out: &mut String, entry: &Entry) -> Result<(), Fail> {
-    let page = entry.page.as_str();
-    let rev = entry.rev;
-    write!(out, "; {page} rev {rev}")?;
+    add(out, "; ", entry.page.as_str())?;
+    add_number(out, " rev ", entry.rev)?;
     add_page(out, &entry.raw)
 }
 
-fn add_facts(out: &mut String, facts: Facts) -> Result<(), Fail> {
-    for (holds, letter) in [
-        (facts.rendered, "r"),
-        (facts.visible, "v"),
-        (facts.focusable, "f"),
-        (facts.tabbable, "t"),
-    ] {
-        if holds {
-            out.push_str(letter)?;
-        }
-    }
-    Ok(())
+fn add_letter(out: &mut String, holds: bool, letter: char) -> Result<(), AllocError> {
+    if holds { out.push(letter) } else { Ok(()) }
+}
+
+fn add_facts(out: &mut String, facts: Facts) -> Result<(), AllocError> {
+    add_letter(out, facts.rendered, 'r')?;
+    add_letter(out, facts.visible, 'v')?;
+    add_letter(out, facts.focusable, 'f')?;
+    add_letter(out, facts.tabbable, 't')
+}
+
+// Adds the word of an edit and its node.
+fn add_node(out: &mut String, word: &str, node: NodeId) -> Result<(), Fail> {
+    add_number(out, word, u64::from(node.0))
 }
 
 fn add_edit(out: &mut String, edit: &Edit) -> Result<(), Fail> {
     match edit {
         Edit::SetAttr { node, name, value } => {
-            let (n, name, value) = (node.0, name.as_str(), value.as_str());
-            write!(out, "; setAttr {n} {name} {value}")?;
+            add_node(out, "; setAttr ", *node)?;
+            add(out, " ", name.as_str())?;
+            Ok(add(out, " ", value.as_str())?)
         }
         Edit::DropAttr { node, name } => {
-            let (n, name) = (node.0, name.as_str());
-            write!(out, "; dropAttr {n} {name}")?;
+            add_node(out, "; dropAttr ", *node)?;
+            Ok(add(out, " ", name.as_str())?)
         }
         Edit::SetText { node, text } => {
-            let (n, text) = (node.0, text.as_str());
-            write!(out, "; setText {n} {text}")?;
+            add_node(out, "; setText ", *node)?;
+            Ok(add(out, " ", text.as_str())?)
         }
         Edit::SetFacts { node, facts } => {
-            let n = node.0;
-            write!(out, "; setFacts {n} ")?;
-            add_facts(out, *facts)?;
+            add_node(out, "; setFacts ", *node)?;
+            out.push(' ')?;
+            Ok(add_facts(out, *facts)?)
         }
+        Edit::Remove { node } => add_node(out, "; remove ", *node),
+        _ => add_place(out, edit),
+    }
+}
+
+// Adds an edit that has a parent and a place.
+fn add_place(out: &mut String, edit: &Edit) -> Result<(), Fail> {
+    match edit {
         Edit::Insert {
             parent,
             place,
             rows,
         } => {
-            let (p, rows) = (parent.0, rows.as_slice().len());
-            write!(out, "; insert {p} {place} rows {rows}")?;
-        }
-        Edit::Remove { node } => {
-            let n = node.0;
-            write!(out, "; remove {n}")?;
+            add_node(out, "; insert ", *parent)?;
+            add_number(out, " ", u64::from(*place))?;
+            add_number(out, " rows ", rows.as_slice().len() as u64)
         }
         Edit::Move {
             node,
             parent,
             place,
         } => {
-            let (n, p) = (node.0, parent.0);
-            write!(out, "; move {n} {p} {place}")?;
+            add_node(out, "; move ", *node)?;
+            add_node(out, " ", *parent)?;
+            add_number(out, " ", u64::from(*place))
         }
+        _ => Ok(()),
+    }
+}
+
+// Adds a word and two names.
+fn add_names(out: &mut String, word: &str, first: &Text, second: &Text) -> Result<(), AllocError> {
+    add(out, word, first.as_str())?;
+    add(out, " ", second.as_str())
+}
+
+fn add_entries(out: &mut String, entries: &[Entry]) -> Result<(), Fail> {
+    for entry in entries {
+        add_entry(out, entry)?;
     }
     Ok(())
 }
 
-fn add_names(out: &mut String, word: &str, first: &Text, second: &Text) -> Result<(), Fail> {
-    let (first, second) = (first.as_str(), second.as_str());
-    write!(out, "{word} {first} {second}")?;
+fn add_edits(out: &mut String, edits: &[Edit]) -> Result<(), Fail> {
+    for edit in edits {
+        add_edit(out, edit)?;
+    }
     Ok(())
 }
 
 fn add_command(out: &mut String, command: &Command) -> Result<(), Fail> {
     match command {
-        Command::PutSite { site } => {
-            let site = site.as_str();
-            write!(out, "put site {site}")?;
-        }
+        Command::PutSite { site } => Ok(add(out, "put site ", site.as_str())?),
         Command::PutMember { site, user, role } => {
-            add_names(out, "put member", site, user)?;
-            let role = role_word(*role);
-            write!(out, " {role}")?;
+            add_names(out, "put member ", site, user)?;
+            Ok(add(out, " ", role_word(*role))?)
         }
+        Command::GetPage { site, page } => Ok(add_names(out, "get page ", site, page)?),
+        Command::GetOutcomes { site, page } => Ok(add_names(out, "get outcomes ", site, page)?),
+        Command::Import { site, entries } => {
+            add(out, "import ", site.as_str())?;
+            add_entries(out, entries.as_slice())
+        }
+        Command::Judge { .. } => add_judgement(out, command),
+        _ => add_change(out, command),
+    }
+}
+
+// Adds a command that carries a revision of its page.
+fn add_change(out: &mut String, command: &Command) -> Result<(), Fail> {
+    match command {
         Command::PutPage {
             site,
             page,
             rev,
             raw,
         } => {
-            add_names(out, "put page", site, page)?;
-            write!(out, " rev {rev}")?;
-            add_page(out, raw)?;
+            add_names(out, "put page ", site, page)?;
+            add_number(out, " rev ", *rev)?;
+            add_page(out, raw)
         }
-        Command::GetPage { site, page } => add_names(out, "get page", site, page)?,
         Command::DropPage { site, page, rev } => {
-            add_names(out, "drop page", site, page)?;
-            write!(out, " rev {rev}")?;
-        }
-        Command::Import { site, entries } => {
-            let site = site.as_str();
-            write!(out, "import {site}")?;
-            for entry in entries.as_slice() {
-                add_entry(out, entry)?;
-            }
+            add_names(out, "drop page ", site, page)?;
+            add_number(out, " rev ", *rev)
         }
         Command::EditPage {
             site,
@@ -147,20 +181,22 @@ fn add_command(out: &mut String, command: &Command) -> Result<(), Fail> {
             rev,
             edits,
         } => {
-            add_names(out, "edit page", site, page)?;
-            write!(out, " rev {rev}")?;
-            for edit in edits.as_slice() {
-                add_edit(out, edit)?;
-            }
+            add_names(out, "edit page ", site, page)?;
+            add_number(out, " rev ", *rev)?;
+            add_edits(out, edits.as_slice())
         }
-        Command::GetOutcomes { site, page } => add_names(out, "get outcomes", site, page)?,
-        _ => add_judgement(out, command)?,
+        _ => Ok(()),
     }
-    Ok(())
+}
+
+// Adds the first and the last byte of a digest.
+fn add_digest(out: &mut String, digest: &[u8; 32]) -> Result<(), Fail> {
+    add_number(out, " ", u64::from(digest[0]))?;
+    add_number(out, "..", u64::from(digest[31]))
 }
 
 fn add_judgement(out: &mut String, command: &Command) -> Result<(), Fail> {
-    if let Command::Judge {
+    let Command::Judge {
         site,
         page,
         rule,
@@ -169,29 +205,26 @@ fn add_judgement(out: &mut String, command: &Command) -> Result<(), Fail> {
         digest,
         note,
     } = command
-    {
-        add_names(out, "judge", site, page)?;
-        let (rule, node, verdict, note) = (rule.0, node.0, verdict_word(*verdict), note.as_str());
-        let (first, last) = (digest[0], digest[31]);
-        write!(
-            out,
-            " rule {rule} node {node} {verdict} {first}..{last} {note}"
-        )?;
-    }
-    Ok(())
+    else {
+        return Ok(());
+    };
+    add_names(out, "judge ", site, page)?;
+    add_number(out, " rule ", u64::from(rule.0))?;
+    add_node(out, " node ", *node)?;
+    add(out, " ", verdict_word(*verdict))?;
+    add_digest(out, digest)?;
+    Ok(add(out, " ", note.as_str())?)
 }
 
 fn add_answer(out: &mut String, answer: &Result<Asked, RequestFault>) -> Result<(), Fail> {
     match answer {
         Ok(asked) => {
-            let caller = asked.caller.as_str();
-            write!(out, "{caller}: ")?;
+            add(out, asked.caller.as_str(), ": ")?;
             add_command(out, &asked.command)
         }
         Err(RequestFault::BadShape { part, place }) => {
-            let word = part.word();
-            write!(out, "{word} {place}")?;
-            Ok(())
+            out.push_str(part.word())?;
+            add_number(out, " ", u64::from(*place))
         }
         Err(fault) => {
             out.push_str(fault.name())?;
@@ -200,16 +233,38 @@ fn add_answer(out: &mut String, answer: &Result<Asked, RequestFault>) -> Result<
     }
 }
 
-/// What ann asks by a request line, more fields and a body; or the name of the refusal, and of BadShape the
-/// field and the place.
-pub fn told(alloc: Global, start: &str, fields: &str, body: &str) -> Result<String, Fail> {
+fn told(alloc: Global, start: &str, fields: &str, body: &str) -> Result<String, Fail> {
     let mut out = String::new(alloc);
     let head = format!(in alloc; "{start} HTTP/1.1\r\nx-caller: ann\r\n{fields}\r\n")?;
     let Some(head) = read_head(alloc, head.as_bytes())? else {
         return Ok(out);
     };
-    let book = Marks::new();
-    let answer = request_of(alloc, &book, &head, body.as_bytes())?;
+    let answer = request_of(alloc, &Marks::new(), &head, body.as_bytes())?;
     add_answer(&mut out, &answer)?;
     Ok(out)
+}
+
+/// A request by its first line, fields and body, and what ann asks by it; or the name of the refusal, and of
+/// BadShape the field and the place.
+pub type Case = (&'static str, &'static str, &'static str, &'static str);
+
+/// Whether that is asked by a request.
+pub fn asks(
+    alloc: Global,
+    start: &str,
+    fields: &str,
+    body: &str,
+    wanted: &str,
+) -> Result<bool, Fail> {
+    Ok(told(alloc, start, fields, body)?.as_str() == wanted)
+}
+
+/// Fails with the body of the first request by which something else is asked than its case says.
+pub fn each_asks(alloc: Global, cases: &[Case]) -> Result<(), Fail> {
+    for (start, fields, body, wanted) in cases {
+        if !asks(alloc, start, fields, body, wanted)? {
+            return Err(Fail::from((*start, *fields, *body)));
+        }
+    }
+    Ok(())
 }

@@ -1,18 +1,19 @@
 //! Keepers that fail, and one that ceases to tell what it keeps.
 
 use crate::doubtful::{Call, Doubtful};
-use crate::keeping::look;
-use fixture_rules::Marks;
+use crate::keeping::{Seen, look};
+use crate::serving::{go_anew, go_so};
 use fixture_sites::Alter::Mark;
 use fixture_sites::Ask::{Alter, Get, NewSite, Put, Role};
 use fixture_sites::Kind::Refused;
 use fixture_sites::Why::Stale;
 use fixture_sites::{
-    Brief, Case, KEEPER_FAULT, Kind, PAGE, PAGE_SUMS, SITE_EXISTS, View, first_otherwise,
-    keeper_failing,
+    Brief, Case, KEEPER_FAULT, Kind, PAGE, PAGE_SUMS, SITE_EXISTS, View, keeper_failing,
 };
 use keep_core::MemberRole;
+use std::alloc::Global;
 use std::test::Fail;
+use std::thread::Threads;
 
 const MADE: Brief<'static> = (Kind::Site, "acme");
 
@@ -65,11 +66,10 @@ static FAULTS: [[Case; 3]; 8] = [
 
 #[test]
 fn a_fault_of_the_keeper_is_of_one_request(rt: HostRuntime) -> Result<(), Fail> {
-    let alloc = rt.alloc();
-    for (place, cases) in FAULTS.iter().enumerate() {
-        let mut keeper = keeper_failing(alloc, &[place as u64 + 1])?;
-        let found = first_otherwise(&rt, alloc, &mut [Marks::new()], &mut keeper, cases)?;
-        assert_eq!(rt; found, None, "call {place}");
+    let mut call = 0u64;
+    for cases in FAULTS.as_slice() {
+        call = call.saturating_add(1);
+        go_anew(&rt, rt.alloc(), call, cases)?;
     }
     Ok(())
 }
@@ -83,26 +83,55 @@ static FAULTY_PUT: [Case; 2] = [
 // The same again.
 static SAME_PUT: [Case; 1] = [("ann", "acme", Put("home", 0, PAGE), STORED)];
 
+// What is seen of the site and the page when the put failed, and when it was made again.
+const NO_PAGE_SEEN: Seen = (Some(0), None, 0, 0, 0);
+
+const PAGE_SEEN: Seen = (Some(1), Some(1), 1, 0, 5);
+
+// Whether the put meets a fault at this call.
+fn fails_at<R: Threads + Sync>(
+    rt: &R,
+    alloc: Global,
+    keeper: &mut Doubtful,
+    call: Call,
+) -> Result<bool, Fail> {
+    go_so(rt, alloc, keeper, &FAULTY_PUT)?;
+    Ok(keeper.last() == Some(call))
+}
+
+fn is_seen(alloc: Global, keeper: &mut Doubtful, wanted: Seen) -> Result<bool, Fail> {
+    Ok(look(alloc, keeper, "acme", "home")? == wanted)
+}
+
+// Whether a put changes nothing where the call of this number fails, which is this one, and is made again.
+fn changes_nothing<R: Threads + Sync>(
+    rt: &R,
+    alloc: Global,
+    number: u64,
+    call: Call,
+) -> Result<bool, Fail> {
+    let mut keeper = Doubtful::over(keeper_failing(alloc, &[number])?);
+    if !fails_at(rt, alloc, &mut keeper, call)? || !is_seen(alloc, &mut keeper, NO_PAGE_SEEN)? {
+        return Ok(false);
+    }
+    go_so(rt, alloc, &mut keeper, &SAME_PUT)?;
+    is_seen(alloc, &mut keeper, PAGE_SEEN)
+}
+
 // After the two calls that make the site, putting the page makes four, of which the last is `apply`.
+static CALLS: [(u64, Call); 4] = [
+    (3, Call::Site),
+    (4, Call::Load),
+    (5, Call::List),
+    (6, Call::Apply),
+];
+
 #[test]
 fn a_put_that_meets_a_fault_changes_nothing(rt: HostRuntime) -> Result<(), Fail> {
-    let alloc = rt.alloc();
-    let books = &mut [Marks::new()];
-    for (failing, call) in [
-        (3, Call::Site),
-        (4, Call::Load),
-        (5, Call::List),
-        (6, Call::Apply),
-    ] {
-        let mut keeper = Doubtful::over(keeper_failing(alloc, &[failing])?);
-        let found = first_otherwise(&rt, alloc, books, &mut keeper, &FAULTY_PUT)?;
-        assert_eq!(rt; (found, keeper.last()), (None, Some(call)));
-        let seen = look(alloc, &mut keeper, "acme", "home")?;
-        assert_eq!(rt; seen, (Some(0), None, 0, 0, 0), "{call:?}");
-        let found = first_otherwise(&rt, alloc, books, &mut keeper, &SAME_PUT)?;
-        assert_eq!(rt; found, None, "{call:?}");
-        let seen = look(alloc, &mut keeper, "acme", "home")?;
-        assert_eq!(rt; seen, (Some(1), Some(1), 1, 0, 5), "{call:?}");
+    for (number, call) in CALLS.as_slice() {
+        if !changes_nothing(&rt, rt.alloc(), *number, *call)? {
+            return Err(Fail::from(*call));
+        }
     }
     Ok(())
 }
@@ -160,7 +189,5 @@ static ASKED: [Case; 8] = [
 fn a_keeper_that_tells_nothing_any_more_is_served(rt: HostRuntime) -> Result<(), Fail> {
     let alloc = rt.alloc();
     let mut keeper = Doubtful::over(keeper_failing(alloc, &[8])?);
-    let found = first_otherwise(&rt, alloc, &mut [Marks::new()], &mut keeper, &ASKED)?;
-    assert_eq!(rt; found, None);
-    Ok(())
+    go_so(&rt, alloc, &mut keeper, &ASKED)
 }

@@ -15,4 +15,6 @@ mod random;
 #[cfg(test)]
 mod scripts;
 #[cfg(test)]
+mod serving;
+#[cfg(test)]
 mod soundness;

@@ -4,13 +4,14 @@ ghost use Rattle.std.specs.Prelude.{◌≡◌, ◌∷◌, [], IfOk};
 ghost use Rattle.keep_core.specs.Fits.{Fits, FitsPage};
 
 use crate::keeping::one;
+use crate::serving::go_so;
 use desk_core::Command;
 use fixture_pages::Node::Html;
 use fixture_rules::Marks;
 use fixture_sites::Ask::{Gone, Put};
 use fixture_sites::{
-    Case, Kind, NO_MORE_PAGES, PAGE, PAGE_SUMS, Unasked, answer, brief, entry_of, first_otherwise,
-    keeper_failing, named, page_name, site_at,
+    Case, Kind, NO_MORE_PAGES, PAGE, PAGE_SUMS, Unasked, answer, brief, entry_of, keeper_failing,
+    named, page_name, site_at,
 };
 use judge_core::Outcomes;
 use keep_core::{Batch, Change, Keeper, MemoryKeeper, Page, PageHead, PagePut};
@@ -18,6 +19,7 @@ use snap_tree::{List, Text};
 use std::alloc::Global;
 use std::process::Abort;
 use std::test::Fail;
+use std::thread::Threads;
 use web_address::is_web_address;
 
 // A page of one node, at the revision after its number.
@@ -57,14 +59,19 @@ fn put_site(alloc: Global) -> Result<Change, Unasked>
     Ok(Change::PutSite { site })
 }
 
+fn add_page(rt: &impl Abort, alloc: Global, keeper: &mut MemoryKeeper, n: u16) -> Result<(), Fail> {
+    let change = put_page(rt, alloc, n)?;
+    keeper.apply(alloc, &Batch { change })?;
+    Ok(())
+}
+
 // A keeper of the site acme with the pages p00 to p500.
 fn overfull(rt: &impl Abort, alloc: Global) -> Result<MemoryKeeper, Fail> {
     let mut keeper = keeper_failing(alloc, &[])?;
     let change = put_site(alloc)?;
     keeper.apply(alloc, &Batch { change })?;
     for n in 0..501u16 {
-        let change = put_page(rt, alloc, n)?;
-        keeper.apply(alloc, &Batch { change })?;
+        add_page(rt, alloc, &mut keeper, n)?;
     }
     Ok(keeper)
 }
@@ -82,17 +89,24 @@ static PUT: [Case; 4] = [
     ),
 ];
 
-#[test]
-fn a_put_page_is_refused_as_an_import_is(rt: HostRuntime) -> Result<(), Fail> {
-    let alloc = rt.alloc();
-    let mut keeper = overfull(&rt, alloc)?;
+// Whether an import of one page is refused since the site is overfull.
+fn refuses_an_import<R: Threads + Sync>(
+    rt: &R,
+    alloc: Global,
+    keeper: &mut MemoryKeeper,
+) -> Result<bool, Fail> {
     let import = Command::Import {
         site: Text::from_str(alloc, "acme")?,
         entries: one(alloc, entry_of(alloc, 7, 8, PAGE)?)?,
     };
-    let reply = answer(&rt, alloc, &mut [Marks::new()], &mut keeper, "ann", import)?;
-    assert!(rt; brief(&reply) == NO_MORE_PAGES);
-    let found = first_otherwise(&rt, alloc, &mut [Marks::new()], &mut keeper, &PUT)?;
-    assert_eq!(rt; found, None);
-    Ok(())
+    let reply = answer(rt, alloc, &mut [Marks::new()], keeper, "ann", import)?;
+    Ok(brief(&reply) == NO_MORE_PAGES)
+}
+
+#[test]
+fn a_put_page_is_refused_as_an_import_is(rt: HostRuntime) -> Result<(), Fail> {
+    let alloc = rt.alloc();
+    let mut keeper = overfull(&rt, alloc)?;
+    assert!(rt; refuses_an_import(&rt, alloc, &mut keeper)?);
+    go_so(&rt, alloc, &mut keeper, &PUT)
 }

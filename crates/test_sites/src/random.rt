@@ -180,6 +180,20 @@ fn count(count: &mut u32) {
 }
 
 impl Tally {
+    fn none() -> Self {
+        Tally {
+            accepted: 0,
+            imported: 0,
+            stale: 0,
+            astray: 0,
+        }
+    }
+
+    // Whether enough came of each kind.
+    fn is_lively(&self) -> bool {
+        100 < self.accepted && 10 < self.imported && 10 < self.stale && 10 < self.astray
+    }
+
     // Only a refused import names a page.
     fn take(&mut self, said: Brief) {
         match said {
@@ -212,27 +226,42 @@ fn turn<R: Threads + Sync>(
     Ok(())
 }
 
+// Fifty requests more.
+fn fifty_turns<R: Threads + Sync>(
+    rt: &R,
+    alloc: Global,
+    dice: &mut Dice,
+    keeper: &mut MemoryKeeper,
+    tally: &mut Tally,
+) -> Result<(), Fail> {
+    for _ in 0..50 {
+        turn(rt, alloc, dice, keeper, tally)?;
+    }
+    Ok(())
+}
+
+fn are_sound(alloc: Global, keeper: &mut MemoryKeeper) -> Result<bool, Fail> {
+    for site in SITES.as_slice() {
+        let site = Text::from_str(alloc, site)?;
+        if !is_sound(alloc, keeper, &site)? {
+            return Ok(false);
+        }
+    }
+    Ok(true)
+}
+
 #[test]
 fn what_is_kept_stays_sound(rt: HostRuntime) -> Result<(), Fail> {
     let alloc = rt.alloc();
     let mut dice = Dice { state: 2026 };
     let mut keeper = keeper_failing(alloc, &[])?;
-    let mut tally = Tally {
-        accepted: 0,
-        imported: 0,
-        stale: 0,
-        astray: 0,
-    };
-    for _ in 0..20 {
-        for _ in 0..50 {
-            turn(&rt, alloc, &mut dice, &mut keeper, &mut tally)?;
-        }
-        for site in SITES {
-            let site = Text::from_str(alloc, site)?;
-            assert!(rt; is_sound(alloc, &mut keeper, &site)?);
+    let mut tally = Tally::none();
+    for turn in 0..20u32 {
+        fifty_turns(&rt, alloc, &mut dice, &mut keeper, &mut tally)?;
+        if !are_sound(alloc, &mut keeper)? {
+            return Err(Fail::from(turn));
         }
     }
-    assert!(rt; 100 < tally.accepted && 10 < tally.imported, "{tally:?}");
-    assert!(rt; 10 < tally.stale && 10 < tally.astray, "{tally:?}");
+    assert!(rt; tally.is_lively(), "{tally:?}");
     Ok(())
 }

@@ -1,5 +1,6 @@
 //! Requests one after another, by the book of marks.
 
+use crate::serving::{go_anew, go_so};
 use desk_core::Summary;
 use fixture_pages::ADDRESS;
 use fixture_rules::Marks;
@@ -10,8 +11,7 @@ use fixture_sites::Why::{Moved, Stale};
 use fixture_sites::{
     ASTRAY, Brief, Case, IS_PASSED, Kind, LOST, NEEDS_ANOTHER_OWNER, NEEDS_EDITOR, NEEDS_JUDGE,
     NEEDS_OWNER, NEEDS_READER, NO_NODE, NO_PAGE, NO_SECOND_NODE, NO_SITE, NO_TARGET, PAGE,
-    PAGE_SUMS, SAME_HAND, SITE_EXISTS, Unasked, View, asked, first_otherwise, keeper_failing,
-    pages_in,
+    PAGE_SUMS, SAME_HAND, SITE_EXISTS, Unasked, View, asked, keeper_failing, pages_in,
 };
 use keep_core::{MemberRole, MemoryKeeper, SitePage};
 use rule_core::Auto::{Failed, Passed};
@@ -310,14 +310,13 @@ static REFUSED: [Case; 61] = [
 ];
 
 #[test]
-fn pages_come_and_go_and_the_first_refusal_counts(rt: HostRuntime) -> Result<(), Fail> {
-    let alloc = rt.alloc();
-    for cases in [PAGES.as_slice(), REFUSED.as_slice()] {
-        let mut keeper = keeper_failing(alloc, &[])?;
-        let found = first_otherwise(&rt, alloc, &mut [Marks::new()], &mut keeper, cases)?;
-        assert_eq!(rt; found, None);
-    }
-    Ok(())
+fn pages_come_and_go(rt: HostRuntime) -> Result<(), Fail> {
+    go_anew(&rt, rt.alloc(), 0, &PAGES)
+}
+
+#[test]
+fn the_first_refusal_counts(rt: HostRuntime) -> Result<(), Fail> {
+    go_anew(&rt, rt.alloc(), 0, &REFUSED)
 }
 
 // Pages put into a site one after another.
@@ -382,10 +381,11 @@ fn are_shown<R: Threads + Sync>(
 fn pages_are_shown_in_the_order_of_their_names(rt: HostRuntime) -> Result<(), Fail> {
     let alloc = rt.alloc();
     let mut keeper = keeper_failing(alloc, &[])?;
-    let found = first_otherwise(&rt, alloc, &mut [Marks::new()], &mut keeper, &PUT)?;
-    assert_eq!(rt; found, None);
+    go_so(&rt, alloc, &mut keeper, &PUT)?;
     for (place, shown) in SHOWN.iter().enumerate() {
-        assert!(rt; are_shown(&rt, alloc, &mut keeper, shown)?, "{place}");
+        if !are_shown(&rt, alloc, &mut keeper, shown)? {
+            return Err(Fail::from(place));
+        }
     }
     Ok(())
 }

@@ -1,11 +1,11 @@
 //! Whether what is kept of a site is sound, found by looking at it anew.
 
 use fixture_rules::Marks;
-use judge_core::Judgement;
+use judge_core::{Judgement, Outcomes};
 use keep_core::{Keeper, Member, MemberRole, PageHead, Site, is_name};
 use named_rows::Named;
 use reaudit::audit_page;
-use snap_tree::{Text, tree_fault};
+use snap_tree::{OutOfMemory, Text, Tree, tree_fault};
 use std::alloc::Global;
 use std::test::Fail;
 use web_address::is_web_address;
@@ -58,6 +58,25 @@ fn have_hands(judgements: &[Judgement]) -> bool {
     judgements.iter().all(|judgement| is_name(&judgement.hand))
 }
 
+// Whether a page's rows make a tree at a web address.
+fn is_page(alloc: Global, tree: &Tree) -> Result<bool, Fail> {
+    let is_at_web = is_web_address(alloc, tree.address().as_str())?;
+    let fault = tree_fault(alloc, tree.rows())?;
+    Ok(is_at_web && fault.is_none())
+}
+
+// Whether a page's outcomes are those that it has when it is audited anew.
+fn is_audited(
+    alloc: Global,
+    tree: &Tree,
+    judgements: &[Judgement],
+    outcomes: &Outcomes,
+) -> Result<bool, OutOfMemory> {
+    let mut book = Marks::new();
+    let anew = audit_page(alloc, &mut book, tree, judgements)?;
+    Ok(anew == *outcomes && have_hands(judgements))
+}
+
 // Whether a page is kept under its head, its rows make a tree at a web address, and its outcomes are those
 // that it has when it is audited anew.
 fn is_sound_page<K: Keeper>(
@@ -71,12 +90,8 @@ fn is_sound_page<K: Keeper>(
     };
     let judgements = keeper.judgements(alloc, site, &head.page)?;
     let outcomes = keeper.outcomes(alloc, site, &head.page)?;
-    let mut book = Marks::new();
-    let anew = audit_page(alloc, &mut book, &kept.tree, judgements.as_slice())?;
-    let is_at_web = is_web_address(alloc, kept.tree.address().as_str())?;
-    let fault = tree_fault(alloc, kept.tree.rows())?;
-    let have_hands = have_hands(judgements.as_slice());
-    Ok(kept.head == *head && anew == outcomes && is_at_web && fault.is_none() && have_hands)
+    let is_audited = is_audited(alloc, &kept.tree, judgements.as_slice(), &outcomes)?;
+    Ok(kept.head == *head && is_audited && is_page(alloc, &kept.tree)?)
 }
 
 /// Whether what is kept of a site is sound, by the book of marks. It is, where nothing is.

@@ -1,0 +1,32 @@
+//! The requests of a table, served one after another by the book of marks.
+
+use fixture_rules::Marks;
+use fixture_sites::{Case, first_otherwise, keeper_failing};
+use keep_core::Keeper;
+use std::alloc::Global;
+use std::test::Fail;
+use std::thread::Threads;
+
+/// Fails with the place of the first request that is answered otherwise than its table says.
+pub fn go_so<R: Threads + Sync, K: Keeper>(
+    rt: &R,
+    alloc: Global,
+    keeper: &mut K,
+    cases: &[Case],
+) -> Result<(), Fail> {
+    match first_otherwise(rt, alloc, &mut [Marks::new()], keeper, cases)? {
+        None => Ok(()),
+        Some(place) => Err(Fail::from(place)),
+    }
+}
+
+/// The same with a keeper of nothing, of whose calls the one of this number fails; at 0 none does.
+pub fn go_anew<R: Threads + Sync>(
+    rt: &R,
+    alloc: Global,
+    call: u64,
+    cases: &[Case],
+) -> Result<(), Fail> {
+    let mut keeper = keeper_failing(alloc, &[call])?;
+    go_so(rt, alloc, &mut keeper, cases)
+}
