@@ -199,13 +199,13 @@ impl Bypass {
     }
 
     // Adds the lines of the nodes that count, where this is above the trees.
-    fn add_lines(
+    fn add_lines<'a>(
         self,
         found: &mut Vec<Text>,
         alloc: Global,
         tree: &Tree,
-        above: &Above,
-        trees: Branches<'_>,
+        above: &Above<'a>,
+        trees: Branches<'a>,
     ) -> Result<(), OutOfMemory>
         ensures { OnOk result (found.new.items ≡ found.old.items ++ lines self (seen tree.now.trees) above.now (seen trees.entry)) }
     {
