@@ -7,12 +7,12 @@ use crate::fault_line::fault_line;
 use crate::found::Found;
 use judge_core::{OutRow, infos_of};
 use reaudit::audit_page;
+use reports::{is_outcome, text_report};
 use rule_core::{Auto, RuleBook};
 use snap_json::{MOST_SNAPSHOT_BYTES, SnapFault, read_snapshot};
 use snap_tree::{List, OutOfMemory, Tree};
 use std::alloc::Global;
 use streams::{ReadFault, Source, read_all};
-use reports::{is_outcome, text_report};
 
 /// How many bytes an audit reads at most: one more than a snapshot may have.
 pub const MOST_READ: usize = MOST_SNAPSHOT_BYTES + 1;

@@ -9,9 +9,9 @@ use crate::words::{role_word, rule_of};
 use desk_core::{MOST_ENTRIES, Reply, Stored, Summary};
 use keep_core::{MOST_NAME, MemberRole};
 use reply_frames::{push, push_number};
+use reports::outcome_word;
 use rule_core::{Auto, RuleInfo, RuleNo};
 use snap_tree::{NodeId, OutOfMemory, Text};
-use reports::outcome_word;
 
 // The most bytes of what is said of a page that is put.
 const MOST_STORED: usize = 256;

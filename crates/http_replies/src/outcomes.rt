@@ -11,12 +11,12 @@ use crate::members::{Members, put_number, put_word};
 use crate::words::rule_of;
 use judge_core::OutRow;
 use keep_core::SitePage;
+use reports::{is_inapplicable, is_known, outcome_word};
 use rule_core::{RuleInfo, RuleNo, digest};
 use serde_json::{Map, Value, put};
 use snap_tree::OutOfMemory;
 use std::alloc::Global;
 use std::str;
-use reports::{is_inapplicable, is_known, outcome_word};
 
 // The body of the reply that shows the outcomes of a page.
 #[tactic(auto, using(crate::proofs::NoFloats::outcomes_have_no_float))]

@@ -12,10 +12,10 @@ use crate::page::page_body;
 use crate::refusals::{head_body, refusal_body, request_body};
 use desk_core::{Refusal, Reply};
 use reply_frames::{MOST_HEAD, frame};
+use reports::text_report;
 use rule_core::RuleInfo;
 use snap_tree::OutOfMemory;
 use std::alloc::Global;
-use reports::text_report;
 
 /// The room that is taken before a change is made: the reply to a change fits into it.
 pub const MOST_REPLY: usize = 32_768;

@@ -13,12 +13,12 @@ use crate::members::{Members, of_page, plain, put_number, put_word};
 use crate::words::{head_word, limit_word, needed_word};
 use desk_core::Refusal;
 use http_messages::HeadFault;
+use reports::outcome_word;
 use request_faults::{Part, RequestFault};
 use serde_json::Value;
 use snap_edit::EditKind;
 use snap_tree::{NodeId, OutOfMemory, Text, TreeFault};
 use std::alloc::Global;
-use reports::outcome_word;
 
 // The body of a refusal of the machine.
 #[tactic(auto, using(crate::proofs::NoFloats::refusal_has_no_float))]

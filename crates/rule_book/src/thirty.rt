@@ -1,10 +1,11 @@
-ghost use Rattle.std.specs.Prelude.{◌≡◌, IfOk, slice_get};
+ghost use Rattle.std.specs.Prelude.{◌≡◌, ◌≤◌, ◌+◌, IfOk, slice_get};
 ghost use Rattle.rule_core.specs.Books.{said};
+ghost use Rattle.rule_core.specs.Pages.{page_verdicts};
 ghost use Rattle.rule_book.specs.Book.{thirty};
 
 use crate::table::infos;
 use counts::next;
-use rule_core::{Rule, RuleBook, RuleInfo, RuleNo, Verdict};
+use rule_core::{NodeVerdict, Rule, RuleBook, RuleInfo, RuleNo, Verdict, push_verdict};
 use rules_aria::{
     AriaAttributeIsDefined, AriaValueIsValid, AutocompleteIsValid, HasRequiredStates,
     HiddenHoldsNoFocus, OwnsRequiredElements, RoleIsValid,
@@ -91,6 +92,36 @@ fn said(alloc: Global, tree: &Tree, rule: RuleNo, n: NodeId) -> Result<Option<Ve
     }
 }
 
+// The verdicts of a rule that is judged on one node after another.
+fn said_in_turn(alloc: Global, tree: &Tree, rule: RuleNo) -> Result<Vec<NodeVerdict>, OutOfMemory>
+    ensures { IfOk result (λ verdicts. verdicts.items ≡ page_verdicts (said thirty rule) tree.now) }
+{
+    let mut verdicts = Vec::new(alloc);
+    for row in tree.rows() {
+        let verdict = said(alloc, tree, rule, row.id)?;
+        push_verdict(&mut verdicts, row.id, verdict)?;
+    }
+    Ok(verdicts)
+}
+
+// What the rule of a number says of a page. The two rules on tables go over each table once.
+fn said_of_page(alloc: Global, tree: &Tree, rule: RuleNo) -> Result<Vec<NodeVerdict>, OutOfMemory>
+    ensures { IfOk result (λ verdicts. verdicts.items ≡ page_verdicts (said thirty rule) tree.now) }
+{
+    match rule.0 {
+        24 => HeadersReferToCells.judge_page(alloc, tree),
+        25 => HeaderHasCells.judge_page(alloc, tree),
+        _ => said_in_turn(alloc, tree, rule),
+    }
+}
+
+// A count after so many more; at the greatest `u64` it stays.
+fn raised(calls: u64, more: usize) -> u64
+    ensures rises { result ≤ calls + more }
+{
+    calls.saturating_add(more as u64)
+}
+
 // The info at a place, and None past the last.
 fn info_at(infos: &[RuleInfo], place: usize) -> Option<RuleInfo>
     ensures { result ≡ slice_get infos.now place }
@@ -124,6 +155,16 @@ impl RuleBook for Thirty {
     ) -> Result<Option<Verdict>, OutOfMemory> {
         self.calls = next(self.calls);
         said(alloc, tree, rule, n)
+    }
+
+    fn judge_page(
+        &mut self,
+        alloc: Global,
+        tree: &Tree,
+        rule: RuleNo,
+    ) -> Result<Vec<NodeVerdict>, OutOfMemory> {
+        self.calls = raised(self.calls, tree.rows().len());
+        said_of_page(alloc, tree, rule)
     }
 
     fn calls(&self) -> u64 {

@@ -1,6 +1,7 @@
 //! Reports of pages by the book of the thirty rules, with what people judged.
 use judge_core::Judgement;
 use reaudit::audit_page;
+use reports::text_report;
 use rule_book::{Thirty, infos};
 use rule_core::Auto::Passed;
 use rule_core::RuleNo;
@@ -8,7 +9,6 @@ use snap_json::read_snapshot;
 use snap_tree::{NodeId, Text, Tree};
 use std::alloc::Global;
 use std::test::Fail;
-use reports::text_report;
 
 // A page with a button, and the same page hidden from assistive technology.
 const BUTTON: &str =
