@@ -24,15 +24,15 @@
 #![tactic(auto)]
 
 mod fault;
+mod grammar;
 mod letters;
 mod node;
 mod pages;
-mod texts;
 mod words;
 
 pub use fault::{PageFault, RowFault};
+pub use grammar::{page_in, row_in};
 pub use letters::facts;
 pub use node::{Attrs, Node};
 pub use pages::{ADDRESS, built, page, raw, row};
-pub use texts::{page_in, row_in};
 pub use words::{cut, number, spaced};
