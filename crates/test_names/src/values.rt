@@ -114,15 +114,18 @@ fn above_shown(alloc: Global, tree: &Tree) -> Result<String, Fail> {
     let sight = sight_of(tree, last_of(tree)).ok_or("sight")?;
     let above = sight.above;
     for flag in [
-        above.in_section,
-        above.in_list,
-        above.hidden,
-        above.disabled,
+        above.is_in_section(),
+        above.is_in_list(),
+        above.is_hidden(),
+        above.is_disabled(),
     ] {
         add_number(&mut text, digit(flag))?;
     }
-    add_number(&mut text, above.table.map_or(NodeId(0), |table| table.node))?;
-    add_number(&mut text, above.label.unwrap_or(NodeId(0)))?;
+    add_number(
+        &mut text,
+        above.table().map_or(NodeId(0), |table| table.node),
+    )?;
+    add_number(&mut text, above.label().unwrap_or(NodeId(0)))?;
     Ok(text)
 }
 
