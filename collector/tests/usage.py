@@ -115,10 +115,13 @@ def is_alive(number: int) -> bool:
 
 
 def test_interrupt(base: str) -> None:
-    """A command that is ended closes its browser, and says one line."""
+    """A command that is ended while its browser runs closes it, and says one line."""
     for sent in (signal.SIGTERM, signal.SIGINT):
         command = subprocess.Popen([str(COLLECT), f"{base}/never"], stdin=subprocess.DEVNULL,
                                    stdout=subprocess.PIPE, stderr=subprocess.PIPE)
+        begun = time.monotonic() + 60
+        while not children(command.pid) and time.monotonic() < begun:
+            time.sleep(0.2)
         time.sleep(3)
         started = children(command.pid)
         command.send_signal(sent)
