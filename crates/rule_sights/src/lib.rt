@@ -9,6 +9,3 @@
 mod nodes;
 
 pub use nodes::{row_of, sight_as, sight_of_html, sight_with};
-
-#[cfg(test)]
-mod tests;

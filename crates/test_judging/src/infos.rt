@@ -1,4 +1,4 @@
-use super::*;
+use rule_core::{Class, RuleInfo, RuleNo};
 
 #[test]
 fn a_rule_without_inputs_is_atomic(rt: HostRuntime) {

@@ -1,4 +1,5 @@
-use super::*;
+use judge_core::evidence_digest;
+use snap_tree::Text;
 use std::test::Fail;
 
 #[test]

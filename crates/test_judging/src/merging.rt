@@ -1,4 +1,5 @@
-use super::*;
+use judge_core::merge_composite;
+use rule_core::Auto;
 use rule_core::Auto::{CantTell, Failed, Passed};
 
 // Every multiset of three outcomes, in one order each, and what it merges to.

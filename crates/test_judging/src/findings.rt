@@ -1,4 +1,5 @@
-use super::*;
+use rule_core::{Auto, Finding, Reason};
+use snap_tree::Text;
 use std::test::Fail;
 
 #[test]

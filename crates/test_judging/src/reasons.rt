@@ -1,4 +1,4 @@
-use super::*;
+use rule_core::Reason;
 
 static WORDS: [(&str, Option<Reason>); 12] = [
     ("ok", Some(Reason::Met)),

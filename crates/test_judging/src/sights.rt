@@ -1,6 +1,6 @@
-use crate::nodes::{row_of, sight_as, sight_of_html, sight_with};
 use acc_tree::Attribute;
 use aria_tables::Role;
+use rule_sights::{row_of, sight_as, sight_of_html, sight_with};
 use snap_tree::{Attr, Body, Facts, List, NodeId, Raw, Row, Space, Text, Tree};
 use std::alloc::Global;
 use std::test::Fail;

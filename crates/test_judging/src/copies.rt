@@ -1,7 +1,9 @@
-use super::*;
-use crate::{laws_of_equality, laws_of_judgements, laws_of_merging};
+use judge_core::{
+    Judgement, OutRow, Outcomes, laws_of_equality, laws_of_judgements, laws_of_merging,
+};
 use rule_core::{Auto, Reason, RuleNo};
-use snap_tree::{List, NodeId, Text};
+use snap_tree::{List, NodeId, OutOfMemory, Text};
+use std::alloc::Global;
 use std::test::Fail;
 
 fn row(alloc: Global, rule: u16, node: u32, hand: &str) -> Result<OutRow, OutOfMemory> {

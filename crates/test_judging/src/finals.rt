@@ -1,7 +1,7 @@
-use super::*;
+use judge_core::{Judgement, final_outcome};
 use rule_core::Auto::{CantTell, Failed, Passed};
-use rule_core::Reason;
-use snap_tree::OutOfMemory;
+use rule_core::{Auto, Reason, RuleNo, Verdict};
+use snap_tree::{NodeId, OutOfMemory, Text};
 use std::alloc::Global;
 use std::test::Fail;
 
