@@ -1,4 +1,4 @@
-use crate::{Kind, frame, push};
+use reply_frames::{Kind, frame, push};
 use std::alloc::{AllocError, Global};
 use std::process::Abort;
 use std::test::Fail;

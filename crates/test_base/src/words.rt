@@ -1,4 +1,4 @@
-use super::*;
+use desk_words::{Command, Serving, command_in};
 use std::alloc::{AllocError, Global};
 use std::test::Fail;
 use texts::Text;

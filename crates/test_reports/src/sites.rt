@@ -2,9 +2,9 @@ ghost use Rattle.std.specs.Prelude.{◌≡◌, IsTrue};
 ghost use Rattle.rule_core.specs.declared.info.Class.TheVariants.{SelfOnly};
 ghost use Rattle.rule_core.specs.Infos.{is_orderly};
 
-use crate::{Criterion, Result4, criteria, csv_rows, earl, site_report};
 use judge_core::{OutRow, Outcomes};
 use keep_core::{PageHead, SitePage};
+use reports::{Criterion, Result4, criteria, csv_rows, earl, site_report};
 use rule_core::{Auto, Class, Reason, RuleInfo, RuleNo};
 use snap_tree::{List, NodeId, OutOfMemory, Text};
 use std::alloc::Global;
