@@ -22,6 +22,3 @@ pub use role::{Role, is_landmark, named_from_content, role_of, same_role};
 pub use states::required_states;
 pub use value::{ValueKind, value_kind, value_ok};
 pub use word::is_among;
-
-#[cfg(test)]
-mod tests;

@@ -9,6 +9,3 @@ mod rows;
 pub use laws::{laws_of_lookups, laws_of_order, laws_of_views};
 pub use place::{Named, Place, place_of};
 pub use rows::Rows;
-
-#[cfg(test)]
-mod tests;

@@ -47,6 +47,3 @@ pub fn is_web_address(alloc: Global, text: &str) -> Result<bool, AllocError>
         None => Ok(false),
     }
 }
-
-#[cfg(test)]
-mod tests;

@@ -1,6 +1,6 @@
 ghost use Rattle.std.specs.Prelude.{◌≡◌, map, IfOk};
 
-use super::*;
+use named_rows::{Named, Place, Rows, laws_of_lookups, laws_of_order, laws_of_views};
 use std::alloc::Global;
 use std::process::Abort;
 use std::test::Fail;

@@ -1,10 +1,9 @@
-use crate::attr::AriaAttr::*;
-use crate::attr::{AriaAttr, attr_of, is_global, is_later, is_reference};
-use crate::owning::{allowed_owned, looks_through};
-use crate::role::{Role, is_landmark, named_from_content, role_of, same_role};
-use crate::states::required_states;
-use crate::value::{ValueKind, value_kind, value_ok};
-use crate::word::is_among;
+use aria_tables::AriaAttr::*;
+use aria_tables::{
+    AriaAttr, Role, ValueKind, allowed_owned, attr_of, is_among, is_global, is_landmark, is_later,
+    is_reference, looks_through, named_from_content, required_states, role_of, same_role, value_kind,
+    value_ok,
+};
 
 static ROLES: [(&str, Option<Role>); 14] = [
     ("img", Some(Role::Img)),

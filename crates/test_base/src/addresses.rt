@@ -1,5 +1,5 @@
-use super::*;
 use std::test::Fail;
+use web_address::{is_web_address, read_address};
 
 // A text, and the web address that it stands for by the URL Standard.
 static ADDRESSES: [(&str, Option<&str>); 11] = [
