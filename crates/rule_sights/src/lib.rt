@@ -7,8 +7,10 @@
 #![tactic(auto)]
 
 mod nodes;
+mod page;
 
 pub use nodes::{row_of, sight_as, sight_of_html, sight_with};
+pub use page::page_root;
 
 #[cfg(test)]
 mod tests;

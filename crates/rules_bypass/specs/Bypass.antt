@@ -28,9 +28,9 @@ use Rattle.rule_core.specs.declared.verdict.Verdict.{Verdict}
 use Rattle.rule_core.specs.Brief.{brief}
 use Rattle.rule_core.specs.Findings.{cant_tell, failed, verdict_of}
 use Rattle.rule_core.specs.Infos.{atomic}
-use Rattle.rules_page.specs.declared.bypass.Bypass.{Bypass}
-use Rattle.rules_page.specs.declared.bypass.Bypass.TheVariants as bypass
-use Rattle.rules_page.specs.Pages.{is_page_root, said_of_root}
+use Rattle.rule_sights.specs.Pages.{is_page_root, said_of_root}
+use Rattle.rules_bypass.specs.declared.bypass.Bypass.{Bypass}
+use Rattle.rules_bypass.specs.declared.bypass.Bypass.TheVariants as bypass
 
 -- ---- the nodes that count, each with its line; `t` is the whole page
 

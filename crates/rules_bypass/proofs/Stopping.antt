@@ -4,7 +4,7 @@ use Rattle.snap_tree.specs.declared.row.Row.{Row}
 use Rattle.snap_tree.specs.Trees.{Trees, rows_of}
 use Rattle.acc_tree.specs.Seen.{seen_row, seen}
 use Rattle.acc_tree.proofs.Finding.{rows_seen}
-use Rattle.rules_page.specs.Bypass.{has_stop}
+use Rattle.rules_bypass.specs.Bypass.{has_stop}
 
 stops_seen : (rows : List Row) → has_stop (map seen_row rows) ≡ has_stop rows
 stops_seen [] = refl

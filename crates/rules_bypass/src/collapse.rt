@@ -1,8 +1,8 @@
-ghost use Rattle.rules_page.specs.Bypass.{has_collapse, has_collapse_info};
+ghost use Rattle.rules_bypass.specs.Bypass.{has_collapse, has_collapse_info};
 
 use crate::bypass::Bypass;
-use crate::page::page_root;
 use rule_core::{Class, Rule, RuleInfo, Verdict};
+use rule_sights::page_root;
 use snap_tree::{NodeId, OutOfMemory, Tree};
 use std::alloc::Global;
 

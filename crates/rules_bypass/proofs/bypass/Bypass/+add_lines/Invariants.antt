@@ -1,8 +1,8 @@
 use Rattle.std.proofs.Common.{◌≡◌, ◌++◌, ◌≤◌}
 use Rattle.snap_tree.specs.Trees.{count}
 use Rattle.acc_tree.specs.Seen.{seen}
-use Rattle.rules_page.specs.Bypass.{lines}
-use Rattle.rules_page.proofs.bypass.Bypass.+add_lines.Given as goal
+use Rattle.rules_bypass.specs.Bypass.{lines}
+use Rattle.rules_bypass.proofs.bypass.Bypass.+add_lines.Given as goal
 
 abbrev pub decreases-add_lines : goal.decreases-add_lines
 decreases-add_lines l = count l.trees

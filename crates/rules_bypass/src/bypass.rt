@@ -4,7 +4,7 @@ ghost use Rattle.std.specs.String.{string_bytes};
 ghost use Rattle.snap_tree.specs.Trees.{rows_of};
 ghost use Rattle.acc_tree.specs.Seen.{seen_row, seen};
 ghost use Rattle.acc_name.specs.Names.{name_of};
-ghost use Rattle.rules_page.specs.Bypass.{is_heading, is_link, is_button, is_summary, fragment, leads_inside, heading_line, with_name, collapses, of_heading, of_landmark, of_skip_link, of_collapse, one, line_at, lines, behind, lack, question, lines_verdict, has_stop, trees_verdict};
+ghost use Rattle.rules_bypass.specs.Bypass.{is_heading, is_link, is_button, is_summary, fragment, leads_inside, heading_line, with_name, collapses, of_heading, of_landmark, of_skip_link, of_collapse, one, line_at, lines, behind, lack, question, lines_verdict, has_stop, trees_verdict};
 
 use acc_name::name;
 use acc_tree::{

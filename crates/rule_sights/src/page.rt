@@ -1,9 +1,9 @@
 ghost use Rattle.std.specs.Prelude.{◌≡◌, option_map};
 ghost use Rattle.std.specs.Option.{option_copied};
 ghost use Rattle.acc_tree.specs.Seen.{seen_row};
-ghost use Rattle.rules_page.specs.Pages.{is_page_root, page_root};
+ghost use Rattle.rule_sights.specs.Pages.{is_page_root, page_root};
 
-use rule_sights::row_of;
+use crate::nodes::row_of;
 use snap_tree::{NodeId, Row, Tree};
 
 #[tactic(auto, using(crate::proofs::Seeing::html_seen))]
@@ -15,7 +15,7 @@ fn is_page_root(row: &Row) -> bool
 
 /// The root of a page, where the node of the number is that: a page is a tree whose root is an HTML
 /// element `html`. It looks at the node's row alone.
-pub(crate) fn page_root(tree: &Tree, n: NodeId) -> Option<&Row>
+pub fn page_root(tree: &Tree, n: NodeId) -> Option<&Row>
     ensures { option_map seen_row (option_copied result) ≡ page_root tree.now.trees n }
 {
     match row_of(tree, n) {
