@@ -10,14 +10,14 @@ use rules_aria::{
     AriaAttributeIsDefined, AriaValueIsValid, AutocompleteIsValid, HasRequiredStates,
     HiddenHoldsNoFocus, OwnsRequiredElements, RoleIsValid,
 };
+use rules_bypass::{HasCollapse, HasHeadingToStart, HasLandmark, HasSkipLink};
 use rules_names::{
     ButtonHasName, FormFieldHasName, HeadingHasName, HeadingIsDescriptive, IframeHasName,
     ImageButtonHasName, ImageHasName, LinkHasName, SvgImageHasName,
 };
 use rules_page::{
-    HasCollapse, HasHeadingToStart, HasLandmark, HasSkipLink, LanguageIsKnown,
-    LanguageOfPartIsKnown, PageHasLang, PageHasNoDelay, PageHasTitle, TitleIsDescriptive,
-    ViewportAllowsZoom,
+    LanguageIsKnown, LanguageOfPartIsKnown, PageHasLang, PageHasNoDelay, PageHasTitle,
+    TitleIsDescriptive, ViewportAllowsZoom,
 };
 use rules_tables::{HeaderHasCells, HeadersReferToCells};
 use snap_tree::{NodeId, OutOfMemory, Tree};

@@ -7,5 +7,7 @@
 #![tactic(auto)]
 
 mod nodes;
+mod page;
 
 pub use nodes::{row_of, sight_as, sight_of_html, sight_with};
+pub use page::page_root;
