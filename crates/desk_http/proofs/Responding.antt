@@ -25,7 +25,7 @@ use Rattle.http_messages.specs.declared.item.Sent.TheVariants as sent
 use Rattle.http_messages.specs.declared.item.Item.{Item}
 use Rattle.http_messages.specs.declared.item.Message.{Message}
 use Rattle.http_messages.specs.declared.fault.HeadFault.{HeadFault}
-use Rattle.request_faults.specs.declared.fault.RequestFault.{RequestFault}
+use Rattle.http_routes.specs.declared.fault.RequestFault.{RequestFault}
 use Rattle.http_commands.specs.declared.request.Asked.{Asked}
 use Rattle.http_commands.specs.Requests.{request_of}
 use Rattle.http_replies.specs.declared.answer.Answer.{Answer}

@@ -15,7 +15,7 @@ use Rattle.desk_core.specs.Runs as machine
 use Rattle.http_messages.specs.declared.item.Sent.{Sent}
 use Rattle.http_messages.specs.declared.item.Sent.TheVariants.{Asked, Refused}
 use Rattle.http_messages.specs.declared.item.Item.{Item}
-use Rattle.request_faults.specs.declared.fault.RequestFault.{RequestFault}
+use Rattle.http_routes.specs.declared.fault.RequestFault.{RequestFault}
 use Rattle.http_commands.specs.declared.request.Asked as command
 use Rattle.http_commands.specs.Requests.{request_of}
 use Rattle.http_replies.specs.declared.answer.Answer.{Answer}

@@ -11,8 +11,8 @@ use Rattle.serde_json.specs.Find.{get, as_array, as_object}
 use Rattle.keep_core.specs.Names.{is_name}
 use Rattle.snap_json.specs.Fields.{text_of}
 use Rattle.snap_json.specs.Pages.{next_place}
-use Rattle.request_faults.specs.declared.part.Part.TheVariants.{Body, Pages}
-use Rattle.request_faults.specs.declared.fault.RequestFault.{RequestFault}
+use Rattle.http_routes.specs.declared.part.Part.TheVariants.{Body, Pages}
+use Rattle.http_routes.specs.declared.fault.RequestFault.{RequestFault}
 use Rattle.desk_core.specs.declared.command.Entry.{Entry}
 use Rattle.desk_core.specs.declared.limits.TheConstants.{MOST_ENTRIES}
 use Rattle.desk_core.specs.Fitting.{FitsRev, FitsEntries}

@@ -4,8 +4,8 @@ use Rattle.std.proofs.Math.Seq.{drop-cons}
 use Rattle.serde_json.specs.Data.{Data, Items, item}
 use Rattle.serde_json.specs.View.{view, items_view}
 use Rattle.serde_json.specs.declared.value.Value.{Value}
-use Rattle.request_faults.specs.declared.fault.RequestFault.{RequestFault}
-use Rattle.request_faults.specs.declared.part.Part.TheVariants.{Pages}
+use Rattle.http_routes.specs.declared.fault.RequestFault.{RequestFault}
+use Rattle.http_routes.specs.declared.part.Part.TheVariants.{Pages}
 use Rattle.snap_json.specs.Pages.{next_place}
 use Rattle.desk_core.specs.declared.command.Entry.{Entry}
 use Rattle.http_commands.specs.Shapes.{◌>>=◌, in_shape}

@@ -8,7 +8,7 @@ use Rattle.snap_json.specs.Fields.{number_of, text_of}
 use Rattle.rule_core.specs.declared.info.RuleNo.{RuleNo}
 use Rattle.rule_core.specs.declared.info.RuleInfo.{RuleInfo}
 use Rattle.rule_core.specs.Infos.{has_atomic, is_orderly}
-use Rattle.request_faults.specs.declared.part.Part.TheVariants as part
+use Rattle.http_routes.specs.declared.part.Part.TheVariants as part
 use Rattle.desk_core.specs.declared.limits.TheConstants.{MOST_NOTE}
 use Rattle.http_routes.proofs.Chosen.{when}
 use Rattle.http_commands.specs.declared.judging.Opinion.{Opinion}

@@ -5,7 +5,7 @@ use Rattle.std.proofs.lemmas.Bool.{leb-true}
 use Rattle.serde_json.specs.Data.{Data}
 use Rattle.http_messages.specs.declared.head.Head.{Head}
 use Rattle.http_messages.specs.Framing.{only_named, number_of}
-use Rattle.request_faults.specs.declared.part.Part.TheVariants.{Rev}
+use Rattle.http_routes.specs.declared.part.Part.TheVariants.{Rev}
 use Rattle.keep_core.specs.declared.limits.TheConstants.{MOST_REVISION}
 use Rattle.http_routes.proofs.Chosen.{when}
 use Rattle.http_commands.specs.Revisions.{at_most_greatest, stated, revision_in, whole, rev_of}

@@ -1,8 +1,8 @@
 -- What holds of what is read part by part.
 use Rattle.std.proofs.Common.{ℕ, Option, Some, None, Result, Ok, Err}
 use Rattle.std.specs.Prelude.{IfSome, IfOk, option_map, option_and_then}
-use Rattle.request_faults.specs.declared.part.Part.{Part}
-use Rattle.request_faults.specs.declared.fault.RequestFault.{RequestFault}
+use Rattle.http_routes.specs.declared.part.Part.{Part}
+use Rattle.http_routes.specs.declared.fault.RequestFault.{RequestFault}
 use Rattle.http_commands.specs.Shapes.{◌>>=◌, in_shape}
 
 -- Q of this step, and P of the next after any that Q holds of

@@ -2,7 +2,7 @@
 -- else is asked of the message; of the gets, the put of a site and the delete no body is read.
 use Rattle.std.specs.Prelude.{ℕ, List, Result, Ok}
 use Rattle.rule_core.specs.declared.info.RuleInfo.{RuleInfo}
-use Rattle.request_faults.specs.declared.fault.RequestFault.{RequestFault}
+use Rattle.http_routes.specs.declared.fault.RequestFault.{RequestFault}
 use Rattle.http_messages.specs.declared.head.Head.{Head}
 use Rattle.http_routes.specs.declared.call.Route.{Route}
 use Rattle.http_routes.specs.declared.call.Route.TheVariants as route

@@ -4,8 +4,8 @@ use Rattle.serde_json.specs.Data.{Data, Items, no_items, item}
 use Rattle.serde_json.specs.Find.{get, as_array, as_object}
 use Rattle.snap_json.specs.Pages.{next_place}
 use Rattle.snap_edit.specs.declared.edit.Edit.{Edit}
-use Rattle.request_faults.specs.declared.part.Part.TheVariants as part
-use Rattle.request_faults.specs.declared.fault.RequestFault.{RequestFault}
+use Rattle.http_routes.specs.declared.part.Part.TheVariants as part
+use Rattle.http_routes.specs.declared.fault.RequestFault.{RequestFault}
 use Rattle.http_commands.specs.Shapes.{◌>>=◌, in_shape}
 use Rattle.http_commands.specs.Edits.{edit_of}
 

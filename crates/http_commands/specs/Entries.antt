@@ -9,8 +9,8 @@ use Rattle.snap_tree.specs.declared.row.Raw.{Raw}
 use Rattle.snap_json.specs.Fields.{text_of}
 use Rattle.snap_json.specs.Pages.{sent_page_of, next_place}
 use Rattle.keep_core.specs.Names.{is_name}
-use Rattle.request_faults.specs.declared.part.Part.TheVariants.{Body, Pages}
-use Rattle.request_faults.specs.declared.fault.RequestFault.{RequestFault}
+use Rattle.http_routes.specs.declared.part.Part.TheVariants.{Body, Pages}
+use Rattle.http_routes.specs.declared.fault.RequestFault.{RequestFault}
 use Rattle.desk_core.specs.declared.command.Entry.{Entry}
 use Rattle.desk_core.specs.declared.limits.TheConstants.{MOST_ENTRIES}
 use Rattle.http_commands.specs.Shapes.{◌>>=◌, in_shape}

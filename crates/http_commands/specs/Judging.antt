@@ -11,8 +11,8 @@ use Rattle.rule_core.specs.declared.info.RuleInfo.{RuleInfo}
 use Rattle.rule_core.specs.declared.verdict.Auto.{Auto}
 use Rattle.rule_core.specs.declared.verdict.Auto.TheVariants.{Passed, Failed, CantTell}
 use Rattle.rule_core.specs.Infos.{is_atomic}
-use Rattle.request_faults.specs.declared.part.Part.TheVariants as part
-use Rattle.request_faults.specs.declared.fault.RequestFault.{RequestFault}
+use Rattle.http_routes.specs.declared.part.Part.TheVariants as part
+use Rattle.http_routes.specs.declared.fault.RequestFault.{RequestFault}
 use Rattle.desk_core.specs.declared.limits.TheConstants.{MOST_NOTE}
 use Rattle.http_commands.specs.declared.judging.Opinion.{Opinion}
 use Rattle.http_commands.specs.Shapes.{◌>>=◌, in_shape}

@@ -1,7 +1,7 @@
 -- Which request a message makes, by its head and its body, or the first refusal that holds.
 use Rattle.std.specs.Prelude.{ℕ, List, Result, Ok}
 use Rattle.rule_core.specs.declared.info.RuleInfo.{RuleInfo}
-use Rattle.request_faults.specs.declared.fault.RequestFault.{RequestFault}
+use Rattle.http_routes.specs.declared.fault.RequestFault.{RequestFault}
 use Rattle.http_messages.specs.declared.head.Head.{Head}
 use Rattle.http_routes.specs.Calls.{call_of}
 use Rattle.http_commands.specs.declared.request.Asked.{Asked}

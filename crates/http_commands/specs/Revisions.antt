@@ -4,8 +4,8 @@ use Rattle.serde_json.specs.Data.{Data}
 use Rattle.serde_json.specs.Find.{as_number, as_u64}
 use Rattle.http_messages.specs.declared.head.Head.{Head}
 use Rattle.http_messages.specs.Framing.{only_named, number_of}
-use Rattle.request_faults.specs.declared.part.Part.TheVariants.{Rev}
-use Rattle.request_faults.specs.declared.fault.RequestFault.{RequestFault}
+use Rattle.http_routes.specs.declared.part.Part.TheVariants.{Rev}
+use Rattle.http_routes.specs.declared.fault.RequestFault.{RequestFault}
 use Rattle.keep_core.specs.declared.limits.TheConstants.{MOST_REVISION}
 use Rattle.http_commands.specs.Shapes.{in_shape}
 

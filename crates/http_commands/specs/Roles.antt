@@ -5,8 +5,8 @@ use Rattle.serde_json.specs.Find.{get, as_object}
 use Rattle.snap_json.specs.Fields.{text_of}
 use Rattle.keep_core.specs.declared.member.MemberRole.{MemberRole}
 use Rattle.keep_core.specs.declared.member.MemberRole.TheVariants.{Owner, Editor, Judge, Reader}
-use Rattle.request_faults.specs.declared.part.Part.TheVariants.{Body, Role}
-use Rattle.request_faults.specs.declared.fault.RequestFault.{RequestFault}
+use Rattle.http_routes.specs.declared.part.Part.TheVariants.{Body, Role}
+use Rattle.http_routes.specs.declared.fault.RequestFault.{RequestFault}
 use Rattle.http_commands.specs.Shapes.{◌>>=◌, in_shape}
 
 -- the roles, and the word for none

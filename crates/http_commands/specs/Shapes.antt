@@ -7,10 +7,10 @@ use Rattle.snap_json.specs.declared.fault.Field.TheVariants as field
 use Rattle.snap_json.specs.declared.fault.SnapFault.{SnapFault}
 use Rattle.snap_json.specs.declared.fault.SnapFault.TheVariants.{Shape}
 use Rattle.snap_json.specs.Pages.{json_of, sent_page_of}
-use Rattle.request_faults.specs.declared.part.Part.{Part}
-use Rattle.request_faults.specs.declared.part.Part.TheVariants.{Body, Snapshot}
-use Rattle.request_faults.specs.declared.fault.RequestFault.{RequestFault}
-use Rattle.request_faults.specs.declared.fault.RequestFault.TheVariants.{BadJson, BadShape}
+use Rattle.http_routes.specs.declared.part.Part.{Part}
+use Rattle.http_routes.specs.declared.part.Part.TheVariants.{Body, Snapshot}
+use Rattle.http_routes.specs.declared.fault.RequestFault.{RequestFault}
+use Rattle.http_routes.specs.declared.fault.RequestFault.TheVariants.{BadJson, BadShape}
 use Rattle.http_commands.specs.declared.unasked.Unasked.{Unasked}
 use Rattle.http_commands.specs.declared.unasked.Unasked.TheVariants.{Refused, OutOfMemory}
 

@@ -9,7 +9,7 @@ ghost use Rattle.http_commands.specs.EditLists.{edits_from, edits_in};
 
 use crate::shape::in_shape;
 use crate::unasked::Unasked;
-use request_faults::Part;
+use http_routes::Part;
 use serde_json::Value;
 use snap_edit::Edit;
 use snap_json::{SnapFault, facts_of, lent_text, number_of, rows_of, text_of};

@@ -5,7 +5,7 @@ ghost use Rattle.serde_json.specs.View.{view, items_view};
 ghost use Rattle.snap_json.specs.Seen.{seen};
 ghost use Rattle.snap_json.specs.Pages.{sent_page_of};
 ghost use Rattle.web_address.specs.Address.{IsWebAddress};
-ghost use Rattle.request_faults.specs.declared.part.Part.TheVariants.{Pages};
+ghost use Rattle.http_routes.specs.declared.part.Part.TheVariants.{Pages};
 ghost use Rattle.http_commands.specs.Shapes.{Gives, in_shape};
 ghost use Rattle.http_commands.specs.Entries.{new_name, is_on, is_new, page_of, snapshot_of, entry_of, is_count, some_few, entries_from, entries_in, IsAtWeb};
 
@@ -13,8 +13,8 @@ use crate::revision::rev_of;
 use crate::shape::in_shape;
 use crate::unasked::Unasked;
 use desk_core::{Entry, MOST_ENTRIES};
+use http_routes::Part;
 use keep_core::is_name;
-use request_faults::Part;
 use serde_json::Value;
 use snap_json::{SnapFault, raw_of, text_of};
 use snap_tree::{List, OutOfMemory, Raw, Text};

@@ -3,7 +3,7 @@
 //!
 //! What a message asks is one definition, `request_of` of `specs/Requests.antt`, from its head and the bytes
 //! of its body. A message that asks nothing is refused by the first fault in the order of
-//! [`RequestFault`](request_faults::RequestFault); of several parts that are out of shape the first is told:
+//! [`RequestFault`](http_routes::RequestFault); of several parts that are out of shape the first is told:
 //! the revision in the head, the body as a whole, then its members in the order in which the definitions name
 //! them.
 #![tactic(auto)]

@@ -6,8 +6,8 @@ ghost use Rattle.http_commands.specs.Revisions.{at_most_greatest, stated, revisi
 use crate::shape::in_shape;
 use crate::unasked::Unasked;
 use http_messages::{Head, number_of};
+use http_routes::Part;
 use keep_core::MOST_REVISION;
-use request_faults::Part;
 use serde_json::Value;
 
 /// The revision in a head: that of exactly one field `x-rev`, of 1 to 19 digits and at most the greatest.

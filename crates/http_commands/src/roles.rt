@@ -6,8 +6,8 @@ ghost use Rattle.http_commands.specs.Roles.{role_named, role_of, role_in};
 
 use crate::shape::in_shape;
 use crate::unasked::Unasked;
+use http_routes::Part;
 use keep_core::MemberRole;
-use request_faults::Part;
 use serde_json::Value;
 use snap_json::lent_text;
 

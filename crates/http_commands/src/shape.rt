@@ -4,7 +4,7 @@ ghost use Rattle.web_address.specs.Address.{IsWebAddress};
 ghost use Rattle.http_commands.specs.Shapes.{in_shape, Gives, Reads, json_in, snapshot_in, sent_page};
 
 use crate::unasked::Unasked;
-use request_faults::{Part, RequestFault};
+use http_routes::{Part, RequestFault};
 use serde_json::Value;
 use snap_json::{Field, SnapFault, json_of, raw_of};
 use snap_tree::Raw;

@@ -1,7 +1,7 @@
 ghost use Rattle.std.specs.Prelude.{◌≡◌};
 ghost use Rattle.http_commands.specs.declared.unasked.Unasked.TheVariants.{OutOfMemory as Wanting};
 
-use request_faults::RequestFault;
+use http_routes::RequestFault;
 use snap_tree::OutOfMemory;
 use std::alloc::{AllocError, AllocFailed};
 

@@ -12,8 +12,8 @@ use Rattle.snap_edit.specs.declared.fault.EditKind.TheVariants as kind
 use Rattle.desk_core.specs.declared.refusal.Refusal.{Refusal}
 use Rattle.desk_core.specs.declared.refusal.Refusal.TheVariants as refusal
 use Rattle.http_messages.specs.declared.fault.HeadFault.{HeadFault}
-use Rattle.request_faults.specs.declared.fault.RequestFault.{RequestFault}
-use Rattle.request_faults.specs.declared.fault.RequestFault.TheVariants as request
+use Rattle.http_routes.specs.declared.fault.RequestFault.{RequestFault}
+use Rattle.http_routes.specs.declared.fault.RequestFault.TheVariants as request
 use Rattle.http_replies.specs.Refusals.{members, edit_members, plain, refusal_data, head_data, request_members, request_data}
 use Rattle.http_replies.specs.Shown.{row_data, outcomes_data}
 

@@ -11,9 +11,9 @@ use Rattle.desk_core.specs.declared.reply.Reply.TheVariants as reply
 use Rattle.http_messages.specs.declared.fault.HeadFault.{HeadFault}
 use Rattle.http_messages.specs.declared.fault.HeadFault.TheVariants as head
 use Rattle.http_messages.specs.Faults as head_fault
-use Rattle.request_faults.specs.declared.fault.RequestFault.{RequestFault}
-use Rattle.request_faults.specs.declared.fault.RequestFault.TheVariants as request
-use Rattle.request_faults.specs.Faults as request_fault
+use Rattle.http_routes.specs.declared.fault.RequestFault.{RequestFault}
+use Rattle.http_routes.specs.declared.fault.RequestFault.TheVariants as request
+use Rattle.http_routes.specs.Faults as request_fault
 use Rattle.http_replies.specs.declared.answer.Answer.{Answer}
 use Rattle.http_replies.specs.declared.answer.Answer.TheVariants.{Misread, Misasked, Replied}
 use Rattle.http_replies.specs.Refusals as refused

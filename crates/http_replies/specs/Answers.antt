@@ -7,7 +7,7 @@ use Rattle.desk_core.specs.declared.refusal.Refusal.TheVariants as refusal
 use Rattle.desk_core.specs.declared.reply.Reply.{Reply}
 use Rattle.desk_core.specs.declared.reply.Reply.TheVariants as reply
 use Rattle.http_messages.specs.Faults as head
-use Rattle.request_faults.specs.Faults as request
+use Rattle.http_routes.specs.Faults as request
 use Rattle.reply_frames.specs.declared.kind.Kind.{Kind}
 use Rattle.reply_frames.specs.declared.kind.Kind.TheVariants as kind
 use Rattle.reply_frames.specs.Frames.{framed}

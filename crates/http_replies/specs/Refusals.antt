@@ -14,9 +14,9 @@ use Rattle.desk_core.specs.declared.refusal.Refusal.{Refusal}
 use Rattle.desk_core.specs.declared.refusal.Refusal.TheVariants.{NoSite, SiteExists, NotAllowed, NoPage, PageLimit, StaleRevision, TreeFault as Misgrown, EditFault, NoTarget, NotOpen, SameHand, EvidenceMoved, KeeperFault, OutOfMemory}
 use Rattle.http_messages.specs.declared.fault.HeadFault.{HeadFault}
 use Rattle.http_messages.specs.Faults as head
-use Rattle.request_faults.specs.declared.fault.RequestFault.{RequestFault}
-use Rattle.request_faults.specs.declared.fault.RequestFault.TheVariants as request
-use Rattle.request_faults.specs.Faults as request_fault
+use Rattle.http_routes.specs.declared.fault.RequestFault.{RequestFault}
+use Rattle.http_routes.specs.declared.fault.RequestFault.TheVariants as request
+use Rattle.http_routes.specs.Faults as request_fault
 use Rattle.http_replies.specs.Words.{whole, needed_word, limit_word, head_word}
 
 -- ---- what the machine refuses

@@ -6,8 +6,8 @@ ghost use Rattle.http_replies.specs.Answers.{reply_status, status, reply_kind, k
 
 use desk_core::{Refusal, Reply};
 use http_messages::HeadFault;
+use http_routes::RequestFault;
 use reply_frames::{Kind, MOST_PHRASE};
-use request_faults::RequestFault;
 
 /// What is sent back for one thing that came over a connection.
 #[derive(Drop)]

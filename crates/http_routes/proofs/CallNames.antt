@@ -4,7 +4,7 @@ use Rattle.std.specs.Prelude.{codes, IsTrue, IfSome, IfOk}
 use Rattle.std.specs.Str.{bytes_eq}
 use Rattle.std.proofs.lemmas.Bool.{and_parts}
 use Rattle.keep_core.specs.Names.{is_name}
-use Rattle.request_faults.specs.declared.fault.RequestFault.{RequestFault}
+use Rattle.http_routes.specs.declared.fault.RequestFault.{RequestFault}
 use Rattle.http_messages.specs.declared.head.Field.{Field}
 use Rattle.http_messages.specs.declared.head.Head.{Head}
 use Rattle.http_messages.specs.Framing.{only_named}

@@ -2,9 +2,9 @@ ghost use Rattle.std.specs.Prelude.{◌≡◌, IfOk};
 ghost use Rattle.http_routes.specs.Calls.{method_of, route_of, caller_of, call_of};
 ghost use Rattle.http_routes.specs.Named.{IsNamed};
 
+use crate::fault::RequestFault;
 use crate::place::{Place, name_of, place_of};
 use http_messages::Head;
-use request_faults::RequestFault;
 use std::alloc::Global;
 use texts::{OutOfMemory, Text};
 

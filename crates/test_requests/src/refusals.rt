@@ -4,7 +4,7 @@ use crate::printing::{is_printed, json, text};
 use desk_core::{Limit, Needed, Refusal, Reply};
 use http_messages::HeadFault;
 use http_replies::{Answer, no_memory};
-use request_faults::{Part, RequestFault};
+use http_routes::{Part, RequestFault};
 use rule_core::Auto;
 use snap_edit::EditKind;
 use snap_tree::{NodeId, TreeFault};

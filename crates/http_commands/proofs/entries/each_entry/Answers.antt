@@ -2,7 +2,7 @@ use Rattle.std.proofs.Common.{◌≡◌, Ok, sym, subst}
 use Rattle.std.specs.List.{All}
 use Rattle.std.proofs.lemmas.List.Elements.{All-push}
 use Rattle.serde_json.specs.View.{view}
-use Rattle.request_faults.specs.declared.part.Part.TheVariants.{Pages}
+use Rattle.http_routes.specs.declared.part.Part.TheVariants.{Pages}
 use Rattle.http_commands.specs.Shapes.{in_shape}
 use Rattle.http_commands.specs.Entries.{entry_of, IsAtWeb}
 use Rattle.http_commands.proofs.Lists.{entries_turn}

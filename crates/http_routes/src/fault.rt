@@ -1,5 +1,5 @@
 ghost use Rattle.std.specs.Prelude.{◌≡◌};
-ghost use Rattle.request_faults.specs.Faults.{number, status, name};
+ghost use Rattle.http_routes.specs.Faults.{number, status, name};
 
 use crate::part::Part;
 

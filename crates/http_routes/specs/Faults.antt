@@ -1,10 +1,10 @@
 -- Why a message makes no request of the desk: the refusals' numbers, their status codes and their names.
 use Rattle.std.specs.Prelude.{ℕ, List, codes}
 use Rattle.snap_json.specs.Faults.{field_name}
-use Rattle.request_faults.specs.declared.part.Part.{Part}
-use Rattle.request_faults.specs.declared.part.Part.TheVariants as part
-use Rattle.request_faults.specs.declared.fault.RequestFault.{RequestFault}
-use Rattle.request_faults.specs.declared.fault.RequestFault.TheVariants.{NoRoute, WrongMethod, NoCaller, BadJson, BadShape}
+use Rattle.http_routes.specs.declared.part.Part.{Part}
+use Rattle.http_routes.specs.declared.part.Part.TheVariants as part
+use Rattle.http_routes.specs.declared.fault.RequestFault.{RequestFault}
+use Rattle.http_routes.specs.declared.fault.RequestFault.TheVariants.{NoRoute, WrongMethod, NoCaller, BadJson, BadShape}
 
 abbrev pub number : RequestFault → ℕ
 number NoRoute = 6

@@ -1,5 +1,5 @@
 ghost use Rattle.std.specs.Prelude.{◌≡◌};
-ghost use Rattle.request_faults.specs.Faults.{word};
+ghost use Rattle.http_routes.specs.Faults.{word};
 
 use snap_json::Field;
 

@@ -1,4 +1,4 @@
-use crate::{Part, RequestFault};
+use http_routes::{Part, RequestFault};
 use snap_json::Field;
 use std::process::Abort;
 
