@@ -5,6 +5,3 @@ mod command;
 mod parsing;
 
 pub use command::{Command, MOST_CONNECTIONS, Serving, command_in, laws_of_limits};
-
-#[cfg(test)]
-mod tests;

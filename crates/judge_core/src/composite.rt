@@ -34,6 +34,3 @@ fn some_open(outcomes: &[Auto]) -> bool
         .iter()
         .any(|outcome| matches!(outcome, Auto::CantTell))
 }
-
-#[cfg(test)]
-mod tests;

@@ -70,6 +70,3 @@ impl Outcomes {
         Ok(Outcomes { rows })
     }
 }
-
-#[cfg(test)]
-mod tests;

@@ -10,6 +10,3 @@ pub fn evidence_digest(t: &Text) -> [u8; 32]
 {
     rule_core::digest(t)
 }
-
-#[cfg(test)]
-mod tests;

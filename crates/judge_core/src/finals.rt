@@ -44,6 +44,3 @@ fn latest_place(rule: RuleNo, n: NodeId, evidence: &Text, js: &[Judgement]) -> O
     }
     latest
 }
-
-#[cfg(test)]
-mod tests;

@@ -1,7 +1,7 @@
 -- A keeper in memory.
 use Rattle.std.specs.Prelude.{ℕ, List, Bool, if◌then◌else◌, IsTrue, ◌↔◌, Result, Ok, Err, IsErrOf}
 use Rattle.counts.specs.Counts.{next}
-use Rattle.named_calls.specs.Calls.{is_named}
+use Rattle.counts.specs.Calls.{is_named}
 use Rattle.keep_core.specs.declared.change.Change.{Change}
 use Rattle.keep_core.specs.declared.fault.KeepFault.{KeepFault}
 use Rattle.keep_core.specs.declared.fault.KeepFault.TheVariants.{Failed}

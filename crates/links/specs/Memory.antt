@@ -2,7 +2,7 @@
 use Rattle.std.specs.Prelude.{◌≡◌, ◌==◌, ℕ, ◌+◌, ◌-◌, min, max, not, ◌&&◌, ◌||◌, List, [], ◌∷◌, ◌++◌, length, take, drop, Bool, if◌then◌else◌, Option, Some, None}
 use Rattle.std.specs.Option.{option_map_or}
 use Rattle.counts.specs.Counts.{next}
-use Rattle.named_calls.specs.Calls.{is_named}
+use Rattle.counts.specs.Calls.{is_named}
 use Rattle.links.specs.declared.door.Heard.{Heard}
 use Rattle.links.specs.Wires.{Wire, IsUntouched}
 use Rattle.links.specs.Doors.{Doorway}

@@ -2,14 +2,13 @@ ghost use Rattle.std.specs.Prelude.{◌≡◌, ◌<◌, ◌↔◌, [], Some, Non
 ghost use Rattle.std.specs.List.{AllByRecursion};
 ghost use Rattle.links.specs.Wires.{Counts};
 ghost use Rattle.links.specs.Doors.{Listens, Gives, TookBack, KeepsLog, Logs};
-ghost use Rattle.named_calls.specs.Calls.{is_named};
+ghost use Rattle.counts.specs.Calls.{is_named};
 ghost use Rattle.links.specs.Memory.{allowed, doorway, IsUntouchedLink, after_listen, refuses_next, next_link, after_next, after_done};
 
 use crate::door::{Door, Heard};
 use crate::failed::Failed;
 use crate::mem_link::MemLink;
-use counts::next;
-use named_calls::is_named;
+use counts::{is_named, next};
 use std::alloc::Global;
 use std::marker::Model;
 use std::vec::IntoIter;

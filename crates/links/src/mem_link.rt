@@ -4,8 +4,7 @@ ghost use Rattle.links.specs.Memory.{IsUntouchedLink, wire, left, refuses_read, 
 
 use crate::failed::Failed;
 use crate::link::Link;
-use counts::next;
-use named_calls::is_named;
+use counts::{is_named, next};
 use std::alloc::Global;
 use std::marker::Model;
 use texts::{List, OutOfMemory};

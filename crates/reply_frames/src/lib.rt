@@ -10,6 +10,3 @@ mod pushing;
 pub use framing::{MOST_HEAD, MOST_PHRASE, frame};
 pub use kind::Kind;
 pub use pushing::{MOST_DIGITS, push, push_number};
-
-#[cfg(test)]
-mod tests;

@@ -19,6 +19,3 @@ pub use site::site_report;
 pub use sums::{MOST_SUM, Sums, page_sums};
 pub use table::csv_rows;
 pub use text::{is_inapplicable, is_known, is_outcome, outcome_word, text_report};
-
-#[cfg(test)]
-mod tests;

@@ -11,7 +11,7 @@ use Rattle.rules_page.specs.LanguageKnown.{language_is_known, language_is_known_
 use Rattle.rules_page.specs.LanguageOfParts.{language_of_part_is_known, language_of_part_is_known_info}
 use Rattle.rules_page.specs.Viewport.{viewport_allows_zoom, viewport_allows_zoom_info}
 use Rattle.rules_page.specs.Refresh.{page_has_no_delay, page_has_no_delay_info}
-use Rattle.rules_page.specs.Bypass.{has_heading, has_heading_info, has_landmark, has_landmark_info, has_skip_link, has_skip_link_info, has_collapse, has_collapse_info}
+use Rattle.rules_bypass.specs.Bypass.{has_heading, has_heading_info, has_landmark, has_landmark_info, has_skip_link, has_skip_link_info, has_collapse, has_collapse_info}
 use Rattle.rules_names.specs.Button.{button_has_name, button_has_name_info}
 use Rattle.rules_names.specs.Link.{link_has_name, link_has_name_info}
 use Rattle.rules_names.specs.Image.{image_has_name, image_has_name_info}

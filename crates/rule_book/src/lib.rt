@@ -1,7 +1,6 @@
 //! The book of the thirty ACT rules, in the order of their numbers: twenty-nine atomic rules, which
-//! `rules_page`, `rules_names`, `rules_aria` and `rules_tables` restate, and one composite rule over the
-//! four that ask how a repeated block can be bypassed. Start with [`Thirty`], or with [`infos`] for what
-//! the rules say of themselves.
+//! `rules_page`, `rules_bypass`, `rules_names`, `rules_aria` and `rules_tables` restate, and one composite rule over
+//! the four of `rules_bypass`. Start with [`Thirty`], or with [`infos`] for what the rules say of themselves.
 #![tactic(auto)]
 
 mod table;

@@ -74,6 +74,3 @@ impl Finding {
         }
     }
 }
-
-#[cfg(test)]
-mod tests;

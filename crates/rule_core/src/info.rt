@@ -58,6 +58,3 @@ impl RuleInfo {
         self.inputs.iter().all(|number| *number == 0)
     }
 }
-
-#[cfg(test)]
-mod tests;

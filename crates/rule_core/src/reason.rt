@@ -186,6 +186,3 @@ pub fn laws_of_words()
         → word ≡ word_of reason }
     ensures differ { (one other : Reason) → word_of one ≡ word_of other → one ≡ other }
 {}
-
-#[cfg(test)]
-mod tests;

@@ -10,6 +10,7 @@ use Rattle.acc_tree.specs.Seen.{seen}
 use Rattle.acc_tree.specs.Sights.{Sight, sight_of}
 use Rattle.rule_core.specs.declared.verdict.Verdict.{Verdict}
 use Rattle.rule_sights.specs.Nodes.{if_row, if_role, sight_where, sight_as, said_where, said_below, said_alone}
+use Rattle.rule_sights.specs.Pages.{is_page_root, if_root, said_of_root}
 use Rattle.rule_sights.specs.Targets.{is_as, is_target, JudgesRows, JudgesSights}
 
 -- ---- choices
@@ -74,3 +75,18 @@ judged_below passes says target told page n = judged_of_rows passes says target 
 pub judged_alone : (says : Row → Option Verdict) (target : Row → Bool) → ((row : Row) → is_some (says row) ≡ target row)
     → (page : Document) (n : NodeId) → JudgesRows (said_alone says) (λ above row. target row) page n
 judged_alone says target told page n = row_at says target told (sight_of (seen page.trees) n)
+
+-- ---- the root of a page
+
+root_chosen : (b : Bool) (row : Row) (says : Row → Option Verdict) → is_some (option_and_then says (cond b (Some row) None)) ≡ b && is_some (says row)
+root_chosen true row says = refl
+root_chosen false row says = refl
+
+root_at : (says : Row → Option Verdict) (target : Row → Bool) → ((row : Row) → is_page_root row && is_some (says row) ≡ target row) → (o : Option Sight)
+    → is_some (option_and_then says (option_and_then if_root (option_map (λ s. s.row) o))) ≡ option_map_or (λ s. target s.row) o false
+root_at says target told None = refl
+root_at says target told (Some s) = root_chosen (is_page_root s.row) s.row says ∙ told s.row
+
+pub judged_root : (says : Row → Option Verdict) (target : Row → Bool) → ((row : Row) → is_page_root row && is_some (says row) ≡ target row)
+    → (page : Document) (n : NodeId) → JudgesRows (said_of_root says) (λ above row. target row) page n
+judged_root says target told page n = root_at says target told (sight_of (seen page.trees) n)

@@ -1,3 +1,4 @@
+pub mod Seeing
 pub mod RowFirst
 pub mod RoleFirst
 pub mod TagFirst

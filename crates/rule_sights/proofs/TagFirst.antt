@@ -1,24 +1,16 @@
 -- The tag of a number is looked at before its sight.
-use Rattle.std.proofs.Common.{◌≡◌, true, false, ℕ, List, Some, None, ◌∙◌, refl}
+use Rattle.std.proofs.Common.{◌≡◌, true, false, ℕ, List, Some, None, ◌∙◌}
 use Rattle.std.specs.Option.{option_map}
-use Rattle.snap_tree.specs.declared.row.Body.{Body}
-use Rattle.snap_tree.specs.declared.row.Body.TheVariants.{Element, Words}
 use Rattle.snap_tree.specs.declared.row.NodeId.{NodeId}
 use Rattle.snap_tree.specs.declared.row.Row.{Row}
-use Rattle.snap_tree.specs.Rows.{is_html, is_html_body}
+use Rattle.snap_tree.specs.Rows.{is_html}
 use Rattle.snap_tree.specs.Spots.{spot}
 use Rattle.snap_tree.specs.Trees.{Trees}
-use Rattle.acc_tree.specs.Seen.{seen_row, seen_body, seen}
+use Rattle.acc_tree.specs.Seen.{seen}
 use Rattle.acc_tree.specs.Sights.{sight_of}
 use Rattle.rule_sights.specs.Nodes.{sight_where}
 use Rattle.rule_sights.proofs.RowFirst.{has_not, has_it}
-
-body_seen : (tag : List ℕ) (b : Body) → is_html_body tag (seen_body b) ≡ is_html_body tag b
-body_seen tag (Element space name attrs) = refl
-body_seen tag (Words text) = refl
-
-html_seen : (tag : List ℕ) (row : Row) → is_html tag (seen_row row) ≡ is_html tag row
-html_seen tag row = body_seen tag row.body
+use Rattle.rule_sights.proofs.Seeing.{html_seen}
 
 pub is_other : (tag : List ℕ) (t : Trees) (n : NodeId) (row : Row) → option_map (λ s. s.row) (spot t n) ≡ Some row → is_html tag row ≡ false → None ≡ sight_where (is_html tag) (seen t) n
 is_other tag t n row e h = has_not (is_html tag) t n row e (html_seen tag row ∙ h)

@@ -7,8 +7,7 @@
 #![tactic(auto)]
 
 mod nodes;
+mod page;
 
 pub use nodes::{row_of, sight_as, sight_of_html, sight_with};
-
-#[cfg(test)]
-mod tests;
+pub use page::page_root;

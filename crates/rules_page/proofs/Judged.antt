@@ -13,35 +13,17 @@ use Rattle.acc_tree.specs.Sights.{Sight, sight_of}
 use Rattle.rule_core.specs.declared.verdict.Verdict.{Verdict}
 use Rattle.rule_core.specs.Findings.{verdict_of}
 use Rattle.rule_sights.specs.Targets.{is_target, JudgesRows, JudgesSights}
-use Rattle.rule_sights.proofs.Judging.{verdict_if, verdict_of_some, there_and, judged_below, judged_alone}
-use Rattle.rules_page.specs.declared.bypass.Bypass.{Bypass}
-use Rattle.rules_page.specs.declared.bypass.Bypass.TheVariants as bypass
+use Rattle.rule_sights.specs.Pages.{is_page_root}
+use Rattle.rule_sights.proofs.Judging.{verdict_of_some, there_and, judged_below, judged_alone, judged_root}
 use Rattle.rules_page.specs.declared.viewport.Limit.TheVariants as limit
-use Rattle.rules_page.specs.Bypass.{bypassed_by, bypassed_target, has_stop, lines, lines_verdict, trees_verdict, has_heading, has_heading_target, has_landmark, has_landmark_target, has_skip_link, has_skip_link_target, has_collapse, has_collapse_target}
 use Rattle.rules_page.specs.Language.{lang_verdict, page_has_lang, page_has_lang_target}
 use Rattle.rules_page.specs.LanguageKnown.{unless_blank, language_verdict, language_is_known, language_is_known_target}
 use Rattle.rules_page.specs.LanguageOfParts.{is_part_target, part_verdict, language_of_part_is_known, language_of_part_is_known_target}
 use Rattle.rules_page.specs.Languages.{tag_verdict}
-use Rattle.rules_page.specs.Pages.{is_page_root, if_root, said_of_root}
 use Rattle.rules_page.specs.PageTitle.{page_title, title_verdict, page_has_title, page_has_title_target}
 use Rattle.rules_page.specs.Refresh.{is_number, asks_to_refresh, first_refresh, refresh_time, refresh_verdict, refreshes, seconds, time_verdict, page_has_no_delay, page_has_no_delay_target}
 use Rattle.rules_page.specs.TitleDescriptive.{asks_a_person, title_is_descriptive, title_is_descriptive_target}
 use Rattle.rules_page.specs.Viewport.{content_limits, content_verdict, has_limits, is_viewport, viewport_verdict, zoom_verdict, viewport_allows_zoom, viewport_allows_zoom_target}
-
--- ---- the root of a page
-
-root_chosen : (b : Bool) (row : Row) (says : Row → Option Verdict) → is_some (option_and_then says (cond b (Some row) None)) ≡ b && is_some (says row)
-root_chosen true row says = refl
-root_chosen false row says = refl
-
-root_at : (says : Row → Option Verdict) (target : Row → Bool) → ((row : Row) → is_page_root row && is_some (says row) ≡ target row) → (o : Option Sight)
-    → is_some (option_and_then says (option_and_then if_root (option_map (λ s. s.row) o))) ≡ option_map_or (λ s. target s.row) o false
-root_at says target told None = refl
-root_at says target told (Some s) = root_chosen (is_page_root s.row) s.row says ∙ told s.row
-
-judged_root : (says : Row → Option Verdict) (target : Row → Bool) → ((row : Row) → is_page_root row && is_some (says row) ≡ target row)
-    → (page : Document) (n : NodeId) → JudgesRows (said_of_root says) (λ above row. target row) page n
-judged_root says target told page n = root_at says target told (sight_of (seen page.trees) n)
 
 and_true : (b : Bool) → b && true ≡ b
 and_true true = refl
@@ -121,23 +103,3 @@ refreshing page n =
     judged_alone (refresh_verdict (rows_of (seen page.trees))) (λ row. is_number row.id (first_refresh (rows_of (seen page.trees))) && refreshes row)
     (λ row. said_if (is_number row.id (first_refresh (rows_of (seen page.trees)))) (option_and_then (time_verdict (attr attribute.Content row)) (refresh_time row))
     ∙ ap (λ b. is_number row.id (first_refresh (rows_of (seen page.trees))) && b) (time_told (asks_to_refresh row) (attr attribute.Content row))) page n
-
--- ---- bypassing
-
-bypass_told : (b : Bypass) (t : Trees) (row : Row) → is_page_root row && is_some (trees_verdict b t) ≡ bypassed_target t row
-bypass_told b t row = ap (λ c. is_page_root row && c) (verdict_if (has_stop (rows_of t)) (lines_verdict b (lines b t nothing_above t)))
-
-bypassing : (b : Bypass) (page : Document) (n : NodeId) → JudgesRows (bypassed_by b) (λ above row. bypassed_target (seen page.trees) row) page n
-bypassing b page n = judged_root (λ root. trees_verdict b (seen page.trees)) (bypassed_target (seen page.trees)) (bypass_told b (seen page.trees)) page n
-
-pub headings : (page : Document) (n : NodeId) → JudgesRows has_heading (has_heading_target (seen page.trees)) page n
-headings page n = bypassing bypass.Heading page n
-
-pub landmarks : (page : Document) (n : NodeId) → JudgesRows has_landmark (has_landmark_target (seen page.trees)) page n
-landmarks page n = bypassing bypass.Landmark page n
-
-pub skip_links : (page : Document) (n : NodeId) → JudgesRows has_skip_link (has_skip_link_target (seen page.trees)) page n
-skip_links page n = bypassing bypass.SkipLink page n
-
-pub collapses : (page : Document) (n : NodeId) → JudgesRows has_collapse (has_collapse_target (seen page.trees)) page n
-collapses page n = bypassing bypass.Collapse page n

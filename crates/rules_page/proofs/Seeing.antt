@@ -5,20 +5,14 @@ use Rattle.std.specs.Option.{option_or, option_map}
 use Rattle.snap_tree.specs.declared.row.Body.{Body}
 use Rattle.snap_tree.specs.declared.row.Body.TheVariants.{Element, Words}
 use Rattle.snap_tree.specs.declared.row.Row.{Row}
-use Rattle.snap_tree.specs.Rows.{is_html, is_html_body}
+use Rattle.snap_tree.specs.Rows.{is_html}
 use Rattle.snap_tree.specs.Trees.{Trees, empty, tree, rows_of}
 use Rattle.texts.specs.Words.{tidy}
 use Rattle.acc_tree.specs.Seen.{seen_row, seen_body, seen}
 use Rattle.acc_tree.proofs.Finding.{rows_seen}
+use Rattle.rule_sights.proofs.Seeing.{html_seen}
 use Rattle.rules_page.specs.LanguageOfParts.{is_filled, is_shown_text, shows_text}
 use Rattle.rules_page.specs.PageTitle.{first_title, text_of, texts, page_title}
-
-body_seen : (tag : List ℕ) (b : Body) → is_html_body tag (seen_body b) ≡ is_html_body tag b
-body_seen tag (Element space name attrs) = refl
-body_seen tag (Words text) = refl
-
-pub html_seen : (tag : List ℕ) (row : Row) → is_html tag (seen_row row) ≡ is_html tag row
-html_seen tag row = body_seen tag row.body
 
 -- ---- the title
 

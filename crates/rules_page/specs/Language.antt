@@ -11,7 +11,7 @@ use Rattle.rule_core.specs.declared.finding.Finding.{Finding}
 use Rattle.rule_core.specs.declared.verdict.Verdict.{Verdict}
 use Rattle.rule_core.specs.Infos.{atomic}
 use Rattle.rule_core.specs.Findings.{verdict_on}
-use Rattle.rules_page.specs.Pages.{is_page_root, said_of_root}
+use Rattle.rule_sights.specs.Pages.{is_page_root, said_of_root}
 use Rattle.rules_page.specs.Filled.{filled}
 use Rattle.acc_tree.specs.declared.above.Above.{Above}
 use Rattle.snap_tree.specs.declared.row.Row.{Row}

@@ -10,7 +10,7 @@ use Rattle.rule_core.specs.declared.info.RuleInfo.{RuleInfo}
 use Rattle.rule_core.specs.declared.info.Class.TheVariants.{SelfOnly}
 use Rattle.rule_core.specs.declared.verdict.Verdict.{Verdict}
 use Rattle.rule_core.specs.Infos.{atomic}
-use Rattle.rules_page.specs.Pages.{is_page_root, said_of_root}
+use Rattle.rule_sights.specs.Pages.{is_page_root, said_of_root}
 use Rattle.rules_page.specs.Languages.{tag_verdict}
 use Rattle.acc_tree.specs.declared.above.Above.{Above}
 use Rattle.std.specs.Option.{option_map_or}

@@ -1,4 +1,3 @@
-pub mod Pages
 pub mod Filled
 pub mod PageTitle
 pub mod TitleDescriptive
@@ -9,4 +8,3 @@ pub mod LanguageOfParts
 pub mod Digits
 pub mod Refresh
 pub mod Viewport
-pub mod Bypass

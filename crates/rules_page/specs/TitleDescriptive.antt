@@ -10,7 +10,7 @@ use Rattle.rule_core.specs.declared.reason.Reason.TheVariants.{JudgeTitle}
 use Rattle.rule_core.specs.declared.verdict.Verdict.{Verdict}
 use Rattle.rule_core.specs.Findings.{cant_tell, verdict_of}
 use Rattle.rule_core.specs.Infos.{atomic}
-use Rattle.rules_page.specs.Pages.{is_page_root, said_of_root}
+use Rattle.rule_sights.specs.Pages.{is_page_root, said_of_root}
 use Rattle.rules_page.specs.PageTitle.{page_title}
 use Rattle.acc_tree.specs.declared.above.Above.{Above}
 use Rattle.snap_tree.specs.declared.row.Row.{Row}

@@ -1,9 +1,9 @@
 ghost use Rattle.rules_page.specs.Language.{page_has_lang, page_has_lang_info};
 
 use crate::filled::filled;
-use crate::page::page_root;
 use acc_tree::{Attribute, attr};
 use rule_core::{Class, Reason, Rule, RuleInfo, Verdict};
+use rule_sights::page_root;
 use snap_tree::{NodeId, OutOfMemory, Tree};
 use std::alloc::Global;
 

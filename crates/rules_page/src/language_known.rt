@@ -3,9 +3,9 @@ ghost use Rattle.acc_tree.specs.Seen.{seen_row};
 ghost use Rattle.rules_page.specs.LanguageKnown.{language_verdict, language_is_known, language_is_known_info};
 
 use crate::languages::tag_verdict;
-use crate::page::page_root;
 use acc_tree::{Attribute, attr};
 use rule_core::{Class, Rule, RuleInfo, Verdict};
+use rule_sights::page_root;
 use snap_tree::{NodeId, OutOfMemory, Row, Tree, blank};
 use std::alloc::Global;
 

@@ -2,8 +2,6 @@ ghost use Rattle.snap_tree.specs.declared.row.NodeId.{NodeId};
 ghost use Rattle.snap_tree.specs.Trees.{Document, rows_of};
 ghost use Rattle.acc_tree.specs.Seen.{seen};
 ghost use Rattle.rule_sights.specs.Targets.{JudgesRows, JudgesSights};
-ghost use Rattle.rules_page.specs.Bypass.{has_heading, has_heading_target, has_landmark, has_landmark_target};
-ghost use Rattle.rules_page.specs.Bypass.{has_skip_link, has_skip_link_target, has_collapse, has_collapse_target};
 ghost use Rattle.rules_page.specs.Language.{page_has_lang, page_has_lang_target};
 ghost use Rattle.rules_page.specs.LanguageKnown.{language_is_known, language_is_known_target};
 ghost use Rattle.rules_page.specs.LanguageOfParts.{language_of_part_is_known, language_of_part_is_known_target};
@@ -15,8 +13,8 @@ ghost use Rattle.rules_page.specs.Viewport.{viewport_allows_zoom, viewport_allow
 /// Laws of targets. It does nothing: the clauses are what it is for.
 ///
 /// On each page each of the rules has a verdict exactly where the node is a target of it. The node's row
-/// tells that, and for some rules what is below the node, the page's title, its rows, or the whole of it.
-#[tactic(auto, using(crate::proofs::Judged::titles, crate::proofs::Judged::descriptive, crate::proofs::Judged::languages, crate::proofs::Judged::known, crate::proofs::Judged::parts, crate::proofs::Judged::viewports, crate::proofs::Judged::refreshing, crate::proofs::Judged::headings, crate::proofs::Judged::landmarks, crate::proofs::Judged::skip_links, crate::proofs::Judged::collapses))]
+/// tells that, and for some rules what is below the node, the page's title, or its rows.
+#[tactic(auto, using(crate::proofs::Judged::titles, crate::proofs::Judged::descriptive, crate::proofs::Judged::languages, crate::proofs::Judged::known, crate::proofs::Judged::parts, crate::proofs::Judged::viewports, crate::proofs::Judged::refreshing))]
 pub fn laws_of_targets()
     ensures titles { (page : Document) (n : NodeId) → JudgesRows page_has_title page_has_title_target page n }
     ensures descriptive { (page : Document) (n : NodeId)
@@ -30,12 +28,4 @@ pub fn laws_of_targets()
         → JudgesRows viewport_allows_zoom viewport_allows_zoom_target page n }
     ensures refreshing { (page : Document) (n : NodeId)
         → JudgesRows page_has_no_delay (page_has_no_delay_target (rows_of (seen page.trees))) page n }
-    ensures headings { (page : Document) (n : NodeId)
-        → JudgesRows has_heading (has_heading_target (seen page.trees)) page n }
-    ensures landmarks { (page : Document) (n : NodeId)
-        → JudgesRows has_landmark (has_landmark_target (seen page.trees)) page n }
-    ensures skip_links { (page : Document) (n : NodeId)
-        → JudgesRows has_skip_link (has_skip_link_target (seen page.trees)) page n }
-    ensures collapses { (page : Document) (n : NodeId)
-        → JudgesRows has_collapse (has_collapse_target (seen page.trees)) page n }
 {}

@@ -3,8 +3,8 @@ ghost use Rattle.acc_tree.specs.Seen.{seen};
 ghost use Rattle.rules_page.specs.PageTitle.{first_title, texts, page_title, page_has_title, page_has_title_info};
 
 use crate::filled::filled;
-use crate::page::page_root;
 use rule_core::{Class, Reason, Rule, RuleInfo, Verdict};
+use rule_sights::page_root;
 use snap_tree::{Body, Branches, NodeId, OutOfMemory, Text, Tree, tidy};
 use std::alloc::Global;
 

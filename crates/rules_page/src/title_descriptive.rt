@@ -1,9 +1,9 @@
 ghost use Rattle.std.specs.Prelude.{◌≡◌, IfOk};
 ghost use Rattle.rules_page.specs.TitleDescriptive.{title_and_address, asks_a_person, title_is_descriptive, title_is_descriptive_info};
 
-use crate::page::page_root;
 use crate::page_title::page_title;
 use rule_core::{Class, Finding, Reason, Rule, RuleInfo, Verdict};
+use rule_sights::page_root;
 use snap_tree::{NodeId, OutOfMemory, Text, Tree, blank};
 use std::alloc::Global;
 

@@ -1,7 +1,7 @@
 -- A source and a sink in memory.
 use Rattle.std.specs.Prelude.{◌==◌, ℕ, ◌-◌, min, max, List, ◌++◌, length, take, drop, Bool, if◌then◌else◌, ◌||◌, Some}
 use Rattle.counts.specs.Counts.{next}
-use Rattle.named_calls.specs.Calls.{is_named}
+use Rattle.counts.specs.Calls.{is_named}
 use Rattle.streams.specs.Told.{Input, Output}
 
 -- a source: the bytes left, the most that a read gives, the numbers of the reads that fail, and how

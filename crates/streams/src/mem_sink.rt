@@ -3,9 +3,8 @@ ghost use Rattle.streams.specs.Memory.{held_told, is_refused, taken, after_write
 ghost use Rattle.streams.specs.Streams.{Writes};
 
 use crate::sink::Sink;
-use counts::next;
+use counts::{is_named, next};
 use links::Failed;
-use named_calls::is_named;
 use std::alloc::Global;
 use std::marker::Model;
 use texts::{List, OutOfMemory};

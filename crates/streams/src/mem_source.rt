@@ -1,12 +1,11 @@
 ghost use Rattle.std.specs.Prelude.{◌≡◌, ◌-◌, ◌≤◌, min, max, ◌<◌, [], length, take, drop, IsErr, IfOk, IsTrue, ◌↔◌};
-ghost use Rattle.named_calls.specs.Calls.{is_named};
+ghost use Rattle.counts.specs.Calls.{is_named};
 ghost use Rattle.streams.specs.Memory.{given_told, given, after_read};
 ghost use Rattle.streams.specs.Streams.{Reads};
 
 use crate::source::Source;
-use counts::next;
+use counts::{is_named, next};
 use links::Failed;
-use named_calls::is_named;
 use std::marker::Model;
 use texts::List;
 

@@ -1,4 +1,5 @@
-//! Tests of the crates at the bottom: rows by name, web addresses, ARIA's tables. There is no call of its own.
+//! Tests of the crates that stand on no page: rows by name, web addresses, ARIA's tables, frames of replies, words
+//! of the command line. There is no call of its own.
 #![tactic(auto)]
 
 #[cfg(test)]
@@ -6,4 +7,8 @@ mod addresses;
 #[cfg(test)]
 mod aria;
 #[cfg(test)]
+mod frames;
+#[cfg(test)]
 mod rows;
+#[cfg(test)]
+mod words;

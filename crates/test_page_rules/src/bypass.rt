@@ -5,7 +5,7 @@ use rule_core::Reason::{
     JudgeCollapse, JudgeHeadingStart, JudgeLandmark, JudgeSkipLink, NoCollapse, NoHeading,
     NoLandmark, NoSkipLink,
 };
-use rules_page::{HasCollapse, HasHeadingToStart, HasLandmark, HasSkipLink};
+use rules_bypass::{HasCollapse, HasHeadingToStart, HasLandmark, HasSkipLink};
 use std::test::Fail;
 
 const HTML: Node<'static> = Html(0, "html", &[]);

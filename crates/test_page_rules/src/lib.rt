@@ -1,4 +1,4 @@
-//! Tests of `rules_page`: what each rule says of small pages. There is no call of its own.
+//! Tests of `rules_page` and `rules_bypass`: what each rule says of small pages. There is no call of its own.
 #![tactic(auto)]
 
 #[cfg(test)]

@@ -1,0 +1,32 @@
+ghost use Rattle.rules_bypass.specs.Bypass.{has_collapse, has_collapse_info};
+
+use crate::bypass::Bypass;
+use rule_core::{Class, Rule, RuleInfo, Verdict};
+use rule_sights::page_root;
+use snap_tree::{NodeId, OutOfMemory, Tree};
+use std::alloc::Global;
+
+/// ACT rule 3e12e1, Block of repeated content is collapsible
+/// (<https://www.w3.org/WAI/standards-guidelines/act/rules/3e12e1/>). Its target is the root of a page
+/// in which the Tab key stops somewhere. It fails where the Tab key reaches no included `summary`, nor
+/// a button with aria-expanded; else a person has to judge. The evidence is the name of each such node,
+/// a line each.
+#[derive(Clone, Copy, Debug, PartialEq, Eq)]
+pub struct HasCollapse;
+
+impl Rule for HasCollapse {
+    ghost means = { has_collapse };
+
+    ghost described = { has_collapse_info };
+
+    fn info(&self) -> RuleInfo {
+        RuleInfo::atomic(29, b"3e12e1", Class::Whole, Class::Whole)
+    }
+
+    fn judge(&self, alloc: Global, tree: &Tree, n: NodeId) -> Result<Option<Verdict>, OutOfMemory> {
+        match page_root(tree, n) {
+            Some(_root) => Bypass::Collapse.verdict(alloc, tree),
+            None => Ok(None),
+        }
+    }
+}

@@ -1,0 +1,31 @@
+ghost use Rattle.rules_bypass.specs.Bypass.{has_landmark, has_landmark_info};
+
+use crate::bypass::Bypass;
+use rule_core::{Class, Rule, RuleInfo, Verdict};
+use rule_sights::page_root;
+use snap_tree::{NodeId, OutOfMemory, Tree};
+use std::alloc::Global;
+
+/// ACT rule b40fd1, Document has a landmark with non-repeated content
+/// (<https://www.w3.org/WAI/standards-guidelines/act/rules/b40fd1/>). Its target is the root of a page
+/// in which the Tab key stops somewhere. It fails where there is no included landmark; else a person
+/// has to judge. The evidence is the role and the name of each landmark, a line each.
+#[derive(Clone, Copy, Debug, PartialEq, Eq)]
+pub struct HasLandmark;
+
+impl Rule for HasLandmark {
+    ghost means = { has_landmark };
+
+    ghost described = { has_landmark_info };
+
+    fn info(&self) -> RuleInfo {
+        RuleInfo::atomic(27, b"b40fd1", Class::Whole, Class::Whole)
+    }
+
+    fn judge(&self, alloc: Global, tree: &Tree, n: NodeId) -> Result<Option<Verdict>, OutOfMemory> {
+        match page_root(tree, n) {
+            Some(_root) => Bypass::Landmark.verdict(alloc, tree),
+            None => Ok(None),
+        }
+    }
+}

@@ -1,0 +1,16 @@
+//! The rules on by what a repeated block can be bypassed, each a published ACT rule restated: a heading, a landmark,
+//! a skip link, or that it collapses. One file a rule. Start with `HasLandmark`.
+#![tactic(auto)]
+
+mod bypass;
+mod collapse;
+mod heading;
+mod landmark;
+mod laws;
+mod skip_link;
+
+pub use collapse::HasCollapse;
+pub use heading::HasHeadingToStart;
+pub use landmark::HasLandmark;
+pub use laws::laws_of_targets;
+pub use skip_link::HasSkipLink;

@@ -1,0 +1,32 @@
+ghost use Rattle.rules_bypass.specs.Bypass.{has_skip_link, has_skip_link_info};
+
+use crate::bypass::Bypass;
+use rule_core::{Class, Rule, RuleInfo, Verdict};
+use rule_sights::page_root;
+use snap_tree::{NodeId, OutOfMemory, Tree};
+use std::alloc::Global;
+
+/// ACT rule ye5d6e, Document has an instrument to move focus to non-repeated content
+/// (<https://www.w3.org/WAI/standards-guidelines/act/rules/ye5d6e/>). Its target is the root of a page
+/// in which the Tab key stops somewhere. It fails where the Tab key reaches no included link whose href
+/// is `#` and the id of an element; else a person has to judge. The evidence is the href and the name
+/// of each such link, a line each.
+#[derive(Clone, Copy, Debug, PartialEq, Eq)]
+pub struct HasSkipLink;
+
+impl Rule for HasSkipLink {
+    ghost means = { has_skip_link };
+
+    ghost described = { has_skip_link_info };
+
+    fn info(&self) -> RuleInfo {
+        RuleInfo::atomic(28, b"ye5d6e", Class::Whole, Class::Whole)
+    }
+
+    fn judge(&self, alloc: Global, tree: &Tree, n: NodeId) -> Result<Option<Verdict>, OutOfMemory> {
+        match page_root(tree, n) {
+            Some(_root) => Bypass::SkipLink.verdict(alloc, tree),
+            None => Ok(None),
+        }
+    }
+}

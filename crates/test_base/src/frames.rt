@@ -1,0 +1,37 @@
+use reply_frames::{Kind, frame, push};
+use std::alloc::{AllocError, Global};
+use std::process::Abort;
+use std::test::Fail;
+
+fn printed(alloc: Global, body: &str) -> Result<Vec<u8>, AllocError> {
+    let mut out = Vec::new(alloc);
+    push(&mut out, body.as_bytes())?;
+    Ok(out)
+}
+
+#[test]
+fn a_body_is_framed(rt: HostRuntime) -> Result<(), Fail> {
+    let mut out = printed(rt.alloc(), "{\"site\":\"acme\"}")?;
+    frame(&mut out, 201, Kind::Json, false)?;
+    let wanted =
+        "HTTP/1.1 201 Created\r\ncontent-type: application/json\r\ncontent-length: 15\r\n\r\n{\"site\":\"acme\"}";
+    assert_eq!(rt; out.as_slice(), wanted.as_bytes());
+    let mut out = printed(rt.alloc(), "")?;
+    frame(&mut out, 200, Kind::Text, true)?;
+    let wanted =
+        "HTTP/1.1 200 OK\r\ncontent-type: text/plain; charset=utf-8\r\ncontent-length: 0\r\nconnection: close\r\n\r\n";
+    assert_eq!(rt; out.as_slice(), wanted.as_bytes());
+    Ok(())
+}
+
+#[test]
+fn each_kind_has_its_text(rt: HostRuntime) {
+    for (kind, text) in [
+        (Kind::Json, "application/json"),
+        (Kind::Text, "text/plain; charset=utf-8"),
+        (Kind::JsonLd, "application/ld+json"),
+        (Kind::Csv, "text/csv"),
+    ] {
+        assert_eq!(rt; kind.text(), text);
+    }
+}
