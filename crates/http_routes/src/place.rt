@@ -41,7 +41,7 @@ impl Model for Table {
 }
 
 impl Table {
-    /// The table; an error is want of memory.
+    /// The table, unless memory runs out.
     pub fn new(alloc: Global) -> Result<Table, OutOfMemory> {
         match router(alloc) {
             Ok(router) => Ok(Table { router }),
