@@ -9,6 +9,10 @@ greatest = 2 ^ 64 - 1
 abbrev pub next : ℕ → ℕ
 next count = min (count + 1) greatest
 
+-- a count after so many more
+abbrev pub raised : ℕ → ℕ → ℕ
+raised count more = min (count + more) greatest
+
 -- the count rose, or stands at the greatest u64
 abbrev pub Rose : ℕ → ℕ → Type 0
 Rose before now = (before < now) ⊎ (now ≡ greatest)

@@ -1,4 +1,5 @@
-ghost use Rattle.std.specs.Prelude.{◌≡◌, ◌≤◌, ◌+◌, IfOk, slice_get};
+ghost use Rattle.std.specs.Prelude.{◌≡◌, IfOk, slice_get};
+ghost use Rattle.counts.specs.Counts.{raised};
 ghost use Rattle.rule_core.specs.Books.{said};
 ghost use Rattle.rule_core.specs.Pages.{page_verdicts};
 ghost use Rattle.rule_book.specs.Book.{thirty};
@@ -117,7 +118,7 @@ fn said_of_page(alloc: Global, tree: &Tree, rule: RuleNo) -> Result<Vec<NodeVerd
 
 // A count after so many more; at the greatest `u64` it stays.
 fn raised(calls: u64, more: usize) -> u64
-    ensures rises { result ≤ calls + more }
+    ensures { result ≡ raised calls more }
 {
     calls.saturating_add(more as u64)
 }

@@ -1,5 +1,5 @@
-ghost use Rattle.std.specs.Prelude.{◌≡◌, ℕ, ◌+◌, ◌<◌, ◌≤◌, ◌^◌, List, length, Option, None, IfOk, IsTrue, false, slice_get};
-ghost use Rattle.counts.specs.Counts.{next};
+ghost use Rattle.std.specs.Prelude.{◌≡◌, ℕ, ◌+◌, ◌<◌, ◌≤◌, ◌^◌, List, length, Option, None, IfOk, OnOk, IsTrue, false, slice_get};
+ghost use Rattle.counts.specs.Counts.{next, raised};
 ghost use Rattle.snap_tree.specs.declared.row.NodeId.{NodeId};
 ghost use Rattle.snap_tree.specs.Trees.{Document};
 ghost use Rattle.rule_core.specs.declared.info.RuleNo.{RuleNo};
@@ -42,7 +42,7 @@ pub trait RuleBook {
 
     /// The verdicts of an atomic rule on a page, in document order: of each node that is a target of the
     /// rule; none where the number isn't that of an atomic rule of the book. The count of judgings rises
-    /// by at most the number of the nodes. Fails only for want of memory.
+    /// by the number of the nodes. Fails only for want of memory, and by then it rose by at most that.
     ///
     /// A rule that compares the nodes of a page with one another may answer it in less time than one
     /// node after another.
@@ -53,8 +53,11 @@ pub trait RuleBook {
         rule: RuleNo,
     ) -> Result<Vec<NodeVerdict>, OutOfMemory>
         ensures verdicts { IfOk result (λ verdicts. verdicts.items ≡ page_verdicts (means rule) tree.now) }
-        ensures counted { calls self.new ≤ calls self.old + node_count tree.now }
+        ensures counted { OnOk result (calls self.new ≡ raised (calls self.old) (node_count tree.now)) }
+        ensures bounded { calls self.new ≤ calls self.old + node_count tree.now }
     {
+        // Before the first judging too, the count is a u64.
+        let _count = self.calls();
         let mut verdicts = Vec::new(alloc);
         for row in tree.rows() {
             let verdict = self.judge(alloc, tree, rule, row.id)?;
