@@ -55,6 +55,3 @@ pub fn laws_of_evidence()
     ensures itself { (text : List ℕ) → length text ≤ 4096 → brief text ≡ text }
     ensures short { (text : List ℕ) → length text < 2 ^ 64 → length (brief text) ≤ 4096 }
 {}
-
-#[cfg(test)]
-mod tests;

@@ -66,6 +66,3 @@ impl LastLong {
         Ok(shown)
     }
 }
-
-#[cfg(test)]
-mod tests;

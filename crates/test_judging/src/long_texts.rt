@@ -1,4 +1,5 @@
-use super::*;
+use rule_core::LastLong;
+use snap_tree::Text;
 use std::test::Fail;
 
 const A_4097: &str = "long 4097 4e369b5618643c3abddd027b650bfa54810be3b418028a7c9d82299a59d008e8";
