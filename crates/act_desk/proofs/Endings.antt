@@ -4,7 +4,7 @@ use Rattle.std.proofs.lemmas.Option.{none-some, same_Some}
 use Rattle.counts.specs.Counts.{StoodStill, Rose}
 use Rattle.counts.proofs.CountLaws.{next_rose, still_not_risen}
 use Rattle.snap_tree.specs.Trees.{Document}
-use Rattle.judge_core.specs.Books.{Book}
+use Rattle.rule_core.specs.Books.{Book}
 use Rattle.act_desk.specs.declared.audit.TheConstants.{MOST_READ}
 use Rattle.desk_words.specs.Words.{command_in}
 use Rattle.desk_words.specs.declared.command.Command.{Command}

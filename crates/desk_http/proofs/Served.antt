@@ -2,7 +2,7 @@
 use Rattle.std.proofs.Common.{◌≡◌, ℕ, ◌<◌, inl, inr, List, [], ◌∷◌, ◌++◌, length, Bool, true, false, Option, Some, Result, Ok, Err, refl, sym, ap, ◌∙◌, append_assoc, append-nil, subst}
 use Rattle.links.specs.declared.failed.Failed.{Failed}
 use Rattle.links.specs.Wires.{Wire}
-use Rattle.judge_core.specs.Books.{Book}
+use Rattle.rule_core.specs.Books.{Book}
 use Rattle.keep_core.specs.Tables.{Tables}
 use Rattle.http_messages.specs.declared.item.Item.{Item}
 use Rattle.http_messages.specs.declared.reading.Got.TheVariants as got

@@ -6,7 +6,7 @@ use Rattle.counts.specs.Counts.{Rose}
 use Rattle.links.specs.declared.failed.Failed.{Failed}
 use Rattle.links.specs.Wires.{Wire, Wrote, WroteFront}
 use Rattle.rule_core.specs.declared.info.RuleInfo.{RuleInfo}
-use Rattle.judge_core.specs.Books.{Book}
+use Rattle.rule_core.specs.Books.{Book}
 use Rattle.keep_core.specs.Tables.{Tables}
 use Rattle.keep_core.specs.Keeping.{Stays}
 use Rattle.desk_core.specs.declared.refusal.Refusal.{Refusal}

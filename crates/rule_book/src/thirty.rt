@@ -133,13 +133,11 @@ fn info_at(infos: &[RuleInfo], place: usize) -> Option<RuleInfo>
 impl RuleBook for Thirty {
     ghost use Rattle.std.specs.Prelude.{refl};
     ghost use Rattle.std.proofs.Common.{rules};
-    ghost use Rattle.rule_core.specs.Books.{infos_of, said};
+    ghost use Rattle.rule_core.specs.Books.{book_of};
     ghost use Rattle.rule_core.specs.BookLaws.{said_strange};
     ghost use Rattle.rule_book.specs.Book.{thirty};
 
-    ghost means = { said thirty };
-
-    ghost infos = { infos_of thirty };
+    ghost book = { book_of thirty };
 
     ghost calls = { λ calls. calls };
 
