@@ -14,6 +14,7 @@ use desk_core::{Reply, handle};
 use http_commands::{Asked, request_of};
 use http_messages::{Message, Sent};
 use http_replies::{Answer, MOST_REPLY, no_memory, print};
+use http_routes::Table;
 use judge_core::infos_of;
 use keep_core::Keeper;
 use rule_core::{RuleBook, RuleInfo};
@@ -21,10 +22,12 @@ use snap_tree::OutOfMemory;
 use std::alloc::Global;
 use std::thread::Threads;
 
-// Answers what came: a request as the machine does, and all else by its refusal.
+// Answers what came: a request as the machine does, and all else by its refusal. No message is read without a
+// table of routes.
 pub(crate) fn answer<R: Threads + Sync, K: Keeper, B: RuleBook + Send>(
     rt: &R,
     alloc: Global,
+    table: Option<&Table>,
     keeper: &mut K,
     books: &mut [B],
     sent: &Sent,
@@ -36,13 +39,14 @@ pub(crate) fn answer<R: Threads + Sync, K: Keeper, B: RuleBook + Send>(
 {
     match sent {
         Sent::Refused(fault) => refuse(alloc, &books[0], Answer::Misread(*fault), closes),
-        Sent::Asked(message) => answer_message(rt, alloc, keeper, books, message, closes),
+        Sent::Asked(message) => answer_message(rt, alloc, table, keeper, books, message, closes),
     }
 }
 
 fn answer_message<R: Threads + Sync, K: Keeper, B: RuleBook + Send>(
     rt: &R,
     alloc: Global,
+    table: Option<&Table>,
     keeper: &mut K,
     books: &mut [B],
     message: &Message,
@@ -52,7 +56,13 @@ fn answer_message<R: Threads + Sync, K: Keeper, B: RuleBook + Send>(
     ensures { Responds B.book (came.Asked message.now) closes (K.tables keeper.old) (K.tables keeper.new)
         (K.faults keeper.old) (K.faults keeper.new) (map B.calls books.old) (map B.calls books.new) (bytes_of result) }
 {
-    match request_of(alloc, &books[0], &message.head, message.body.as_slice()) {
+    match request_of(
+        alloc,
+        table,
+        &books[0],
+        &message.head,
+        message.body.as_slice(),
+    ) {
         Ok(Ok(asked)) => answer_request(rt, alloc, keeper, books, asked, closes),
         Ok(Err(fault)) => refuse(alloc, &books[0], Answer::Misasked(fault), closes),
         Err(_) => Printed::Constant(no_memory(closes)),

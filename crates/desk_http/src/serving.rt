@@ -10,6 +10,7 @@ use crate::answering::answer;
 use crate::link_end::LinkEnd;
 use http_messages::{Got, Item, ReadFault, read_item};
 use http_replies::no_memory;
+use http_routes::Table;
 use keep_core::Keeper;
 use links::{Door, Failed, Link, write_all};
 use rule_core::RuleBook;
@@ -43,9 +44,10 @@ pub fn serve<R: Threads + Sync, D: Door, K: Keeper, B: RuleBook + Send>(
     ensures kept { K.faults keeper.old ≤ K.faults keeper.new }
     ensures counts { Counts (D.told door.old).faults (D.told door.new).faults result }
 {
+    let table = Table::new(alloc).ok();
     loop {
         match door.next() {
-            Ok(Some(link)) => serve_next(rt, alloc, door, keeper, books, link),
+            Ok(Some(link)) => serve_next(rt, alloc, table.as_ref(), door, keeper, books, link),
             Ok(None) => return Ok(()),
             Err(fault) => return Err(fault),
         }
@@ -56,6 +58,7 @@ pub fn serve<R: Threads + Sync, D: Door, K: Keeper, B: RuleBook + Send>(
 fn serve_next<R: Threads + Sync, D: Door, K: Keeper, B: RuleBook + Send>(
     rt: &R,
     alloc: Global,
+    table: Option<&Table>,
     door: &mut D,
     keeper: &mut K,
     books: &mut [B],
@@ -70,7 +73,7 @@ fn serve_next<R: Threads + Sync, D: Door, K: Keeper, B: RuleBook + Send>(
     ensures took { TookBack (D.told door.old) (D.told door.new) }
     ensures kept { K.faults keeper.old ≤ K.faults keeper.new }
 {
-    serve_link(rt, alloc, &mut link, keeper, books);
+    serve_by(rt, alloc, table, &mut link, keeper, books);
     door.done(link);
 }
 
@@ -100,6 +103,27 @@ pub fn serve_link<R: Threads + Sync, L: Link, K: Keeper, B: RuleBook + Send>(
     ensures never_falls { L.faults link.old ≤ L.faults link.new }
     ensures kept { K.faults keeper.old ≤ K.faults keeper.new }
 {
+    let table = Table::new(alloc).ok();
+    serve_by(rt, alloc, table.as_ref(), link, keeper, books)
+}
+
+// The same by a table of routes, if there was memory for one.
+fn serve_by<R: Threads + Sync, L: Link, K: Keeper, B: RuleBook + Send>(
+    rt: &R,
+    alloc: Global,
+    table: Option<&Table>,
+    link: &mut L,
+    keeper: &mut K,
+    books: &mut [B],
+) -> LinkEnd
+    requires some { 0 < length books.old }
+    ensures served { Serves B.book (Ends (Finishes B.book.infos result)) (L.wire link.old) (K.tables keeper.old)
+        (L.wire link.new) (K.tables keeper.new) (K.faults keeper.old) (K.faults keeper.new) (map B.calls books.old) (map B.calls books.new) }
+    ensures sound { KeepsSound B.book (K.tables keeper.old) (K.tables keeper.new) }
+    ensures faults { CountsFaults result (L.faults link.old) (L.faults link.new) }
+    ensures never_falls { L.faults link.old ≤ L.faults link.new }
+    ensures kept { K.faults keeper.old ≤ K.faults keeper.new }
+{
     let mut held = Vec::new(alloc);
     loop {
         match read_item(alloc, link, &mut held) {
@@ -107,7 +131,7 @@ pub fn serve_link<R: Threads + Sync, L: Link, K: Keeper, B: RuleBook + Send>(
             Ok(Got::Cut) => return LinkEnd::Cut,
             Ok(Got::Came(item)) => {
                 let closes = item.closes;
-                match serve_item(rt, alloc, link, keeper, books, item) {
+                match serve_item(rt, alloc, table, link, keeper, books, item) {
                     Ok(()) => {}
                     Err(Failed) => return LinkEnd::LinkFault,
                 }
@@ -125,6 +149,7 @@ pub fn serve_link<R: Threads + Sync, L: Link, K: Keeper, B: RuleBook + Send>(
 fn serve_item<R: Threads + Sync, L: Link, K: Keeper, B: RuleBook + Send>(
     rt: &R,
     alloc: Global,
+    table: Option<&Table>,
     link: &mut L,
     keeper: &mut K,
     books: &mut [B],
@@ -137,7 +162,7 @@ fn serve_item<R: Threads + Sync, L: Link, K: Keeper, B: RuleBook + Send>(
     ensures reads { L.reads link.new ≡ L.reads link.old }
     ensures counts { Counts (L.faults link.old) (L.faults link.new) result }
 {
-    let printed = answer(rt, alloc, keeper, books, &item.sent, item.closes);
+    let printed = answer(rt, alloc, table, keeper, books, &item.sent, item.closes);
     printed.write(link)
 }
 

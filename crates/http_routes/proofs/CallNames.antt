@@ -1,7 +1,6 @@
 -- The names in a request that a head makes are of the form.
-use Rattle.std.proofs.Common.{◌≡◌, ℕ, Bool, true, false, cond, ◌&&◌, List, [], ◌∷◌, Option, Some, None, Result, Ok, Err, refl, sym, subst}
+use Rattle.std.proofs.Common.{◌≡◌, ℕ, ◌&&◌, List, [], ◌∷◌, Option, Some, None, Result, Ok, Err, sym, subst}
 use Rattle.std.specs.Prelude.{codes, IsTrue, IfSome, IfOk}
-use Rattle.std.specs.Str.{bytes_eq}
 use Rattle.std.proofs.lemmas.Bool.{and_parts}
 use Rattle.keep_core.specs.Names.{is_name}
 use Rattle.http_routes.specs.declared.fault.RequestFault.{RequestFault}
@@ -9,95 +8,102 @@ use Rattle.http_messages.specs.declared.head.Field.{Field}
 use Rattle.http_messages.specs.declared.head.Head.{Head}
 use Rattle.http_messages.specs.Framing.{only_named}
 use Rattle.http_routes.specs.declared.place.Place.{Place}
-use Rattle.http_routes.specs.declared.place.Place.TheVariants.{Site, Member, Page, Import, Edits, Judgements, Outcomes}
+use Rattle.http_routes.specs.declared.place.Place.TheVariants.{Site, Import, Member, Page, Edits, Judgements, Outcomes}
+use Rattle.http_routes.specs.declared.names.Names.{Names}
+use Rattle.http_routes.specs.declared.names.Names.TheVariants.{One, Two}
 use Rattle.http_routes.specs.declared.call.Method.{Method}
 use Rattle.http_routes.specs.declared.call.Method.TheVariants.{Get, Put, Post, Delete}
 use Rattle.http_routes.specs.declared.call.Route.{Route}
 use Rattle.http_routes.specs.declared.call.Call.{Call}
-use Rattle.http_routes.specs.Paths.{path, segments, is_nil}
-use Rattle.http_routes.specs.Places.{of_page, below_page, pages, members, imported, below_site, sites, placed, place_of}
+use Rattle.segment_routes.specs.Paths.{path}
+use Rattle.http_routes.specs.Places.{names_of, with_names, with_parts, row_of, place_of}
 use Rattle.http_routes.specs.Calls.{method_of, route_of, named, caller_of, called, with_route, with_method, with_place, call_of}
 use Rattle.http_routes.specs.Named.{HasNames, IsNamed}
-use Rattle.http_routes.proofs.Chosen.{when, either}
+use Rattle.http_routes.proofs.Chosen.{when}
 
--- the names of a place
-abbrev NamesOf : Place → Type 0
-NamesOf (Site site) = IsTrue (is_name site)
-NamesOf (Member site user) = IsTrue (is_name site) × IsTrue (is_name user)
-NamesOf (Page site page) = IsTrue (is_name site) × IsTrue (is_name page)
-NamesOf (Import site) = IsTrue (is_name site)
-NamesOf (Edits site page) = IsTrue (is_name site) × IsTrue (is_name page)
-NamesOf (Judgements site page) = IsTrue (is_name site) × IsTrue (is_name page)
-NamesOf (Outcomes site page) = IsTrue (is_name site) × IsTrue (is_name page)
+-- names of the form
+abbrev AreNames : Names → Type 0
+AreNames (One site) = IsTrue (is_name site)
+AreNames (Two site other) = IsTrue (is_name site) × IsTrue (is_name other)
 
-names_of_page : (site page word : List ℕ) → IsTrue (is_name site) → IsTrue (is_name page) → IfSome (of_page site page word) NamesOf
-names_of_page site page word s p =
-    either (bytes_eq word (codes "edits")) _ _ NamesOf (s, p) (
-    either (bytes_eq word (codes "judgements")) _ _ NamesOf (s, p) (
-    either (bytes_eq word (codes "outcomes")) _ None NamesOf (s, p) tt))
+abbrev Placed : Place × Names → Type 0
+Placed named = AreNames named.1
 
-names_below_page : (site page : List ℕ) (rest : List (List ℕ)) → IsTrue (is_name site) → IsTrue (is_name page) → IfSome (below_page site page rest) NamesOf
-names_below_page site page [] s p = (s, p)
-names_below_page site page (word ∷ rest) s p = when (is_nil rest) (of_page site page word) NamesOf (λ last. names_of_page site page word s p)
+names_in : (parts : List (List ℕ × List ℕ)) → IfSome (names_of parts) AreNames
+names_in [] = tt
+names_in (site ∷ []) = when (is_name site.1) (Some (One site.1)) AreNames (λ is. is)
+names_in (site ∷ other ∷ rest) =
+    when (is_name site.1 && is_name other.1) (Some (Two site.1 other.1)) AreNames (λ both. and_parts (is_name site.1) (is_name other.1) both)
 
-names_in_pages : (site : List ℕ) (rest : List (List ℕ)) → IsTrue (is_name site) → IfSome (pages site rest) NamesOf
-names_in_pages site [] s = tt
-names_in_pages site (page ∷ rest) s = when (is_name page) (below_page site page rest) NamesOf (λ p. names_below_page site page rest s p)
-
-names_in_members : (site : List ℕ) (rest : List (List ℕ)) → IsTrue (is_name site) → IfSome (members site rest) NamesOf
-names_in_members site [] s = tt
-names_in_members site (user ∷ rest) s =
-    when (is_nil rest && is_name user) (Some (Member site user)) NamesOf (λ both. (s, (and_parts (is_nil rest) (is_name user) both).1))
-
-names_below_site : (site : List ℕ) (rest : List (List ℕ)) → IsTrue (is_name site) → IfSome (below_site site rest) NamesOf
-names_below_site site [] s = s
-names_below_site site (word ∷ rest) s =
-    either (bytes_eq word (codes "members")) _ _ NamesOf (names_in_members site rest s) (
-    either (bytes_eq word (codes "pages")) _ _ NamesOf (names_in_pages site rest s) (
-    when (bytes_eq word (codes "import")) (imported site rest) NamesOf (λ e. when (is_nil rest) (Some (Import site)) NamesOf (λ last. s))))
-
-names_in_sites : (rest : List (List ℕ)) → IfSome (sites rest) NamesOf
-names_in_sites [] = tt
-names_in_sites (site ∷ rest) = when (is_name site) (below_site site rest) NamesOf (λ s. names_below_site site rest s)
-
-names_placed : (all : List (List ℕ)) → IfSome (placed all) NamesOf
-names_placed [] = tt
-names_placed (root ∷ []) = tt
-names_placed (root ∷ word ∷ rest) = when (bytes_eq root [] && bytes_eq word (codes "sites")) (sites rest) NamesOf (λ both. names_in_sites rest)
-
-names_of_place : (target : List ℕ) → IfSome (place_of target) NamesOf
+names_of_place : (target : List ℕ) → IfSome (place_of target) Placed
 unfolding place_of
-names_of_place target = names_placed (segments (path target))
+names_of_place target = of (row_of (path target))
+  where
+    with : (place : Place) (names : Option Names) → IfSome names AreNames → IfSome (with_names place names) Placed
+    with place None are = tt
+    with place (Some names) are = are
 
-names_of_route : (p : Place) (m : Method) → NamesOf p → IfSome (route_of p m) HasNames
-names_of_route (Site site) Put h = h
-names_of_route (Site site) Get h = tt
-names_of_route (Site site) Post h = tt
-names_of_route (Site site) Delete h = tt
-names_of_route (Member site user) Put h = h
-names_of_route (Member site user) Get h = tt
-names_of_route (Member site user) Post h = tt
-names_of_route (Member site user) Delete h = tt
-names_of_route (Page site page) Put h = h
-names_of_route (Page site page) Get h = h
-names_of_route (Page site page) Post h = tt
-names_of_route (Page site page) Delete h = h
-names_of_route (Import site) Put h = tt
-names_of_route (Import site) Get h = tt
-names_of_route (Import site) Post h = h
-names_of_route (Import site) Delete h = tt
-names_of_route (Edits site page) Put h = tt
-names_of_route (Edits site page) Get h = tt
-names_of_route (Edits site page) Post h = h
-names_of_route (Edits site page) Delete h = tt
-names_of_route (Judgements site page) Put h = tt
-names_of_route (Judgements site page) Get h = tt
-names_of_route (Judgements site page) Post h = h
-names_of_route (Judgements site page) Delete h = tt
-names_of_route (Outcomes site page) Put h = tt
-names_of_route (Outcomes site page) Get h = h
-names_of_route (Outcomes site page) Post h = tt
-names_of_route (Outcomes site page) Delete h = tt
+    of : (row : Option (Place × List (List ℕ × List ℕ))) → IfSome (with_parts row) Placed
+    of None = tt
+    of (Some (place, parts)) = with place (names_of parts) (names_in parts)
+
+names_of_route : (p : Place) (n : Names) (m : Method) → AreNames n → IfSome (route_of p n m) HasNames
+names_of_route Site (One site) Get are = tt
+names_of_route Site (Two site other) Get are = tt
+names_of_route Site (One site) Put are = are
+names_of_route Site (Two site other) Put are = tt
+names_of_route Site (One site) Post are = tt
+names_of_route Site (Two site other) Post are = tt
+names_of_route Site (One site) Delete are = tt
+names_of_route Site (Two site other) Delete are = tt
+names_of_route Import (One site) Get are = tt
+names_of_route Import (Two site other) Get are = tt
+names_of_route Import (One site) Put are = tt
+names_of_route Import (Two site other) Put are = tt
+names_of_route Import (One site) Post are = are
+names_of_route Import (Two site other) Post are = tt
+names_of_route Import (One site) Delete are = tt
+names_of_route Import (Two site other) Delete are = tt
+names_of_route Member (One site) Get are = tt
+names_of_route Member (Two site other) Get are = tt
+names_of_route Member (One site) Put are = tt
+names_of_route Member (Two site other) Put are = are
+names_of_route Member (One site) Post are = tt
+names_of_route Member (Two site other) Post are = tt
+names_of_route Member (One site) Delete are = tt
+names_of_route Member (Two site other) Delete are = tt
+names_of_route Page (One site) Get are = tt
+names_of_route Page (Two site other) Get are = are
+names_of_route Page (One site) Put are = tt
+names_of_route Page (Two site other) Put are = are
+names_of_route Page (One site) Post are = tt
+names_of_route Page (Two site other) Post are = tt
+names_of_route Page (One site) Delete are = tt
+names_of_route Page (Two site other) Delete are = are
+names_of_route Edits (One site) Get are = tt
+names_of_route Edits (Two site other) Get are = tt
+names_of_route Edits (One site) Put are = tt
+names_of_route Edits (Two site other) Put are = tt
+names_of_route Edits (One site) Post are = tt
+names_of_route Edits (Two site other) Post are = are
+names_of_route Edits (One site) Delete are = tt
+names_of_route Edits (Two site other) Delete are = tt
+names_of_route Judgements (One site) Get are = tt
+names_of_route Judgements (Two site other) Get are = tt
+names_of_route Judgements (One site) Put are = tt
+names_of_route Judgements (Two site other) Put are = tt
+names_of_route Judgements (One site) Post are = tt
+names_of_route Judgements (Two site other) Post are = are
+names_of_route Judgements (One site) Delete are = tt
+names_of_route Judgements (Two site other) Delete are = tt
+names_of_route Outcomes (One site) Get are = tt
+names_of_route Outcomes (Two site other) Get are = are
+names_of_route Outcomes (One site) Put are = tt
+names_of_route Outcomes (Two site other) Put are = tt
+names_of_route Outcomes (One site) Post are = tt
+names_of_route Outcomes (Two site other) Post are = tt
+names_of_route Outcomes (One site) Delete are = tt
+names_of_route Outcomes (Two site other) Delete are = tt
 
 name_of_field : (f : Option Field) → IfSome (named f) (λ caller. IsTrue (is_name caller))
 name_of_field None = tt
@@ -111,13 +117,13 @@ names_with_route : (h : Head) (r : Option Route) → IfSome r HasNames → IfOk 
 names_with_route h None names = tt
 names_with_route h (Some r) names = names_called r (caller_of h) names (name_of_field (only_named (codes "x-caller") h))
 
-names_with_method : (h : Head) (p : Place) (m : Option Method) → NamesOf p → IfOk (with_method h p m) IsNamed
-names_with_method h p None names = tt
-names_with_method h p (Some m) names = names_with_route h (route_of p m) (names_of_route p m names)
+names_with_method : (h : Head) (p : Place) (n : Names) (m : Option Method) → AreNames n → IfOk (with_method h p n m) IsNamed
+names_with_method h p n None names = tt
+names_with_method h p n (Some m) names = names_with_route h (route_of p n m) (names_of_route p n m names)
 
-names_with_place : (h : Head) (p : Option Place) → IfSome p NamesOf → IfOk (with_place h p) IsNamed
+names_with_place : (h : Head) (p : Option (Place × Names)) → IfSome p Placed → IfOk (with_place h p) IsNamed
 names_with_place h None names = tt
-names_with_place h (Some p) names = names_with_method h p (method_of h.method) names
+names_with_place h (Some (p, n)) names = names_with_method h p n (method_of h.method) names
 
 pub names_of_call : (h : Head) → IfOk (call_of h) IsNamed
 unfolding call_of

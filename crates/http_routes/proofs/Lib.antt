@@ -1,4 +1,4 @@
-pub mod Cuts
 pub mod Named
 pub mod Chosen
 pub mod CallNames
+pub mod Looking

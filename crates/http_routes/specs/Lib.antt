@@ -1,5 +1,5 @@
 pub mod Faults
-pub mod Paths
+pub mod Table
 pub mod Places
 pub mod Calls
 pub mod Named

@@ -1,9 +1,11 @@
 ghost use Rattle.std.specs.Prelude.{◌≡◌, IfOk};
 ghost use Rattle.http_routes.specs.Calls.{method_of, route_of, caller_of, call_of};
 ghost use Rattle.http_routes.specs.Named.{IsNamed};
+ghost use Rattle.http_routes.specs.declared.names.Names.TheVariants.{One, Two};
 
 use crate::fault::RequestFault;
-use crate::place::{Place, name_of, place_of};
+use crate::names::{Names, name_of};
+use crate::place::{Place, Table};
 use http_messages::Head;
 use std::alloc::Global;
 use texts::{OutOfMemory, Text};
@@ -52,24 +54,32 @@ pub struct Call {
 /// `NoRoute` is answered where no route has the path, or a name in it isn't of the form; `WrongMethod` where
 /// the route hasn't the method; `NoCaller` where there isn't exactly one field `x-caller`, or its value isn't
 /// a name.
-pub fn call_of(alloc: Global, head: &Head) -> Result<Result<Call, RequestFault>, OutOfMemory>
+pub fn call_of(
+    alloc: Global,
+    table: &Table,
+    head: &Head,
+) -> Result<Result<Call, RequestFault>, OutOfMemory>
     ensures exact { IfOk result (λ call. call ≡ call_of head.now) }
     ensures named { IfOk result (λ call. IfOk call IsNamed) }
 {
-    read_call(alloc, head)
+    read_call(alloc, table, head)
 }
 
 #[tactic(auto, unfolding(crate::specs::Calls::call_of))]
-fn read_call(alloc: Global, head: &Head) -> Result<Result<Call, RequestFault>, OutOfMemory>
+fn read_call(
+    alloc: Global,
+    table: &Table,
+    head: &Head,
+) -> Result<Result<Call, RequestFault>, OutOfMemory>
     ensures { IfOk result (λ call. call ≡ call_of head.now) }
 {
-    let Some(place) = place_of(alloc, head.target.as_slice())? else {
+    let Some((place, names)) = table.place_of(alloc, head.target.as_slice())? else {
         return Ok(Err(RequestFault::NoRoute));
     };
     let Some(method) = method_of(head.method.as_slice()) else {
         return Ok(Err(RequestFault::WrongMethod));
     };
-    let Some(route) = route_of(place, method) else {
+    let Some(route) = route_of(place, names, method) else {
         return Ok(Err(RequestFault::WrongMethod));
     };
     match caller_of(alloc, head)? {
@@ -81,13 +91,13 @@ fn read_call(alloc: Global, head: &Head) -> Result<Result<Call, RequestFault>, O
 fn method_of(text: &[u8]) -> Option<Method>
     ensures { result ≡ method_of text.now }
 {
-    if text == b"GET".as_slice() {
+    if text == http::Method::GET.as_str().as_bytes() {
         Some(Method::Get)
-    } else if text == b"PUT".as_slice() {
+    } else if text == http::Method::PUT.as_str().as_bytes() {
         Some(Method::Put)
-    } else if text == b"POST".as_slice() {
+    } else if text == http::Method::POST.as_str().as_bytes() {
         Some(Method::Post)
-    } else if text == b"DELETE".as_slice() {
+    } else if text == http::Method::DELETE.as_str().as_bytes() {
         Some(Method::Delete)
     } else {
         None
@@ -95,19 +105,38 @@ fn method_of(text: &[u8]) -> Option<Method>
 }
 
 // The route of a place that has the method.
-fn route_of(place: Place, method: Method) -> Option<Route>
-    ensures { result ≡ route_of place method }
+fn route_of(place: Place, names: Names, method: Method) -> Option<Route>
+    ensures { result ≡ route_of place names method }
+{
+    match names {
+        Names::One { site } => of_site(place, site, method),
+        Names::Two { site, other } => below_site(place, site, other, method),
+    }
+}
+
+// The routes of a site.
+fn of_site(place: Place, site: Text, method: Method) -> Option<Route>
+    ensures { result ≡ route_of place (One site) method }
 {
     match (place, method) {
-        (Place::Site { site }, Method::Put) => Some(Route::PutSite { site }),
-        (Place::Member { site, user }, Method::Put) => Some(Route::PutMember { site, user }),
-        (Place::Page { site, page }, Method::Put) => Some(Route::PutPage { site, page }),
-        (Place::Page { site, page }, Method::Get) => Some(Route::GetPage { site, page }),
-        (Place::Page { site, page }, Method::Delete) => Some(Route::DropPage { site, page }),
-        (Place::Import { site }, Method::Post) => Some(Route::Import { site }),
-        (Place::Edits { site, page }, Method::Post) => Some(Route::EditPage { site, page }),
-        (Place::Judgements { site, page }, Method::Post) => Some(Route::Judge { site, page }),
-        (Place::Outcomes { site, page }, Method::Get) => Some(Route::GetOutcomes { site, page }),
+        (Place::Site, Method::Put) => Some(Route::PutSite { site }),
+        (Place::Import, Method::Post) => Some(Route::Import { site }),
+        _ => None,
+    }
+}
+
+// The routes of what a site holds.
+fn below_site(place: Place, site: Text, other: Text, method: Method) -> Option<Route>
+    ensures { result ≡ route_of place (Two site other) method }
+{
+    match (place, method) {
+        (Place::Member, Method::Put) => Some(Route::PutMember { site, user: other }),
+        (Place::Page, Method::Put) => Some(Route::PutPage { site, page: other }),
+        (Place::Page, Method::Get) => Some(Route::GetPage { site, page: other }),
+        (Place::Page, Method::Delete) => Some(Route::DropPage { site, page: other }),
+        (Place::Edits, Method::Post) => Some(Route::EditPage { site, page: other }),
+        (Place::Judgements, Method::Post) => Some(Route::Judge { site, page: other }),
+        (Place::Outcomes, Method::Get) => Some(Route::GetOutcomes { site, page: other }),
         _ => None,
     }
 }

@@ -1,150 +1,103 @@
-ghost use Rattle.std.specs.Prelude.{◌≡◌, IfOk, Some, None, if◌then◌else◌};
-ghost use Rattle.std.specs.Option.{option_copied};
-ghost use Rattle.keep_core.specs.Names.{is_name};
-ghost use Rattle.http_routes.specs.Paths.{segments_of};
-ghost use Rattle.http_routes.specs.Places.{place_of, sites, below_site, members, imported, pages, below_page, of_page};
+ghost use Rattle.std.specs.Prelude.{◌≡◌, IfOk, Some};
+ghost use Rattle.matchit.specs.Params.{AllText};
+ghost use Rattle.http_routes.specs.Table.{rows};
+ghost use Rattle.http_routes.specs.Places.{place_of, with_parts};
 
-use crate::segments::{before, cut, is_end};
-use keep_core::is_name;
+use crate::names::{Names, names_of};
+use matchit::{InsertError, ParamsIter, Router};
+use segment_routes::path_of;
 use std::alloc::Global;
+use std::marker::Model;
 use std::str::from_utf8;
-use texts::{OutOfMemory, Text};
+use texts::OutOfMemory;
 
-/// What a path names.
-#[derive(Debug, Drop)]
+/// What a path names: each row of the table stands for one.
+#[derive(Clone, Copy, Debug, PartialEq, Eq)]
 pub(crate) enum Place {
-    Site { site: Text },
-    Member { site: Text, user: Text },
-    Page { site: Text, page: Text },
-    Import { site: Text },
-    Edits { site: Text, page: Text },
-    Judgements { site: Text, page: Text },
-    Outcomes { site: Text, page: Text },
+    Site,
+    Import,
+    Member,
+    Page,
+    Edits,
+    Judgements,
+    Outcomes,
 }
 
-/// The place that a target names, up to its first question mark; None where it names none, or a name in
-/// it isn't of the form. Nothing is decoded.
-#[tactic(auto, unfolding(crate::specs::Places::place_of))]
-pub(crate) fn place_of(alloc: Global, target: &[u8]) -> Result<Option<Place>, OutOfMemory>
-    ensures { IfOk result (λ place. place ≡ place_of target.now) }
-{
-    let (root, rest) = cut(before(target, b'?'));
-    let Some(rest) = rest else {
-        return Ok(None);
-    };
-    let (word, rest) = cut(rest);
-    if root == b"".as_slice() && word == b"sites".as_slice() {
-        sites(alloc, rest)
-    } else {
-        Ok(None)
+/// The table of routes, which is made once: then paths are looked up in it, without memory of its own.
+#[derive(Drop)]
+pub struct Table {
+    router: Router<Place>,
+}
+
+impl Model for Table {
+    ghost use Rattle.std.specs.Prelude.{◌≡◌};
+    ghost use Rattle.http_routes.specs.Table.{rows};
+
+    ghost Value = { Unit {0} };
+
+    ghost view = { λ table. tt };
+
+    ghost invariant = { λ table. table.router ≡ rows };
+}
+
+impl Table {
+    /// The table; an error is want of memory.
+    pub fn new(alloc: Global) -> Result<Table, OutOfMemory> {
+        match router(alloc) {
+            Ok(router) => Ok(Table { router }),
+            Err(_) => Err(OutOfMemory),
+        }
+    }
+
+    /// The place that a target names, up to its first question mark, with the names in it; None where it names
+    /// none, or a name in it isn't of the form. Nothing is decoded.
+    pub(crate) fn place_of(
+        &self,
+        alloc: Global,
+        target: &[u8],
+    ) -> Result<Option<(Place, Names)>, OutOfMemory>
+        ensures { IfOk result (λ place. place ≡ place_of target.now) }
+    {
+        let path = path_of(target);
+        if !path.is_ascii() {
+            return Ok(None);
+        }
+        let Ok(path) = from_utf8(path) else {
+            return Ok(None);
+        };
+        match self.router.at(path) {
+            Ok(found) => with_parts(alloc, *found.value, found.params.iter()),
+            Err(_) => Ok(None),
+        }
     }
 }
 
-fn sites(alloc: Global, rest: Option<&[u8]>) -> Result<Option<Place>, OutOfMemory>
-    ensures { IfOk result (λ place. place ≡ sites (segments_of (option_copied rest.entry))) }
+// The routes of the table, in any order.
+fn router(alloc: Global) -> Result<Router<Place>, InsertError>
+    ensures { IfOk result (λ router. router ≡ rows) }
 {
-    let Some(rest) = rest else {
-        return Ok(None);
-    };
-    let (name, rest) = cut(rest);
-    match name_of(alloc, name)? {
-        Some(site) => below_site(alloc, site, rest),
+    let mut router = Router::new(alloc);
+    router.insert("/sites/{site}", Place::Site)?;
+    router.insert("/sites/{site}/import", Place::Import)?;
+    router.insert("/sites/{site}/members/{user}", Place::Member)?;
+    router.insert("/sites/{site}/pages/{page}", Place::Page)?;
+    router.insert("/sites/{site}/pages/{page}/edits", Place::Edits)?;
+    router.insert("/sites/{site}/pages/{page}/judgements", Place::Judgements)?;
+    router.insert("/sites/{site}/pages/{page}/outcomes", Place::Outcomes)?;
+    Ok(router)
+}
+
+// A place with the names that its parameters are, if they are names.
+fn with_parts(
+    alloc: Global,
+    place: Place,
+    parts: ParamsIter<'_, '_, '_>,
+) -> Result<Option<(Place, Names)>, OutOfMemory>
+    requires { AllText parts }
+    ensures { IfOk result (λ named. named ≡ with_parts (Some (place, parts.entry))) }
+{
+    match names_of(alloc, parts)? {
+        Some(names) => Ok(Some((place, names))),
         None => Ok(None),
     }
-}
-
-fn below_site(alloc: Global, site: Text, rest: Option<&[u8]>) -> Result<Option<Place>, OutOfMemory>
-    ensures { IfOk result (λ place. place ≡ below_site site (segments_of (option_copied rest.entry))) }
-{
-    let Some(rest) = rest else {
-        return Ok(Some(Place::Site { site }));
-    };
-    let (word, rest) = cut(rest);
-    if word == b"members".as_slice() {
-        members(alloc, site, rest)
-    } else if word == b"pages".as_slice() {
-        pages(alloc, site, rest)
-    } else if word == b"import".as_slice() {
-        Ok(imported(site, rest))
-    } else {
-        Ok(None)
-    }
-}
-
-fn imported(site: Text, rest: Option<&[u8]>) -> Option<Place>
-    ensures { result ≡ imported site (segments_of (option_copied rest.entry)) }
-{
-    if is_end(rest) {
-        Some(Place::Import { site })
-    } else {
-        None
-    }
-}
-
-fn members(alloc: Global, site: Text, rest: Option<&[u8]>) -> Result<Option<Place>, OutOfMemory>
-    ensures { IfOk result (λ place. place ≡ members site (segments_of (option_copied rest.entry))) }
-{
-    let Some(rest) = rest else {
-        return Ok(None);
-    };
-    let (name, rest) = cut(rest);
-    if !is_end(rest) {
-        return Ok(None);
-    }
-    match name_of(alloc, name)? {
-        Some(user) => Ok(Some(Place::Member { site, user })),
-        None => Ok(None),
-    }
-}
-
-fn pages(alloc: Global, site: Text, rest: Option<&[u8]>) -> Result<Option<Place>, OutOfMemory>
-    ensures { IfOk result (λ place. place ≡ pages site (segments_of (option_copied rest.entry))) }
-{
-    let Some(rest) = rest else {
-        return Ok(None);
-    };
-    let (name, rest) = cut(rest);
-    match name_of(alloc, name)? {
-        Some(page) => Ok(below_page(site, page, rest)),
-        None => Ok(None),
-    }
-}
-
-fn below_page(site: Text, page: Text, rest: Option<&[u8]>) -> Option<Place>
-    ensures { result ≡ below_page site page (segments_of (option_copied rest.entry)) }
-{
-    let Some(rest) = rest else {
-        return Some(Place::Page { site, page });
-    };
-    let (word, rest) = cut(rest);
-    if is_end(rest) {
-        of_page(site, page, word)
-    } else {
-        None
-    }
-}
-
-fn of_page(site: Text, page: Text, word: &[u8]) -> Option<Place>
-    ensures { result ≡ of_page site page word.now }
-{
-    if word == b"edits".as_slice() {
-        Some(Place::Edits { site, page })
-    } else if word == b"judgements".as_slice() {
-        Some(Place::Judgements { site, page })
-    } else if word == b"outcomes".as_slice() {
-        Some(Place::Outcomes { site, page })
-    } else {
-        None
-    }
-}
-
-// The name that the bytes are, if they are one.
-pub(crate) fn name_of(alloc: Global, bytes: &[u8]) -> Result<Option<Text>, OutOfMemory>
-    ensures { IfOk result (λ name. name ≡ (if is_name bytes.now then Some bytes.now else None)) }
-{
-    let Ok(text) = from_utf8(bytes) else {
-        return Ok(None);
-    };
-    let name = Text::from_str(alloc, text)?;
-    Ok(if is_name(&name) { Some(name) } else { None })
 }

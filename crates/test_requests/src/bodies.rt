@@ -1,4 +1,5 @@
 use crate::told::{Case, asks, each_asks};
+use http_routes::Table;
 use std::alloc::Global;
 use std::test::Fail;
 
@@ -232,8 +233,10 @@ fn is_too_long(alloc: Global, size: usize) -> Result<bool, Fail> {
     let body = format!(in alloc;
         "{{\"rule\":\"attr0b\",\"node\":1,\"verdict\":\"failed\",\"digest\":\"{digest}\",\"note\":\"{note}\"}}"
     )?;
+    let table = Table::new(alloc)?;
     asks(
         alloc,
+        &table,
         "POST /sites/a/pages/b/judgements",
         "",
         body.as_str(),

@@ -1,11 +1,11 @@
 use http_messages::read_head;
-use http_routes::{Route, call_of};
+use http_routes::{Route, Table, call_of};
 use snap_tree::{OutOfMemory, Text};
 use std::alloc::Global;
 use std::test::Fail;
 
 // Heads up to their fields, and the route with the names in its path; or the refusal.
-static CASES: [(&str, &str); 36] = [
+static CASES: [(&str, &str); 48] = [
     ("PUT /sites/a", "put site a"),
     ("PUT /sites/a?b/c", "put site a"),
     ("PUT /sites/a/members/b", "put member a b"),
@@ -27,6 +27,13 @@ static CASES: [(&str, &str); 36] = [
         "PUT /sites/aaaaaaaaaaaaaaaaaaaaaaaaaaaaaaaaaaaaaaaaaaaaaaaaaaaaaaaaaaaaa0._-",
         "NoRoute",
     ),
+    ("PUT /sites/pages", "put site pages"),
+    (
+        "PUT /sites/import/members/members",
+        "put member import members",
+    ),
+    ("DELETE /sites/sites/pages/edits?", "drop page sites edits"),
+    ("POST /sites/a/pages/b/edits?/more", "edit page a b"),
     ("PUT /", "NoRoute"),
     ("PUT *", "NoRoute"),
     ("PUT sites/a", "NoRoute"),
@@ -34,15 +41,23 @@ static CASES: [(&str, &str); 36] = [
     ("PUT /sites", "NoRoute"),
     ("PUT /sites/", "NoRoute"),
     ("PUT /sites/a/", "NoRoute"),
+    ("PUT /site/a", "NoRoute"),
     ("PUT /Sites/a", "NoRoute"),
     ("PUT /sites/A", "NoRoute"),
     ("PUT /sites/a%62", "NoRoute"),
+    ("PUT /site%73/a", "NoRoute"),
+    ("PUT /sites%2Fa", "NoRoute"),
     ("PUT /sites/a/members", "NoRoute"),
     ("PUT /sites/a/members/b/c", "NoRoute"),
+    ("PUT /sites/a/Members/b", "NoRoute"),
     ("PUT /sites//members/b", "NoRoute"),
+    ("PUT /sites/a//members/b", "NoRoute"),
+    ("POST /sites/a/pages//edits", "NoRoute"),
+    ("PUT /sites/a/page/b", "NoRoute"),
     ("GET /sites/a/pages/b!", "NoRoute"),
     ("GET /sites/a/pages/b/names", "NoRoute"),
     ("GET /sites/a/pages/b/outcomes/", "NoRoute"),
+    ("POST /sites/a/import/", "NoRoute"),
     ("POST /sites/a/import/b", "NoRoute"),
     ("GET /sites/a/report", "NoRoute"),
     ("GET /sites/a", "WrongMethod"),
@@ -103,26 +118,33 @@ fn write_route(out: &mut Vec<u8>, route: &Route) -> Result<(), OutOfMemory> {
 }
 
 // What a head asks for.
-fn told(alloc: Global, start: &str, fields: &str) -> Result<Vec<u8>, OutOfMemory> {
+fn told(alloc: Global, table: &Table, start: &str, fields: &str) -> Result<Vec<u8>, OutOfMemory> {
     let mut out = Vec::new(alloc);
     let Some(head) = read_head(alloc, head_of(alloc, start, fields)?.as_slice())? else {
         return Ok(out);
     };
-    match call_of(alloc, &head)? {
+    match call_of(alloc, table, &head)? {
         Ok(call) => write_route(&mut out, &call.route)?,
         Err(fault) => out.extend_from_slice(fault.name().as_bytes())?,
     }
     Ok(out)
 }
 
-fn asks(alloc: Global, start: &str, fields: &str, wanted: &str) -> Result<bool, OutOfMemory> {
-    Ok(told(alloc, start, fields)?.as_slice() == wanted.as_bytes())
+fn asks(
+    alloc: Global,
+    table: &Table,
+    start: &str,
+    fields: &str,
+    wanted: &str,
+) -> Result<bool, OutOfMemory> {
+    Ok(told(alloc, table, start, fields)?.as_slice() == wanted.as_bytes())
 }
 
 #[test]
 fn each_route_has_its_methods(rt: HostRuntime) -> Result<(), Fail> {
+    let table = Table::new(rt.alloc())?;
     for (start, wanted) in CASES.as_slice() {
-        if !asks(rt.alloc(), start, "x-caller: ann\r\n", wanted)? {
+        if !asks(rt.alloc(), &table, start, "x-caller: ann\r\n", wanted)? {
             return Err(Fail::from(*start));
         }
     }
@@ -131,9 +153,10 @@ fn each_route_has_its_methods(rt: HostRuntime) -> Result<(), Fail> {
 
 #[test]
 fn a_request_names_its_caller(rt: HostRuntime) -> Result<(), Fail> {
+    let table = Table::new(rt.alloc())?;
     for (fields, named) in CALLERS.as_slice() {
         let wanted = if *named { "put site a" } else { "NoCaller" };
-        if !asks(rt.alloc(), "PUT /sites/a", fields, wanted)? {
+        if !asks(rt.alloc(), &table, "PUT /sites/a", fields, wanted)? {
             return Err(Fail::from(*fields));
         }
     }

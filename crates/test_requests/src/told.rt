@@ -4,7 +4,7 @@ use desk_core::{Command, Entry};
 use fixture_rules::Marks;
 use http_commands::{Asked, request_of};
 use http_messages::read_head;
-use http_routes::RequestFault;
+use http_routes::{RequestFault, Table};
 use keep_core::MemberRole;
 use rule_core::Auto;
 use snap_edit::Edit;
@@ -233,13 +233,19 @@ fn add_answer(out: &mut String, answer: &Result<Asked, RequestFault>) -> Result<
     }
 }
 
-fn told(alloc: Global, start: &str, fields: &str, body: &str) -> Result<String, Fail> {
+fn told(
+    alloc: Global,
+    table: &Table,
+    start: &str,
+    fields: &str,
+    body: &str,
+) -> Result<String, Fail> {
     let mut out = String::new(alloc);
     let head = format!(in alloc; "{start} HTTP/1.1\r\nx-caller: ann\r\n{fields}\r\n")?;
     let Some(head) = read_head(alloc, head.as_bytes())? else {
         return Ok(out);
     };
-    let answer = request_of(alloc, &Marks::new(), &head, body.as_bytes())?;
+    let answer = request_of(alloc, Some(table), &Marks::new(), &head, body.as_bytes())?;
     add_answer(&mut out, &answer)?;
     Ok(out)
 }
@@ -251,20 +257,32 @@ pub type Case = (&'static str, &'static str, &'static str, &'static str);
 /// Whether that is asked by a request.
 pub fn asks(
     alloc: Global,
+    table: &Table,
     start: &str,
     fields: &str,
     body: &str,
     wanted: &str,
 ) -> Result<bool, Fail> {
-    Ok(told(alloc, start, fields, body)?.as_str() == wanted)
+    Ok(told(alloc, table, start, fields, body)?.as_str() == wanted)
 }
 
 /// Fails with the body of the first request by which something else is asked than its case says.
 pub fn each_asks(alloc: Global, cases: &[Case]) -> Result<(), Fail> {
+    let table = Table::new(alloc)?;
     for (start, fields, body, wanted) in cases {
-        if !asks(alloc, start, fields, body, wanted)? {
+        if !asks(alloc, &table, start, fields, body, wanted)? {
             return Err(Fail::from((*start, *fields, *body)));
         }
     }
+    Ok(())
+}
+
+#[test]
+fn no_message_is_read_without_a_table(rt: HostRuntime) -> Result<(), Fail> {
+    let head = b"PUT /sites/a HTTP/1.1\r\nx-caller: ann\r\n\r\n";
+    let Some(head) = read_head(rt.alloc(), head)? else {
+        return Err(Fail::from("the head"));
+    };
+    assert!(rt; request_of(rt.alloc(), None, &Marks::new(), &head, b"").is_err());
     Ok(())
 }

@@ -10,15 +10,15 @@ returns-clause-served g c =
     let keeper = g.K.Keeper in
     let calls = g.B.RuleBook.calls in
     let book : Book = g.B.RuleBook.book in
-    one_served book link.wire link.faults c.serve_link.new.link c.serve_link.result (link.wire c.args.link) (link.faults c.args.link) (door.log c.args.door.now) (door.log c.done.new.self)
-    (keeper.tables c.args.keeper.now) (keeper.tables c.serve_link.new.keeper) (keeper.faults c.args.keeper.now) (keeper.faults c.serve_link.new.keeper)
-    (map calls c.args.books.now) (map calls c.serve_link.new.books) c.requires.untouched c.serve_link.ensures.served c.serve_link.ensures.faults c.done.ensures.log
+    one_served book link.wire link.faults c.serve_by.new.link c.serve_by.result (link.wire c.args.link) (link.faults c.args.link) (door.log c.args.door.now) (door.log c.done.new.self)
+    (keeper.tables c.args.keeper.now) (keeper.tables c.serve_by.new.keeper) (keeper.faults c.args.keeper.now) (keeper.faults c.serve_by.new.keeper)
+    (map calls c.args.books.now) (map calls c.serve_by.new.books) c.requires.untouched c.serve_by.ensures.served c.serve_by.ensures.faults c.done.ensures.log
 
 pub returns-clause-sound : goal.returns-clause-sound
-returns-clause-sound g c = c.serve_link.ensures.sound
+returns-clause-sound g c = c.serve_by.ensures.sound
 
 pub returns-clause-took : goal.returns-clause-took
 returns-clause-took g c = c.done.ensures.took
 
 pub returns-clause-kept : goal.returns-clause-kept
-returns-clause-kept g c = c.serve_link.ensures.kept
+returns-clause-kept g c = c.serve_by.ensures.kept

@@ -2,7 +2,7 @@ use Rattle.std.proofs.Common.{◌≡◌, ◌≤◌, map}
 use Rattle.rule_core.specs.Books.{Book}
 use Rattle.http_messages.specs.Reading.{weight}
 use Rattle.desk_http.specs.Serving.{KeepsSound, Serves, SoFar}
-use Rattle.desk_http.proofs.serving.serve_link.Given as goal
+use Rattle.desk_http.proofs.serving.serve_by.Given as goal
 
 abbrev pub invariant-loop-held : goal.invariant-loop-held
 invariant-loop-held g l =

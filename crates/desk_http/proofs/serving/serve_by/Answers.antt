@@ -6,7 +6,7 @@ use Rattle.desk_http.specs.Linking.{Finishes, CountsFaults}
 use Rattle.desk_http.specs.Serving.{SoFar, Ends}
 use Rattle.desk_http.proofs.Tables.{keeps_join}
 use Rattle.desk_http.proofs.Served.{begins, one_more, goes_on, closes, breaks, ended_between, ended_within, failed_between, not_held}
-use Rattle.desk_http.proofs.serving.serve_link.Goals as goal
+use Rattle.desk_http.proofs.serving.serve_by.Goals as goal
 
 pub loop-held-init : goal.loop-held-init
 loop-held-init g c =

@@ -1,0 +1,42 @@
+-- The table of routes: which place a path names, by its words and names.
+use Rattle.std.specs.Prelude.{List, [], ◌∷◌, codes}
+use Rattle.matchit.specs.Rows.{RowsOf}
+use Rattle.matchit.specs.Router.{RouteOf}
+use Rattle.segment_routes.specs.Pieces.{Piece, Word, Name, Pieces}
+use Rattle.segment_routes.specs.Spelling.{rows_of}
+use Rattle.http_routes.specs.declared.place.Place.{Place}
+use Rattle.http_routes.specs.declared.place.Place.TheVariants.{Site, Import, Member, Page, Edits, Judgements, Outcomes}
+
+abbrev pub site : Piece
+site = Name (codes "site")
+
+abbrev pub user : Piece
+user = Name (codes "user")
+
+abbrev pub page : Piece
+page = Name (codes "page")
+
+-- /sites/{site}/..
+abbrev pub in_site : Pieces → Pieces
+in_site pieces = Word (codes "sites") ∷ site ∷ pieces
+
+-- /sites/{site}/pages/{page}/..
+abbrev pub in_page : Pieces → Pieces
+in_page pieces = in_site (Word (codes "pages") ∷ page ∷ pieces)
+
+-- The first row that fits a path says what the path names. A word stands before another one that comes after it by bytes and before
+-- a name, and a longer path before the one that it begins with.
+abbrev pub table : List (Pieces × Place)
+table =
+    (in_site (Word (codes "import") ∷ []), Import)
+    ∷ (in_site (Word (codes "members") ∷ user ∷ []), Member)
+    ∷ (in_page (Word (codes "edits") ∷ []), Edits)
+    ∷ (in_page (Word (codes "judgements") ∷ []), Judgements)
+    ∷ (in_page (Word (codes "outcomes") ∷ []), Outcomes)
+    ∷ (in_page [], Page)
+    ∷ (in_site [], Site)
+    ∷ []
+
+-- the same as `matchit` holds it
+abbrev pub rows : RowsOf (RouteOf Place)
+rows = rows_of table
