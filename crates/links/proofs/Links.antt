@@ -1,5 +1,5 @@
 -- What reads and writes do to a wire.
-use Rattle.std.proofs.Common.{◌≡◌, ℕ, ◌+◌, ◌<◌, List, [], ◌++◌, length, take, drop, Option, Some, Ok, ap, ◌∙◌, subst, append-nil, append_assoc}
+use Rattle.std.proofs.Common.{◌≡◌, ℕ, ◌+◌, ◌<◌, List, [], ◌++◌, length, take, drop, Option, Ok, ap, ◌∙◌, subst, append-nil, append_assoc}
 use Rattle.streams.specs.Memory.{gives_of}
 use Rattle.streams.specs.Streams.{Read, Wrote, WroteFront}
 use Rattle.streams.proofs.Fronts.{front_left, none_left, read_told}

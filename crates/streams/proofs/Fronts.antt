@@ -1,5 +1,5 @@
 -- A read in memory gives the front of what is left.
-use Rattle.std.proofs.Common.{◌≡◌, ℕ, ◌+◌, ◌<◌, List, [], ◌++◌, length, take, drop, Some, Ok, sym, ap, ◌∙◌, subst, arith, length-drop}
+use Rattle.std.proofs.Common.{◌≡◌, ℕ, ◌+◌, ◌<◌, List, [], ◌++◌, take, drop, Some, Ok, sym, ap, ◌∙◌, subst, arith, length-drop}
 use Rattle.std.proofs.lemmas.List.{take-append-drop, drop-drop, nil_from_length}
 use Rattle.std.proofs.lemmas.Option.{same_Some}
 use Rattle.streams.specs.Memory.{gives_of}
