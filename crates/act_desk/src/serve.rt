@@ -1,5 +1,5 @@
 ghost use Rattle.std.specs.Prelude.{◌≡◌, ◌<◌, ◌≤◌, None, OnOk, map, length, take};
-ghost use Rattle.links.specs.Wires.{Counts};
+ghost use Rattle.streams.specs.Streams.{Counts};
 ghost use Rattle.desk_http.specs.Serving.{KeepsSound};
 ghost use Rattle.desk_http.specs.Doors.{ServesDoor};
 ghost use Rattle.act_desk.specs.Telling.{status_of, writing_of};
@@ -9,10 +9,11 @@ ghost use Rattle.act_desk.specs.Serve.{ServeCause};
 use crate::found::Found;
 use desk_words::Serving;
 use keep_core::Keeper;
-use links::{Door, Failed};
+use links::Door;
 use rule_core::RuleBook;
 use std::alloc::Global;
 use std::thread::Threads;
+use streams::Failed;
 
 /// Listens at a port for a number of connections, and serves them with the first books, as many as there
 /// are workers.

@@ -1,6 +1,7 @@
 ghost use Rattle.std.specs.Prelude.{◌≡◌, ◌<◌, ◌≤◌, List, length, map, OnOk};
 ghost use Rattle.rule_core.specs.declared.info.RuleInfo.{RuleInfo};
-ghost use Rattle.links.specs.Wires.{Counts, IsUntouched};
+ghost use Rattle.streams.specs.Streams.{Counts};
+ghost use Rattle.links.specs.Wires.{IsUntouched};
 ghost use Rattle.links.specs.Doors.{TookBack};
 ghost use Rattle.desk_http.specs.Linking.{Finishes, CountsFaults, full};
 ghost use Rattle.desk_http.specs.Serving.{KeepsSound, ServesItem, Serves, Ends, IsFull};
@@ -12,10 +13,11 @@ use http_messages::{Got, Item, ReadFault, read_item};
 use http_replies::no_memory;
 use http_routes::Table;
 use keep_core::Keeper;
-use links::{Door, Failed, Link, write_all};
+use links::{Door, Link, write_all};
 use rule_core::RuleBook;
 use std::alloc::Global;
 use std::thread::Threads;
+use streams::Failed;
 
 /// Serves the links of a door until it gives none, one after the other, with at least one book. Each is
 /// given back to the door's log; one that failed doesn't end the service.
