@@ -1,13 +1,14 @@
 -- Why an audit ends, from what it read and what it found in that, and which statuses can come of it.
 use Rattle.std.proofs.Common.{◌≡◌, ℕ, ◌<◌, ◌≤◌, inl, inr, Bool, true, false, List, [], ◌∷◌, ◌++◌, length, Option, Some, None, IfSome, Ok, Err, refl, sym, ap, ◌∙◌, subst, append-nil, length-append, arith}
 use Rattle.std.proofs.lemmas.Bool.{cases_lt, lt-leb}
-use Rattle.std.specs.Io.KnownBytes.{Consumes, IsAtEnd}
+use Rattle.std.proofs.lemmas.Option.{none-some, same_Some}
+use Rattle.std.specs.Io.KnownBytes.{IsAtEnd}
 use Rattle.snap_tree.specs.Trees.{Document}
 use Rattle.snap_json.specs.declared.fault.SnapFault.{SnapFault}
 use Rattle.snap_json.specs.declared.fault.SnapFault.TheVariants.{TooLong}
 use Rattle.snap_json.specs.declared.limits.TheConstants.{MOST_SNAPSHOT_BYTES}
 use Rattle.snap_json.specs.Pages.{sent_tree, tree_in, page_in}
-use Rattle.judge_core.specs.Books.{Book}
+use Rattle.rule_core.specs.Books.{Book}
 use Rattle.act_desk.specs.declared.audit.TheConstants.{MOST_READ}
 use Rattle.act_desk.specs.declared.found.Found.{Found}
 use Rattle.act_desk.specs.declared.found.Found.TheVariants as found
@@ -15,7 +16,7 @@ use Rattle.act_desk.specs.declared.status.Status.{Status}
 use Rattle.act_desk.specs.declared.status.Status.TheVariants.{Done, SomeFailed, UsageFault, ReadFault, WriteFault, SnapshotFault, StoreFault, ListenFault, NoMemory}
 use Rattle.act_desk.specs.Status.{OneOf}
 use Rattle.streams.specs.Told.{Input}
-use Rattle.streams.specs.Streams.{IsReadTo}
+use Rattle.streams.specs.Streams.{WasRead, before_left, IsReadTo}
 use Rattle.act_desk.specs.Telling.{Writing, output_alone, line_alone, status_of, writing_of}
 use Rattle.act_desk.specs.Audit.{IsFoundIn, GaveAll, Reports, AuditCause, TellsPage, TellsFault}
 
@@ -33,10 +34,10 @@ short bytes page is = elim (cases_lt (length bytes) MOST_READ) [ inl low ↦ low
 
 -- ---- what was read is all that was left
 
-all_left : (a b : Option (List ℕ)) (bytes : List ℕ) → Consumes a b bytes → IfSome a (λ _. IsAtEnd b) → IfSome a (λ left. left ≡ bytes)
+all_left : (a b : Option (List ℕ)) (bytes : List ℕ) → WasRead before_left bytes a b → IfSome a (λ _. IsAtEnd b) → IfSome a (λ left. left ≡ bytes)
 all_left None b bytes h end = tt
-all_left (Some x) None bytes h end = absurd h
-all_left (Some x) (Some y) bytes h end = h ∙ ap (λ l. bytes ++ l) end ∙ append-nil bytes
+all_left (Some x) None bytes h end = absurd (none-some x (sym h))
+all_left (Some x) (Some y) bytes h end = same_Some x (bytes ++ y) h ∙ ap (λ l. bytes ++ l) end ∙ append-nil bytes
 
 gave_all : (old new : Input) (bytes : List ℕ) (page : Document) → sent_tree bytes ≡ Ok page → IsReadTo MOST_READ old new bytes → GaveAll old new bytes
 gave_all old new bytes page is gave =
@@ -66,12 +67,12 @@ told : (a : Option (List ℕ)) (left bytes : List ℕ) → a ≡ Some left → I
 told a left bytes is h = let P : Option (List ℕ) → Type 0 = λ o. IfSome o (λ l. l ≡ bytes) in subst P is h
 
 -- where a source gave bytes up to the limit, it had as many
-had_more : (a b : Option (List ℕ)) (left bytes : List ℕ) → a ≡ Some left → Consumes a b bytes → length bytes ≤ length left
-had_more a b left bytes is h = had b (let P : Option (List ℕ) → Type 0 = λ o. Consumes o b bytes in subst P is h)
+had_more : (a b : Option (List ℕ)) (left bytes : List ℕ) → a ≡ Some left → WasRead before_left bytes a b → length bytes ≤ length left
+had_more a b left bytes is h = had b (sym is ∙ h)
   where
-    had : (c : Option (List ℕ)) → Consumes (Some left) c bytes → length bytes ≤ length left
-    had None k = absurd k
-    had (Some y) k = omega (arith, ap length k, length-append bytes y)
+    had : (c : Option (List ℕ)) → WasRead before_left bytes (Some left) c → length bytes ≤ length left
+    had None k = absurd (none-some left (sym k))
+    had (Some y) k = omega (arith, ap length (same_Some left (bytes ++ y) k), length-append bytes y)
 
 -- bytes that aren't a snapshot show that what was left isn't one
 all_refused : (old new : Input) (left bytes : List ℕ) (page : Document) (fault : SnapFault) → old.left ≡ Some left → IsReadTo MOST_READ old new bytes → sent_tree bytes ≡ Err fault → sent_tree left ≡ Ok page → ⊥

@@ -4,7 +4,7 @@ use Rattle.std.proofs.lemmas.Option.{none-some, same_Some}
 use Rattle.counts.specs.Counts.{StoodStill, Rose}
 use Rattle.counts.proofs.CountLaws.{next_rose, still_not_risen}
 use Rattle.snap_tree.specs.Trees.{Document}
-use Rattle.judge_core.specs.Books.{Book}
+use Rattle.rule_core.specs.Books.{Book}
 use Rattle.act_desk.specs.declared.audit.TheConstants.{MOST_READ}
 use Rattle.desk_words.specs.Words.{command_in}
 use Rattle.desk_words.specs.declared.command.Command.{Command}
@@ -134,7 +134,7 @@ as_planned old new planned status writing none still (inr (is, inl cut)) =
     absurd (cut_none cut.out_broke)
   where
     cut_none : BrokeOff old.out new.out writing.output → ⊥
-    cut_none broke = omega (arith, broke.cut, ap length none)
+    cut_none broke = omega (arith, broke.wrote.1, ap length none)
 as_planned old new planned status writing none still (inr (is, inr cut)) = absurd (no_break old.err new.err writing.line still cut.err_broke)
 
 too_many : {L : Type 0} (book : Book) (serving : Serving) (before now : Desk L) (planned : Status) (writing : Writing) → ServeCause book serving before now planned writing → length before.calls < serving.workers → planned ≡ UsageFault

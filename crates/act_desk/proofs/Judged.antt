@@ -4,7 +4,7 @@ use Rattle.std.proofs.Math.Seq.{take-append_seam}
 use Rattle.std.proofs.lemmas.List.{take-map}
 use Rattle.links.specs.Wires.{Wire}
 use Rattle.links.specs.Doors.{Doorway}
-use Rattle.judge_core.specs.Books.{Book}
+use Rattle.rule_core.specs.Books.{Book}
 use Rattle.keep_core.specs.Tables.{Tables}
 use Rattle.desk_http.specs.Doors.{ServesDoor}
 

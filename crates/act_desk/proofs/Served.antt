@@ -1,7 +1,7 @@
 -- That a door was served, from what `listen` and the service of its links did.
 use Rattle.std.proofs.Common.{◌≡◌, ◌≤◌, length, take, List, Option}
 use Rattle.links.specs.Doors.{Doorway, Opened, KeepsLog}
-use Rattle.judge_core.specs.Books.{Book}
+use Rattle.rule_core.specs.Books.{Book}
 use Rattle.desk_http.specs.Serving.{KeepsSound}
 use Rattle.desk_http.specs.Doors.{ServesDoor}
 use Rattle.desk_words.specs.declared.command.Serving.{Serving}

@@ -1,7 +1,7 @@
 -- The commands: for each why it ends, and which statuses can come of it.
 use Rattle.std.specs.Prelude.{◌≡◌}
 use Rattle.counts.specs.Counts.{StoodStill}
-use Rattle.judge_core.specs.Books.{Book}
+use Rattle.rule_core.specs.Books.{Book}
 use Rattle.desk_words.specs.declared.command.Command.{Command}
 use Rattle.desk_words.specs.declared.command.Command.TheVariants.{Audit, Serve}
 use Rattle.act_desk.specs.declared.status.Status.{Status}

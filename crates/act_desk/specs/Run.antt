@@ -1,6 +1,6 @@
 -- What a run does, whatever its words are.
 use Rattle.std.specs.Prelude.{◌≡◌, ℕ, ◌≤◌, List, [], ◌∷◌, length, ◌⊎◌, Some, None}
-use Rattle.judge_core.specs.Books.{Book}
+use Rattle.rule_core.specs.Books.{Book}
 use Rattle.act_desk.specs.declared.audit.TheConstants.{MOST_READ}
 use Rattle.desk_words.specs.Words.{command_in}
 use Rattle.desk_words.specs.declared.command.Command.{Command}

@@ -3,7 +3,7 @@ use Rattle.std.specs.Prelude.{◌≡◌, ℕ, ◌<◌, ◌≤◌, ◌⊎◌, Lis
 use Rattle.counts.specs.Counts.{Rose, StoodStill}
 use Rattle.links.specs.declared.door.Heard.{Heard}
 use Rattle.links.specs.Doors.{Doorway, Stays, Opened, KeepsLog}
-use Rattle.judge_core.specs.Books.{Book}
+use Rattle.rule_core.specs.Books.{Book}
 use Rattle.desk_http.specs.Serving.{KeepsSound}
 use Rattle.desk_http.specs.Doors.{ServesDoor}
 use Rattle.desk_words.specs.declared.command.Serving.{Serving}

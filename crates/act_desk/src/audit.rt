@@ -20,7 +20,7 @@ pub const MOST_READ: usize = MOST_SNAPSHOT_BYTES + 1;
 /// Reads one snapshot to the end of the source, or to the 8,388,609th byte, and judges it by a book.
 #[tactic(auto, using(crate::proofs::Causes::audited))]
 pub fn audit<I: Source, B: RuleBook>(alloc: Global, input: &mut I, book: &mut B) -> Found
-    ensures cause { AuditCause (record { infos = B.infos; means = B.means })
+    ensures cause { AuditCause B.book
         (I.told input.old) (I.told input.new) (status_of result) (writing_of result) }
     ensures never_falls { (I.told input.old).faults ≤ (I.told input.new).faults }
     ensures stops { ReadsAtMost MOST_READ (I.told input.old) (I.told input.new) }
@@ -33,7 +33,7 @@ pub fn audit<I: Source, B: RuleBook>(alloc: Global, input: &mut I, book: &mut B)
 }
 
 fn audit_bytes<B: RuleBook>(alloc: Global, bytes: &[u8], book: &mut B) -> Found
-    ensures { IsFoundIn (record { infos = B.infos; means = B.means }) bytes.now result }
+    ensures { IsFoundIn B.book bytes.now result }
 {
     match read_snapshot(alloc, bytes) {
         Ok(tree) => match report(alloc, &tree, book) {
@@ -54,10 +54,8 @@ fn report<B: RuleBook>(
     tree: &Tree,
     book: &mut B,
 ) -> Result<(List<u8>, bool), OutOfMemory>
-    ensures report { IfOk result
-        (λ r. r.0 ≡ report_of (record { infos = B.infos; means = B.means }) tree.now) }
-    ensures failed { IfOk result
-        (λ r. r.1 ≡ fails (record { infos = B.infos; means = B.means }) tree.now) }
+    ensures report { IfOk result (λ r. r.0 ≡ report_of B.book tree.now) }
+    ensures failed { IfOk result (λ r. r.1 ≡ fails B.book tree.now) }
 {
     let infos = infos_of(alloc, book)?;
     let outcomes = audit_page(alloc, book, tree, &[])?;

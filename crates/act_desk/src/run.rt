@@ -37,7 +37,7 @@ pub fn run<R: Threads + Sync, I: Source, O: Sink, E: Sink, K: Keeper, D: Door, B
 ) -> u8
     requires some { 0 < vec_len books.old }
     requires unheard { (D.told door.old).heard ≡ None }
-    ensures { Runs (record { infos = B.infos; means = B.means }) words.now
+    ensures { Runs B.book words.now
         (record { input = I.told input.old; out = O.told out.old; err = E.told err.old })
         (record { input = I.told input.new; out = O.told out.new; err = E.told err.new })
         (record { wire = D.Conn.wire; broken = D.Conn.faults; door = D.told door.old; log = D.log door.old; tables = K.tables keeper.old; faults = K.faults keeper.old; calls = map B.calls books.old.items })
@@ -60,7 +60,7 @@ fn find<R: Threads + Sync, I: Source, K: Keeper, D: Door, B: RuleBook + Send>(
 ) -> Found
     requires some { 0 < length books.old }
     requires unheard { (D.told door.old).heard ≡ None }
-    ensures cause { Cause (record { infos = B.infos; means = B.means }) words.now (I.told input.old) (I.told input.new)
+    ensures cause { Cause B.book words.now (I.told input.old) (I.told input.new)
         (record { wire = D.Conn.wire; broken = D.Conn.faults; door = D.told door.old; log = D.log door.old; tables = K.tables keeper.old; faults = K.faults keeper.old; calls = map B.calls books.old })
         (record { wire = D.Conn.wire; broken = D.Conn.faults; door = D.told door.new; log = D.log door.new; tables = K.tables keeper.new; faults = K.faults keeper.new; calls = map B.calls books.new })
         (status_of result) (writing_of result) }
@@ -78,7 +78,7 @@ fn find<R: Threads + Sync, I: Source, K: Keeper, D: Door, B: RuleBook + Send>(
 // An audit by the first of the books.
 fn audit_by_first<I: Source, B: RuleBook>(alloc: Global, input: &mut I, books: &mut [B]) -> Found
     requires { 0 < length books.old }
-    ensures cause { AuditCause (record { infos = B.infos; means = B.means })
+    ensures cause { AuditCause B.book
         (I.told input.old) (I.told input.new) (status_of result) (writing_of result) }
     ensures never_falls { (I.told input.old).faults ≤ (I.told input.new).faults }
     ensures stops { ReadsAtMost MOST_READ (I.told input.old) (I.told input.new) }
@@ -90,7 +90,7 @@ fn audit_by_first<I: Source, B: RuleBook>(alloc: Global, input: &mut I, books: &
 
 fn audit_by<I: Source, B: RuleBook>(alloc: Global, input: &mut I, books: &mut [B]) -> Found
     requires { length books.old ≡ 1 }
-    ensures cause { AuditCause (record { infos = B.infos; means = B.means })
+    ensures cause { AuditCause B.book
         (I.told input.old) (I.told input.new) (status_of result) (writing_of result) }
     ensures never_falls { (I.told input.old).faults ≤ (I.told input.new).faults }
     ensures stops { ReadsAtMost MOST_READ (I.told input.old) (I.told input.new) }

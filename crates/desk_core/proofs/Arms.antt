@@ -1,6 +1,6 @@
 -- What is known of a request in the arm of its command.
 use Rattle.std.proofs.Common.{◌≡◌, ℕ, List, Option, Result, sym, subst}
-use Rattle.judge_core.specs.Books.{Book}
+use Rattle.rule_core.specs.Books.{Book}
 use Rattle.keep_core.specs.Tables.{Tables}
 use Rattle.desk_core.specs.declared.command.Command.{Command}
 use Rattle.desk_core.specs.declared.command.Command.TheVariants.{Import}

@@ -2,7 +2,7 @@
 use Rattle.std.proofs.Common.{◌≡◌, ℕ, ◌+◌, ◌≤◌, List, Option, Some, sym, subst, ◌∙◌, arith}
 use Rattle.snap_edit.specs.declared.edit.Edit.{Edit}
 use Rattle.snap_tree.specs.declared.row.Raw.{Raw}
-use Rattle.judge_core.specs.Books.{Book}
+use Rattle.rule_core.specs.Books.{Book}
 use Rattle.keep_core.specs.Tables.{Tables}
 use Rattle.keep_core.specs.Keeping.{Stays}
 use Rattle.desk_core.specs.declared.command.Entry.{Entry}

@@ -5,7 +5,7 @@ use Rattle.snap_tree.specs.Trees.{Trees, Document, with_trees}
 use Rattle.snap_edit.specs.declared.edit.Edit.{Edit}
 use Rattle.snap_edit.specs.declared.fault.EditFault.{EditFault}
 use Rattle.snap_edit.specs.Edits.{edited_all}
-use Rattle.judge_core.specs.Books.{Book}
+use Rattle.rule_core.specs.Books.{Book}
 use Rattle.keep_core.specs.declared.site.Site.{Site}
 use Rattle.keep_core.specs.declared.tables.KeptSite.{KeptSite}
 use Rattle.keep_core.specs.Tables.{Tables, kept_site, site_of}

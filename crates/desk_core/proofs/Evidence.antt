@@ -12,9 +12,9 @@ use Rattle.rule_core.specs.declared.verdict.Verdict.{Verdict}
 use Rattle.rule_core.specs.declared.verdict.Auto.{Auto}
 use Rattle.rule_core.specs.declared.reason.Reason.TheVariants.{Merged}
 use Rattle.rule_core.specs.Infos.{is_atomic}
+use Rattle.rule_core.specs.Books.{Book}
 use Rattle.judge_core.specs.declared.judgement.Judgement.{Judgement}
 use Rattle.judge_core.specs.declared.outcomes.OutRow.{OutRow}
-use Rattle.judge_core.specs.Books.{Book}
 use Rattle.judge_core.specs.Composites.{merge}
 use Rattle.judge_core.specs.Outcomes.{row_of, atomic_row, atomic_rows, merged_row, inputs_of, composite_row, composite_rows, rule_rows, outcomes}
 use Rattle.judge_core.specs.RowLookups.{is_row_on, row_at}

@@ -11,8 +11,8 @@ use Rattle.snap_tree.specs.Grown.{page_of}
 use Rattle.snap_edit.specs.declared.edit.Edit.{Edit}
 use Rattle.rule_core.specs.declared.info.RuleNo.{RuleNo}
 use Rattle.rule_core.specs.declared.verdict.Auto.{Auto}
+use Rattle.rule_core.specs.Books.{Book}
 use Rattle.judge_core.specs.declared.judgement.Judgement.{Judgement}
-use Rattle.judge_core.specs.Books.{Book}
 use Rattle.web_address.specs.Address.{IsWebAddress}
 use Rattle.named_rows.specs.ByName.{IsInOrder}
 use Rattle.named_rows.proofs.Lookups.{all_put, all_take}

@@ -6,8 +6,8 @@ use Rattle.snap_tree.specs.Trees.{Document, with_trees}
 use Rattle.snap_tree.specs.Grown.{page_of}
 use Rattle.snap_tree.specs.Well.{IsWell}
 use Rattle.snap_tree.proofs.Wellness.{well_from_sound}
+use Rattle.rule_core.specs.Books.{Book}
 use Rattle.judge_core.specs.declared.judgement.Judgement.{Judgement}
-use Rattle.judge_core.specs.Books.{Book}
 use Rattle.named_rows.specs.ByName.{at}
 use Rattle.named_rows.proofs.Lookups.{all_at}
 use Rattle.named_rows.proofs.Order.{in_order_none}

@@ -1,6 +1,6 @@
 -- What is decided in the state that tables give: the site and the page are those that the tables keep.
 use Rattle.std.proofs.Common.{◌≡◌, ℕ, List, length, map, true, Option, Some, None, option_map, IfSome, IsSome, refl, sym, ap, ◌∙◌, subst}
-use Rattle.judge_core.specs.Books.{Book}
+use Rattle.rule_core.specs.Books.{Book}
 use Rattle.named_rows.specs.ByName.{at}
 use Rattle.keep_core.specs.declared.change.Change.{Change}
 use Rattle.keep_core.specs.declared.tables.KeptPage.{KeptPage}

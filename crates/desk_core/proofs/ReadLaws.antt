@@ -1,6 +1,6 @@
 -- What is decided on reading a page: what is shown of it is true where the tables are sound.
 use Rattle.std.proofs.Common.{◌≡◌, ℕ, List, Option, Some, None, option_map, Result, Ok, Err, IfSome, inl, refl, sym, ap, subst, ◌∙◌}
-use Rattle.judge_core.specs.Books.{Book}
+use Rattle.rule_core.specs.Books.{Book}
 use Rattle.named_rows.specs.ByName.{at}
 use Rattle.named_rows.proofs.Lookups.{all_at}
 use Rattle.judge_core.specs.declared.outcomes.Outcomes.{Outcomes}

@@ -7,7 +7,7 @@ use Rattle.snap_tree.specs.declared.row.Raw.{Raw}
 use Rattle.snap_tree.specs.Trees.{with_trees}
 use Rattle.snap_tree.specs.Grown.{page_of}
 use Rattle.snap_edit.specs.declared.edit.Edit.{Edit}
-use Rattle.judge_core.specs.Books.{Book}
+use Rattle.rule_core.specs.Books.{Book}
 use Rattle.named_rows.specs.ByName.{at, put_row, take_row, with_row}
 use Rattle.named_rows.proofs.Lookups.{at_put, at_with_row}
 use Rattle.named_rows.proofs.Order.{at_take}

@@ -5,9 +5,9 @@ use Rattle.std.proofs.lemmas.Bool.Decides.{nat_tests}
 use Rattle.std.proofs.lemmas.List.Elements.{All-head, All-tail}
 use Rattle.snap_tree.specs.Trees.{with_trees}
 use Rattle.snap_tree.specs.Grown.{page_of}
+use Rattle.rule_core.specs.Books.{Book}
 use Rattle.judge_core.specs.declared.judgement.Judgement.{Judgement}
 use Rattle.judge_core.specs.declared.outcomes.Outcomes.{Outcomes}
-use Rattle.judge_core.specs.Books.{Book}
 use Rattle.judge_core.specs.Outcomes.{outcomes}
 use Rattle.named_rows.specs.ByName.{at, put_row, put_rows, take_row, with_row, IsInOrder}
 use Rattle.named_rows.proofs.Lookups.{at_put, at_put_other, at_with_row, at_with_row_other}

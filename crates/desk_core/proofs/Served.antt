@@ -2,7 +2,7 @@
 use Rattle.std.proofs.Common.{◌≡◌, ℕ, ◌≤◌, Option, Some, None, Ok, Err, ◌⊎◌, inl, inr, refl, sym, ap, subst, ◌∙◌, arith}
 use Rattle.counts.specs.Counts.{Rose}
 use Rattle.counts.proofs.CountLaws.{rose_after}
-use Rattle.judge_core.specs.Books.{Book}
+use Rattle.rule_core.specs.Books.{Book}
 use Rattle.keep_core.specs.declared.change.Change.{Change}
 use Rattle.keep_core.specs.Tables.{Tables, kept_site}
 use Rattle.keep_core.specs.Keeping.{Stays}

@@ -5,7 +5,7 @@ use Rattle.std.proofs.lemmas.List.Elements.{All-nil, All-cons, All-head, All-tai
 use Rattle.named_rows.specs.ByName.{IsInOrder}
 use Rattle.named_rows.proofs.Lookups.{all_at}
 use Rattle.named_rows.proofs.Order.{in_order_none, at_each}
-use Rattle.judge_core.specs.Books.{Book}
+use Rattle.rule_core.specs.Books.{Book}
 use Rattle.keep_core.specs.declared.page.PageHead.{PageHead}
 use Rattle.keep_core.specs.declared.page.SitePage.{SitePage}
 use Rattle.keep_core.specs.declared.site.Site.{Site}

@@ -2,7 +2,7 @@
 use Rattle.std.proofs.Common.{◌≡◌, ℕ, ◌+◌, ◌<◌, ◌≤◌, List, [], ◌∷◌, ◌++◌, length, map, take, get_or, Option, Some, None, option_map, Result, Ok, Err, IsErrAnd, sym, ap, subst, ◌∙◌, arith}
 use Rattle.std.specs.List.{All}
 use Rattle.std.proofs.lemmas.List.{map_more, map_push}
-use Rattle.judge_core.specs.Books.{Book}
+use Rattle.rule_core.specs.Books.{Book}
 use Rattle.judge_core.specs.declared.outcomes.Outcomes.{Outcomes}
 use Rattle.keep_core.specs.declared.page.Page.{Page}
 use Rattle.keep_core.specs.declared.page.PageHead.{PageHead}

@@ -1,6 +1,6 @@
 -- All other sites stay as they are, whatever is asked of one.
 use Rattle.std.proofs.Common.{◌≡◌, ℕ, List, length, Option, Some, None, Ok, Err, refl, ap, ◌∙◌}
-use Rattle.judge_core.specs.Books.{Book}
+use Rattle.rule_core.specs.Books.{Book}
 use Rattle.named_rows.specs.ByName.{take_row, with_row}
 use Rattle.named_rows.proofs.Lookups.{at_put_other, at_with_row_other}
 use Rattle.keep_core.specs.declared.change.Change.{Change}

@@ -10,7 +10,7 @@ use Rattle.snap_tree.specs.Grown.{page_of, grown}
 use Rattle.snap_tree.specs.Faults.{tree_fault}
 use Rattle.snap_tree.specs.Well.{IsWell}
 use Rattle.snap_tree.proofs.Wellness.{well_from_sound}
-use Rattle.judge_core.specs.Books.{Book}
+use Rattle.rule_core.specs.Books.{Book}
 use Rattle.judge_core.specs.Outcomes.{outcomes}
 use Rattle.named_rows.specs.ByName.{at, put_row, put_rows}
 use Rattle.named_rows.proofs.Lookups.{all_put, at_put, at_put_other}

@@ -8,7 +8,7 @@ use Rattle.snap_tree.specs.Faults.{tree_fault}
 use Rattle.snap_edit.specs.declared.edit.Edit.{Edit}
 use Rattle.snap_edit.specs.declared.fault.EditFault.{EditFault}
 use Rattle.snap_edit.specs.Edits.{edited_all}
-use Rattle.judge_core.specs.Books.{Book}
+use Rattle.rule_core.specs.Books.{Book}
 use Rattle.judge_core.specs.Outcomes.{judgings}
 use Rattle.keep_core.specs.Tables.{Tables}
 use Rattle.desk_core.specs.declared.command.Entry.{Entry}

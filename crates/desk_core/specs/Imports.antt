@@ -3,7 +3,7 @@ use Rattle.std.specs.Prelude.{ℕ, ◌+◌, List, [], ◌∷◌, length, map, �
 use Rattle.std.specs.Option.{option_or}
 use Rattle.snap_tree.specs.Grown.{page_of}
 use Rattle.snap_tree.specs.Faults.{tree_fault}
-use Rattle.judge_core.specs.Books.{Book}
+use Rattle.rule_core.specs.Books.{Book}
 use Rattle.keep_core.specs.declared.page.PagePut.{PagePut}
 use Rattle.keep_core.specs.declared.change.Change.TheVariants.{PutPages}
 use Rattle.desk_core.specs.declared.command.Entry.{Entry}

@@ -7,9 +7,9 @@ use Rattle.snap_tree.specs.declared.row.NodeId.{NodeId}
 use Rattle.rule_core.specs.declared.info.RuleNo.{RuleNo}
 use Rattle.rule_core.specs.declared.verdict.Auto.{Auto}
 use Rattle.rule_core.specs.Brief.{digest}
+use Rattle.rule_core.specs.Books.{Book}
 use Rattle.judge_core.specs.declared.judgement.Judgement.{Judgement}
 use Rattle.judge_core.specs.declared.outcomes.OutRow.{OutRow}
-use Rattle.judge_core.specs.Books.{Book}
 use Rattle.judge_core.specs.Composites.{is_open}
 use Rattle.judge_core.specs.Equality.{same_judgement}
 use Rattle.judge_core.specs.Judgements.{is_on}

@@ -9,8 +9,8 @@ use Rattle.snap_edit.specs.declared.edit.Edit.{Edit}
 use Rattle.snap_edit.specs.declared.fault.EditFault.{EditFault}
 use Rattle.snap_edit.specs.declared.fault.EditFault.TheVariants as edit
 use Rattle.snap_edit.specs.Edits.{edited_all}
+use Rattle.rule_core.specs.Books.{Book}
 use Rattle.judge_core.specs.declared.judgement.Judgement.{Judgement}
-use Rattle.judge_core.specs.Books.{Book}
 use Rattle.judge_core.specs.Outcomes.{outcomes}
 use Rattle.keep_core.specs.declared.limits.TheConstants.{MOST_REVISION}
 use Rattle.keep_core.specs.declared.site.Site.{Site}

@@ -3,8 +3,8 @@ use Rattle.std.specs.Prelude.{◌≡◌, ℕ, ◌+◌, ◌≤◌, ◌==◌, List
 use Rattle.std.specs.Option.{option_map_or}
 use Rattle.std.specs.List.{find, zip}
 use Rattle.snap_tree.specs.Grown.{page_of}
+use Rattle.rule_core.specs.Books.{Book}
 use Rattle.judge_core.specs.declared.outcomes.Outcomes.{Outcomes}
-use Rattle.judge_core.specs.Books.{Book}
 use Rattle.reaudit.specs.declared.pages.PageWork.{PageWork}
 use Rattle.reaudit.specs.Pages.{pages_outcomes}
 use Rattle.named_rows.specs.ByName.{at}

@@ -1,6 +1,6 @@
 -- Reading: what is answered where a page or a site is asked for.
 use Rattle.std.specs.Prelude.{ℕ, List, map, None, Ok}
-use Rattle.judge_core.specs.Books.{Book}
+use Rattle.rule_core.specs.Books.{Book}
 use Rattle.judge_core.specs.Outcomes.{outcomes}
 use Rattle.keep_core.specs.declared.page.SitePage.{SitePage}
 use Rattle.desk_core.specs.declared.command.Command.{Command}

@@ -1,7 +1,7 @@
 -- A site's pages as they are kept, read one after another: what is owed on the way to its sheet.
 use Rattle.std.specs.Prelude.{◌≡◌, ℕ, ◌≤◌, List, map, Option, Some, option_map, IsSome, Result, IfOk, IfErr}
 use Rattle.std.specs.List.{All}
-use Rattle.judge_core.specs.Books.{Book}
+use Rattle.rule_core.specs.Books.{Book}
 use Rattle.keep_core.specs.declared.page.PageHead.{PageHead}
 use Rattle.keep_core.specs.declared.page.SitePage.{SitePage}
 use Rattle.keep_core.specs.declared.tables.KeptPage.{KeptPage}

@@ -2,7 +2,7 @@
 use Rattle.std.specs.Prelude.{◌≡◌, ℕ, ◌≤◌, List, length, Bool, true, Option, Some, None}
 use Rattle.std.specs.List.{All, AllPairs, list_any}
 use Rattle.snap_tree.specs.Well.{IsWell}
-use Rattle.judge_core.specs.Books.{Book}
+use Rattle.rule_core.specs.Books.{Book}
 use Rattle.judge_core.specs.Outcomes.{outcomes}
 use Rattle.keep_core.specs.declared.member.Member.{Member}
 use Rattle.keep_core.specs.declared.change.Change.{Change}

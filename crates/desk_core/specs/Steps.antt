@@ -1,6 +1,6 @@
 -- The machine: one request is one step, from what is kept to what is kept after it, with a reply.
 use Rattle.std.specs.Prelude.{ℕ, List, length, Option, Ok, Err}
-use Rattle.judge_core.specs.Books.{Book}
+use Rattle.rule_core.specs.Books.{Book}
 use Rattle.desk_core.specs.declared.command.Command.{Command}
 use Rattle.desk_core.specs.declared.command.Command.TheVariants as command
 use Rattle.desk_core.specs.declared.refusal.Needed.TheVariants as needed

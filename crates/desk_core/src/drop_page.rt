@@ -3,7 +3,7 @@ ghost use Rattle.desk_core.specs.declared.command.Command.TheVariants.{DropPage}
 ghost use Rattle.desk_core.specs.Pages.{drop_page};
 ghost use Rattle.keep_core.specs.Names.{is_name};
 ghost use Rattle.desk_core.specs.Serving.{Agrees, Decides};
-ghost use Rattle.judge_core.specs.Books.{Book};
+ghost use Rattle.rule_core.specs.Books.{Book};
 
 use crate::decided::Decided;
 use crate::look::find;

@@ -49,11 +49,10 @@ fn edit_there<B: RuleBook>(
     requires some { 0 < length books.old }
     requires revision { has_revisions site.now.counter 1 ≡ true }
     requires current { sent.rev ≡ kept.now.page.head.rev }
-    ensures decided { Agrees ⊥ result
-        (edit_page (record { infos = B.infos; means = B.means }) sent.site caller.now sent.page sent.rev edits.now
+    ensures decided { Agrees ⊥ result (edit_page B.book sent.site caller.now sent.page sent.rev edits.now
         site.now kept.now) }
     ensures counted { sum_by B.calls books.new ≤ sum_by B.calls books.old
-        + edit_judgings (record { infos = B.infos; means = B.means }) edits.now kept.now }
+        + edit_judgings B.book edits.now kept.now }
     ensures others { drop 1 books.new ≡ drop 1 books.old }
 {
     match edit_tree(alloc, &kept.page.tree, edits) {
@@ -76,11 +75,10 @@ fn decide<B: RuleBook>(
     kept: &PageState,
 ) -> Result<Decided, Refusal>
     requires { 0 < length books.old }
-    ensures decided { Agrees ⊥ result
-        (edit_page (record { infos = B.infos; means = B.means }) sent.site caller.now sent.page sent.rev edits.now
+    ensures decided { Agrees ⊥ result (edit_page B.book sent.site caller.now sent.page sent.rev edits.now
         site.now kept.now) }
     ensures counted { sum_by B.calls books.new ≤ sum_by B.calls books.old
-        + edit_judgings (record { infos = B.infos; means = B.means }) edits.now kept.now }
+        + edit_judgings B.book edits.now kept.now }
     ensures others { drop 1 books.new ≡ drop 1 books.old }
 {
     if !has_revision(site.counter) {
@@ -110,11 +108,11 @@ pub fn edit_page<K: Keeper, B: RuleBook>(
     requires some { 0 < length books.old }
     requires site { IsTrue (is_name sent.site) }
     requires page { IsTrue (is_name sent.page) }
-    ensures decides { Decides (record { infos = B.infos; means = B.means })
+    ensures decides { Decides B.book
         (record { caller = caller.now; command = EditPage sent.site sent.page sent.rev edits })
         (K.tables keeper.old) (K.tables keeper.new) (K.faults keeper.old) (K.faults keeper.new) result }
     ensures counted { (t : Tables) → K.tables keeper.new ≡ Some t → sum_by B.calls books.new ≤ sum_by B.calls books.old
-        + command_judgings (record { infos = B.infos; means = B.means }) (EditPage sent.site sent.page sent.rev edits)
+        + command_judgings B.book (EditPage sent.site sent.page sent.rev edits)
         (site_at sent.site (state_of t)) }
     ensures others { drop 1 books.new ≡ drop 1 books.old }
 {

@@ -47,10 +47,10 @@ pub fn handle<R: Threads + Sync, K: Keeper, B: RuleBook + Send>(
     command: Command,
 ) -> Reply
     requires some { 0 < length books.old }
-    requires fits { FitsRequest (record { infos = B.infos; means = B.means }) (record { caller = caller.now; command = command }) }
-    ensures served { Serves (record { infos = B.infos; means = B.means }) (record { caller = caller.now; command = command })
+    requires fits { FitsRequest B.book (record { caller = caller.now; command = command }) }
+    ensures served { Serves B.book (record { caller = caller.now; command = command })
         (K.tables keeper.old) (K.tables keeper.new) (K.faults keeper.old) (K.faults keeper.new) result }
-    ensures counted { Costs (record { infos = B.infos; means = B.means }) command
+    ensures counted { Costs B.book command
         (K.tables keeper.old) (K.tables keeper.new) (sum_by B.calls books.old) (sum_by B.calls books.new) }
     ensures others { UsesFirst command books.old books.new }
 {
@@ -71,10 +71,10 @@ fn decide<R: Threads + Sync, K: Keeper, B: RuleBook + Send>(
     command: Command,
 ) -> Result<Decided, Refusal>
     requires some { 0 < length books.old }
-    requires fits { FitsRequest (record { infos = B.infos; means = B.means }) (record { caller = caller.now; command = command }) }
-    ensures decided { Decides (record { infos = B.infos; means = B.means }) (record { caller = caller.now; command = command })
+    requires fits { FitsRequest B.book (record { caller = caller.now; command = command }) }
+    ensures decided { Decides B.book (record { caller = caller.now; command = command })
         (K.tables keeper.old) (K.tables keeper.new) (K.faults keeper.old) (K.faults keeper.new) result }
-    ensures counted { Costs (record { infos = B.infos; means = B.means }) command
+    ensures counted { Costs B.book command
         (K.tables keeper.old) (K.tables keeper.new) (sum_by B.calls books.old) (sum_by B.calls books.new) }
     ensures others { UsesFirst command books.old books.new }
 {

@@ -43,11 +43,9 @@ pub fn import<R: Threads + Sync, K: Keeper, B: RuleBook + Send>(
     requires some { 0 < length books.old }
     requires site { IsTrue (is_name site) }
     requires entries { FitsEntries entries }
-    ensures decides { Decides (record { infos = B.infos; means = B.means })
-        (record { caller = caller.now; command = Import site entries })
+    ensures decides { Decides B.book (record { caller = caller.now; command = Import site entries })
         (K.tables keeper.old) (K.tables keeper.new) (K.faults keeper.old) (K.faults keeper.new) result }
-    ensures counted { sum_by B.calls books.new ≤ sum_by B.calls books.old
-        + import_judgings (record { infos = B.infos; means = B.means }) entries }
+    ensures counted { sum_by B.calls books.new ≤ sum_by B.calls books.old + import_judgings B.book entries }
 {
     match arrive(alloc, keeper, caller, &site, entries) {
         Ok(arrival) => decide(rt, alloc, books, caller, site, arrival),
@@ -66,10 +64,10 @@ fn decide<R: Threads + Sync, B: RuleBook + Send>(
     arrival: Arrival,
 ) -> Result<Decided, Refusal>
     requires { 0 < length books.old }
-    ensures decided { Agrees ⊥ result (import_placed (record { infos = B.infos; means = B.means }) site caller.now
+    ensures decided { Agrees ⊥ result (import_placed B.book site caller.now
         arrival.counter arrival.pages arrival.placed) }
     ensures counted { sum_by B.calls books.new ≤ sum_by B.calls books.old
-        + import_judgings (record { infos = B.infos; means = B.means }) (entries_of arrival.placed) }
+        + import_judgings B.book (entries_of arrival.placed) }
 {
     if !has_room_for(new_among(arrival.placed.as_slice()), arrival.pages) {
         return Err(Refusal::PageLimit {
@@ -153,10 +151,10 @@ fn import_there<R: Threads + Sync, B: RuleBook + Send>(
     requires room { has_room_for (new_among arrival.placed) arrival.pages ≡ true }
     requires revisions { has_revisions arrival.counter (length arrival.placed) ≡ true }
     requires fresh { stale_among arrival.placed ≡ None }
-    ensures decided { Agrees ⊥ result (import_placed (record { infos = B.infos; means = B.means }) site caller.now
+    ensures decided { Agrees ⊥ result (import_placed B.book site caller.now
         arrival.counter arrival.pages arrival.placed) }
     ensures counted { sum_by B.calls books.new ≤ sum_by B.calls books.old
-        + import_judgings (record { infos = B.infos; means = B.means }) (entries_of arrival.placed) }
+        + import_judgings B.book (entries_of arrival.placed) }
 {
     let counter = arrival.counter + arrival.placed.len() as u64;
     let heads = heads_from(alloc, caller, arrival.counter, arrival.placed.as_slice())?;
@@ -181,10 +179,10 @@ fn store_all<R: Threads + Sync, B: RuleBook + Send>(
     built: Built,
 ) -> Result<Decided, Refusal>
     requires { 0 < length books.old }
-    ensures decided { Agrees ⊥ result (storing_all (record { infos = B.infos; means = B.means }) site counter
-        (puts_by (record { infos = B.infos; means = B.means }) built.heads built.works)) }
+    ensures decided { Agrees ⊥ result (storing_all B.book site counter
+        (puts_by B.book built.heads built.works)) }
     ensures counted { sum_by B.calls books.new ≤ sum_by B.calls books.old
-        + pages_judgings (record { infos = B.infos; means = B.means }) built.works }
+        + pages_judgings B.book built.works }
 {
     let outcomes = audit_pages(rt, alloc, books, built.works.as_slice())?;
     let pages = put_all(alloc, built, outcomes)?;
@@ -207,8 +205,7 @@ fn stored_all<B: RuleBook>(
     book: &B,
     pages: &[PagePut],
 ) -> Result<Vec<Stored>, OutOfMemory>
-    ensures { IfOk result
-        (λ told. told.items ≡ map (stored (record { infos = B.infos; means = B.means })) pages.now) }
+    ensures { IfOk result (λ told. told.items ≡ map (stored B.book) pages.now) }
 {
     let mut told = Vec::with_capacity(alloc, pages.len())?;
     for put in pages {

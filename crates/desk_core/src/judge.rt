@@ -48,7 +48,7 @@ pub fn judge<K: Keeper, B: RuleBook>(
 ) -> Result<Decided, Refusal>
     requires site { IsTrue (is_name site) }
     requires page { IsTrue (is_name page) }
-    ensures { Decides (record { infos = B.infos; means = B.means })
+    ensures { Decides B.book
         (record { caller = caller.now; command = Judge site page said.rule said.node said.verdict said.digest said.note })
         (K.tables keeper.old) (K.tables keeper.new) (K.faults keeper.old) (K.faults keeper.new) result }
 {
@@ -68,8 +68,7 @@ fn decide<B: RuleBook>(
     said: Said,
     kept: KeptPage,
 ) -> Result<Decided, Refusal>
-    ensures agrees { IsTrueTo (record { infos = B.infos; means = B.means }) kept
-        → Agrees ⊥ result (judge (record { infos = B.infos; means = B.means }) site caller.now page
+    ensures agrees { IsTrueTo B.book kept → Agrees ⊥ result (judge B.book site caller.now page
         said.rule said.node said.verdict said.digest said.note (page_state kept)) }
     ensures no_fault { IsErrOf result KeeperFault → ⊥ }
     ensures adds { IfOk result (λ d. IfSome d.change (AddsTo site page)) }
@@ -163,8 +162,8 @@ fn added<B: RuleBook>(
     found: &Outcomes,
 ) -> Result<Decided, Refusal>
     ensures agrees { (kept : PageState) → js ≡ kept.judgements
-        → found.now.rows ≡ outcomes (record { infos = B.infos; means = B.means }) kept.page.tree js
-        → Agrees ⊥ result (added (record { infos = B.infos; means = B.means }) site page judgement kept) }
+        → found.now.rows ≡ outcomes B.book kept.page.tree js
+        → Agrees ⊥ result (added B.book site page judgement kept) }
     ensures no_fault { IsErrOf result KeeperFault → ⊥ }
     ensures adds { IfOk result (λ d. IfSome d.change (AddsTo site page)) }
     ensures accepted { Accepts result }
@@ -217,10 +216,8 @@ fn outcomes_with<B: RuleBook>(
     js: List<Judgement>,
     found: &Outcomes,
 ) -> Result<Outcomes, OutOfMemory>
-    ensures { (tree : Document)
-        → found.now.rows ≡ outcomes (record { infos = B.infos; means = B.means }) tree js
-        → IfOk result (λ o. o.rows
-        ≡ outcomes (record { infos = B.infos; means = B.means }) tree (js ++ judgement.now ∷ [])) }
+    ensures { (tree : Document) → found.now.rows ≡ outcomes B.book tree js → IfOk result (λ o. o.rows
+        ≡ outcomes B.book tree (js ++ judgement.now ∷ [])) }
 {
     let mut js = js.into_vec();
     js.push(judgement.copy(alloc)?)?;

@@ -1,6 +1,6 @@
 ghost use Rattle.std.specs.Prelude.{◌≡◌, ◌<◌, ◌≤◌, [], List, ℕ, Ok, IfSome};
 ghost use Rattle.std.specs.List.{All};
-ghost use Rattle.judge_core.specs.Books.{Book};
+ghost use Rattle.rule_core.specs.Books.{Book};
 ghost use Rattle.keep_core.specs.declared.change.Change.{Change};
 ghost use Rattle.keep_core.specs.Tables.{Tables};
 ghost use Rattle.keep_core.specs.Changes as tables;

@@ -1,5 +1,5 @@
 ghost use Rattle.std.specs.Prelude.{◌≡◌, None, IsTrue, IfOk};
-ghost use Rattle.judge_core.specs.Books.{Book};
+ghost use Rattle.rule_core.specs.Books.{Book};
 ghost use Rattle.named_rows.specs.ByName.{IsInOrder};
 ghost use Rattle.keep_core.specs.Names.{is_name};
 ghost use Rattle.keep_core.specs.Fits.{FitsSite};

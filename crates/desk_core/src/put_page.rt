@@ -32,8 +32,7 @@ fn storing<B: RuleBook>(
     site: Text,
     put: PagePut,
 ) -> Result<Decided, Refusal>
-    ensures { Agrees ⊥ result
-        (storing (record { infos = B.infos; means = B.means }) site put.page.head.rev put) }
+    ensures { Agrees ⊥ result (storing B.book site put.page.head.rev put) }
 {
     let stored = stored(alloc, book, &put)?;
     let counter = put.page.head.rev;
@@ -61,10 +60,8 @@ pub fn renewed<B: RuleBook>(
 ) -> Result<Decided, Refusal>
     requires some { 0 < length books.old }
     requires room { counter < MOST_REVISION }
-    ensures decided { Agrees ⊥ result
-        (renewed (record { infos = B.infos; means = B.means }) sent.site caller.now sent.page counter js.now tree) }
-    ensures counted { sum_by B.calls books.new
-        ≤ sum_by B.calls books.old + judgings (record { infos = B.infos; means = B.means }) tree }
+    ensures decided { Agrees ⊥ result (renewed B.book sent.site caller.now sent.page counter js.now tree) }
+    ensures counted { sum_by B.calls books.new ≤ sum_by B.calls books.old + judgings B.book tree }
     ensures others { drop 1 books.new ≡ drop 1 books.old }
 {
     let put = page_put(alloc, books, sent.page, counter + 1, caller, tree, js)?;
@@ -140,11 +137,9 @@ fn put_there<B: RuleBook>(
     requires room { has_room survey.now.kept survey.now.pages ≡ true }
     requires revision { has_revisions survey.now.site.counter 1 ≡ true }
     requires current { sent.rev ≡ rev_of survey.now.kept }
-    ensures decided { Agrees ⊥ result
-        (put_page (record { infos = B.infos; means = B.means }) sent.site caller.now sent.page sent.rev raw
+    ensures decided { Agrees ⊥ result (put_page B.book sent.site caller.now sent.page sent.rev raw
         survey.now.site survey.now.kept survey.now.pages) }
-    ensures counted { sum_by B.calls books.new ≤ sum_by B.calls books.old
-        + put_judgings (record { infos = B.infos; means = B.means }) raw }
+    ensures counted { sum_by B.calls books.new ≤ sum_by B.calls books.old + put_judgings B.book raw }
     ensures others { drop 1 books.new ≡ drop 1 books.old }
 {
     match build(alloc, None, raw) {
@@ -166,11 +161,9 @@ fn decide<B: RuleBook>(
     survey: &Survey,
 ) -> Result<Decided, Refusal>
     requires { 0 < length books.old }
-    ensures decided { Agrees ⊥ result
-        (put_page (record { infos = B.infos; means = B.means }) sent.site caller.now sent.page sent.rev raw
+    ensures decided { Agrees ⊥ result (put_page B.book sent.site caller.now sent.page sent.rev raw
         survey.now.site survey.now.kept survey.now.pages) }
-    ensures counted { sum_by B.calls books.new ≤ sum_by B.calls books.old
-        + put_judgings (record { infos = B.infos; means = B.means }) raw }
+    ensures counted { sum_by B.calls books.new ≤ sum_by B.calls books.old + put_judgings B.book raw }
     ensures others { drop 1 books.new ≡ drop 1 books.old }
 {
     if !has_room(&survey.kept, survey.pages) {
@@ -206,11 +199,10 @@ pub fn put_page<K: Keeper, B: RuleBook>(
     requires site { IsTrue (is_name sent.site) }
     requires page { IsTrue (is_name sent.page) }
     requires address { IsWebAddress raw.address }
-    ensures decides { Decides (record { infos = B.infos; means = B.means })
+    ensures decides { Decides B.book
         (record { caller = caller.now; command = PutPage sent.site sent.page sent.rev raw })
         (K.tables keeper.old) (K.tables keeper.new) (K.faults keeper.old) (K.faults keeper.new) result }
-    ensures counted { sum_by B.calls books.new ≤ sum_by B.calls books.old
-        + put_judgings (record { infos = B.infos; means = B.means }) raw }
+    ensures counted { sum_by B.calls books.new ≤ sum_by B.calls books.old + put_judgings B.book raw }
     ensures others { drop 1 books.new ≡ drop 1 books.old }
 {
     match survey_site(alloc, keeper, caller, &sent.site, &sent.page) {

@@ -1,5 +1,5 @@
 ghost use Rattle.std.specs.Prelude.{◌≡◌, None, IfOk};
-ghost use Rattle.judge_core.specs.Books.{Book};
+ghost use Rattle.rule_core.specs.Books.{Book};
 ghost use Rattle.desk_core.specs.declared.command.Command.TheVariants.{GetPage, GetNames};
 ghost use Rattle.desk_core.specs.declared.reply.Reply.TheVariants as reply;
 ghost use Rattle.desk_core.specs.Reading.{shown_as, asked_as};

@@ -1,5 +1,5 @@
 ghost use Rattle.std.specs.Prelude.{◌≡◌, None};
-ghost use Rattle.judge_core.specs.Books.{Book};
+ghost use Rattle.rule_core.specs.Books.{Book};
 ghost use Rattle.desk_core.specs.Serving.{Decides};
 ghost use Rattle.desk_core.specs.Sheets.{sheet_asked, sheet_reply, ShowsPage, ShowsPages, ReadsSheet};
 

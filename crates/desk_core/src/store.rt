@@ -19,10 +19,8 @@ pub fn audit_by_first<B: RuleBook>(
     js: &[Judgement],
 ) -> Result<Outcomes, OutOfMemory>
     requires { 0 < length books.old }
-    ensures rows { IfOk result
-        (λ o. o.rows ≡ outcomes (record { infos = B.infos; means = B.means }) tree.now js.now) }
-    ensures counted { sum_by B.calls books.new
-        ≤ sum_by B.calls books.old + judgings (record { infos = B.infos; means = B.means }) tree.now }
+    ensures rows { IfOk result (λ o. o.rows ≡ outcomes B.book tree.now js.now) }
+    ensures counted { sum_by B.calls books.new ≤ sum_by B.calls books.old + judgings B.book tree.now }
     ensures others { drop 1 books.new ≡ drop 1 books.old }
 {
     audit_page(alloc, &mut books[0], tree, js)
@@ -39,10 +37,8 @@ pub fn page_put<B: RuleBook>(
     js: &[Judgement],
 ) -> Result<PagePut, OutOfMemory>
     requires { 0 < length books.old }
-    ensures put { IfOk result (λ put.
-        put ≡ page_put (record { infos = B.infos; means = B.means }) page rev hand.now tree js.now) }
-    ensures counted { sum_by B.calls books.new
-        ≤ sum_by B.calls books.old + judgings (record { infos = B.infos; means = B.means }) tree }
+    ensures put { IfOk result (λ put. put ≡ page_put B.book page rev hand.now tree js.now) }
+    ensures counted { sum_by B.calls books.new ≤ sum_by B.calls books.old + judgings B.book tree }
     ensures others { drop 1 books.new ≡ drop 1 books.old }
 {
     let outcomes = audit_by_first(alloc, books, &tree, js)?;
@@ -56,8 +52,7 @@ pub fn page_put<B: RuleBook>(
 
 /// What is said of a page that is put.
 pub fn stored<B: RuleBook>(alloc: Global, book: &B, put: &PagePut) -> Result<Stored, OutOfMemory>
-    ensures { IfOk result
-        (λ s. s ≡ stored (record { infos = B.infos; means = B.means }) put.now) }
+    ensures { IfOk result (λ s. s ≡ stored B.book put.now) }
 {
     let infos = infos_of(alloc, book)?;
     Ok(Stored {

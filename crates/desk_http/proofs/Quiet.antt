@@ -17,9 +17,9 @@ use Rattle.snap_edit.specs.declared.fault.EditFault.TheVariants as fault
 use Rattle.snap_edit.specs.Edits.{edited_all}
 use Rattle.rule_core.specs.declared.info.RuleNo.{RuleNo}
 use Rattle.rule_core.specs.Brief.{digest}
+use Rattle.rule_core.specs.Books.{Book}
 use Rattle.judge_core.specs.declared.judgement.Judgement.{Judgement}
 use Rattle.judge_core.specs.declared.outcomes.OutRow.{OutRow}
-use Rattle.judge_core.specs.Books.{Book}
 use Rattle.judge_core.specs.Composites.{is_open}
 use Rattle.judge_core.specs.Outcomes.{outcomes}
 use Rattle.judge_core.specs.RowLookups.{row_at}

@@ -1,12 +1,14 @@
 -- How a request is answered: by the machine's reply, or for want of memory, where nothing changed.
-use Rattle.std.proofs.Common.{◌≡◌, ℕ, ◌+◌, ◌<◌, ◌≤◌, ◌⊎◌, inl, inr, List, ◌++◌, map, Bool, true, false, Option, Some, Result, Ok, Err, OnOk, OnErr, refl, sym, ap, ◌∙◌, subst, arith}
+use Rattle.std.proofs.Common.{◌≡◌, ℕ, ◌+◌, ◌<◌, ◌≤◌, ◌⊎◌, inl, inr, List, ◌++◌, take, drop, map, Bool, true, false, Option, Some, Result, Ok, Err, OnOk, OnErr, refl, sym, ap, ◌∙◌, subst, arith}
 use Rattle.std.specs.Prelude.{sum, sum_by}
-use Rattle.std.proofs.lemmas.List.{drop-map}
+use Rattle.std.proofs.lemmas.List.{drop-map, take-append-drop}
 use Rattle.std.proofs.lemmas.List.Sums.{sum-map}
 use Rattle.counts.specs.Counts.{Rose}
-use Rattle.links.specs.declared.failed.Failed.{Failed}
-use Rattle.links.specs.Wires.{Wire, Wrote, WroteFront}
-use Rattle.judge_core.specs.Books.{Book}
+use Rattle.streams.specs.declared.failed.Failed.{Failed}
+use Rattle.streams.specs.Streams.{Wrote, WroteFront}
+use Rattle.streams.proofs.Told.{was_written}
+use Rattle.links.specs.Wires.{Wire, extended}
+use Rattle.rule_core.specs.Books.{Book}
 use Rattle.keep_core.specs.Tables.{Tables}
 use Rattle.keep_core.specs.Keeping.{Stays}
 use Rattle.desk_core.specs.declared.command.Command.{Command}
@@ -218,18 +220,19 @@ asked_so book m asked closes old new from to calls now_calls bytes made so = rec
 
 -- ---- what is written
 
-wrote_all : {A : Type 0} (result : Result A Failed) (due bytes : List ℕ) (old new : Option Wire) → bytes ≡ due → OnOk result (Wrote bytes old new) → OnErr result (WroteFront bytes old new) →
+wrote_all : {A : Type 0} (result : Result A Failed) (due bytes : List ℕ) (old new : Option Wire) → bytes ≡ due → OnOk result (Wrote extended bytes old new) → OnErr result (WroteFront extended bytes old new) →
     WritesAll result due old new
 wrote_all (Ok u) due bytes old new same wrote broke w is =
-    let z = wrote w is in
+    let z = was_written extended bytes old new w wrote is in
     (z.0, z.1, sym (ap (λ (x : Wire). x.brought) z.2), sym (ap (λ (x : Wire). x.left) z.2), ap (λ (x : Wire). x.written) z.2 ∙ ap (λ l. z.0.written ++ l) same)
 wrote_all (Err e) due bytes old new same wrote broke w is =
-    let z = broke w is in
-    (z.0, z.1, sym (ap (λ (x : Wire). x.brought) z.5), sym (ap (λ (x : Wire). x.left) z.5), (z.2, z.3, z.4 ∙ same, ap (λ (x : Wire). x.written) z.5))
+    let n = broke.0 in
+    let z = was_written extended (take n bytes) old new w broke.2 is in
+    (z.0, z.1, sym (ap (λ (x : Wire). x.brought) z.2), sym (ap (λ (x : Wire). x.left) z.2), (take n bytes, drop n bytes, take-append-drop n bytes ∙ same, ap (λ (x : Wire). x.written) z.2))
 
 -- an item was answered, and the answer written, or a front of it
 pub item_served : {A : Type 0} (book : Book) (i : Item) (result : Result A Failed) (wire0 wire1 : Option Wire) (kept0 kept1 : Option Tables) (f0 f1 : ℕ) (c0 c1 : List ℕ) (bytes : List ℕ) →
-    Responds book i.sent i.closes kept0 kept1 f0 f1 c0 c1 bytes → OnOk result (Wrote bytes wire0 wire1) → OnErr result (WroteFront bytes wire0 wire1) →
+    Responds book i.sent i.closes kept0 kept1 f0 f1 c0 c1 bytes → OnOk result (Wrote extended bytes wire0 wire1) → OnErr result (WroteFront extended bytes wire0 wire1) →
     ServesItem book i result wire0 kept0 wire1 kept1 f0 f1 c0 c1
 item_served book i result wire0 wire1 kept0 kept1 f0 f1 c0 c1 bytes so wrote broke = record {
   answer = so.answer;

@@ -2,7 +2,7 @@
 use Rattle.std.proofs.Common.{◌≡◌, ℕ, ◌+◌, ◌≤◌, inl, inr, List, [], ◌∷◌, ◌++◌, length, true, false, refl, sym, ap, ◌∙◌, append_assoc, append-nil, arith, subst}
 use Rattle.std.specs.List.{AllByRecursion}
 use Rattle.rule_core.specs.declared.info.RuleInfo.{RuleInfo}
-use Rattle.judge_core.specs.Books.{Book}
+use Rattle.rule_core.specs.Books.{Book}
 use Rattle.desk_core.specs.State.{State}
 use Rattle.http_messages.specs.declared.item.Item.{Item}
 use Rattle.http_messages.specs.Talk.{End, ended, cut, closed, going, IsNext, stops, gives, Talk}

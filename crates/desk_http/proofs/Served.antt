@@ -1,8 +1,10 @@
 -- A link that is served item by item: what is told of it after one step more.
-use Rattle.std.proofs.Common.{◌≡◌, ℕ, ◌<◌, inl, inr, List, [], ◌∷◌, ◌++◌, length, Bool, true, false, Option, Some, Result, Ok, Err, refl, sym, ap, ◌∙◌, append_assoc, append-nil, subst}
-use Rattle.links.specs.declared.failed.Failed.{Failed}
-use Rattle.links.specs.Wires.{Wire}
-use Rattle.judge_core.specs.Books.{Book}
+use Rattle.std.proofs.Common.{◌≡◌, ℕ, ◌<◌, inl, inr, List, [], ◌∷◌, ◌++◌, length, take, drop, Bool, true, false, Option, Some, Result, Ok, Err, refl, sym, ap, ◌∙◌, append_assoc, append-nil, subst}
+use Rattle.std.proofs.lemmas.List.{take-append-drop}
+use Rattle.streams.specs.declared.failed.Failed.{Failed}
+use Rattle.streams.proofs.Told.{was_written}
+use Rattle.links.specs.Wires.{Wire, extended}
+use Rattle.rule_core.specs.Books.{Book}
 use Rattle.keep_core.specs.Tables.{Tables}
 use Rattle.http_messages.specs.declared.item.Item.{Item}
 use Rattle.http_messages.specs.declared.reading.Got.TheVariants as got
@@ -154,9 +156,11 @@ Writes_full bytes other v w = ⊥
 full_written : (bytes : List ℕ) (result : LinkEnd) (old new : Option Wire) → IsFull bytes result old new → (w : Wire) → new ≡ Some w →
     (v : Wire) × (old ≡ Some v) × (v.brought ≡ w.brought) × Writes_full bytes result v w
 full_written bytes end.Closed old new full w is =
-    let z = full w is in (z.0, z.1, sym (ap (λ (x : Wire). x.brought) z.2), ap (λ (x : Wire). x.written) z.2)
+    let z = was_written extended bytes old new w full is in (z.0, z.1, sym (ap (λ (x : Wire). x.brought) z.2), ap (λ (x : Wire). x.written) z.2)
 full_written bytes end.LinkFault old new full w is =
-    let z = full w is in (z.0, z.1, sym (ap (λ (x : Wire). x.brought) z.5), (z.2, z.3, z.4, ap (λ (x : Wire). x.written) z.5))
+    let n = full.0 in
+    let z = was_written extended (take n bytes) old new w full.2 is in
+    (z.0, z.1, sym (ap (λ (x : Wire). x.brought) z.2), (take n bytes, drop n bytes, take-append-drop n bytes, ap (λ (x : Wire). x.written) z.2))
 full_written bytes end.Ended old new full w is = absurd full
 full_written bytes end.Cut old new full w is = absurd full
 

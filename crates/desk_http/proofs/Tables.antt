@@ -1,6 +1,6 @@
 -- What is told of tables, over one call after another.
 use Rattle.std.proofs.Common.{ℕ, ◌+◌, ◌≤◌, List, [], ◌∷◌, ◌++◌, Option, refl, ◌∙◌, arith}
-use Rattle.judge_core.specs.Books.{Book}
+use Rattle.rule_core.specs.Books.{Book}
 use Rattle.keep_core.specs.Tables.{Tables}
 use Rattle.desk_core.specs.State.{state_of}
 use Rattle.http_messages.specs.declared.item.Item.{Item}

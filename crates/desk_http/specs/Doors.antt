@@ -3,7 +3,7 @@ use Rattle.std.specs.Prelude.{◌≡◌, ℕ, ◌+◌, List, [], ◌∷◌, ◌+
 use Rattle.links.specs.Wires.{Wire}
 use Rattle.links.specs.Doors.{Doorway}
 use Rattle.rule_core.specs.declared.info.RuleInfo.{RuleInfo}
-use Rattle.judge_core.specs.Books.{Book}
+use Rattle.rule_core.specs.Books.{Book}
 use Rattle.keep_core.specs.Tables.{Tables}
 use Rattle.http_messages.specs.declared.item.Item.{Item}
 use Rattle.http_replies.specs.declared.answer.Answer.{Answer}

@@ -3,10 +3,11 @@
 use Rattle.std.specs.Prelude.{◌≡◌, ℕ, ◌+◌, ◌≤◌, ◌⊎◌, Bool, List, ◌++◌, length, drop, sum, Option, Some, Result, Ok, Err}
 use Rattle.std.specs.List.{AllByRecursion}
 use Rattle.counts.specs.Counts.{Rose}
-use Rattle.links.specs.declared.failed.Failed.{Failed}
-use Rattle.links.specs.Wires.{Wire, Wrote, WroteFront}
+use Rattle.streams.specs.declared.failed.Failed.{Failed}
+use Rattle.streams.specs.Streams.{Wrote, WroteFront}
+use Rattle.links.specs.Wires.{Wire, extended}
 use Rattle.rule_core.specs.declared.info.RuleInfo.{RuleInfo}
-use Rattle.judge_core.specs.Books.{Book}
+use Rattle.rule_core.specs.Books.{Book}
 use Rattle.keep_core.specs.Tables.{Tables}
 use Rattle.keep_core.specs.Keeping.{Stays}
 use Rattle.desk_core.specs.declared.refusal.Refusal.{Refusal}
@@ -146,6 +147,6 @@ SoFar infos held bytes left items said out = Talk bytes items (going (held ++ le
 
 -- the answer for want of memory was written, after which the link is closed; or a front of it, where the link failed
 abbrev pub IsFull : List ℕ → LinkEnd → Option Wire → Option Wire → Type 0
-IsFull full end.Closed old new = Wrote full old new
-IsFull full end.LinkFault old new = WroteFront full old new
+IsFull full end.Closed old new = Wrote extended full old new
+IsFull full end.LinkFault old new = WroteFront extended full old new
 IsFull full other old new = ⊥

@@ -34,7 +34,7 @@ pub(crate) fn answer<R: Threads + Sync, K: Keeper, B: RuleBook + Send>(
     closes: bool,
 ) -> Printed
     requires some { 0 < length books.old }
-    ensures { Responds (record { infos = B.infos; means = B.means }) sent.now closes (K.tables keeper.old) (K.tables keeper.new)
+    ensures { Responds B.book sent.now closes (K.tables keeper.old) (K.tables keeper.new)
         (K.faults keeper.old) (K.faults keeper.new) (map B.calls books.old) (map B.calls books.new) (bytes_of result) }
 {
     match sent {
@@ -53,7 +53,7 @@ fn answer_message<R: Threads + Sync, K: Keeper, B: RuleBook + Send>(
     closes: bool,
 ) -> Printed
     requires some { 0 < length books.old }
-    ensures { Responds (record { infos = B.infos; means = B.means }) (came.Asked message.now) closes (K.tables keeper.old) (K.tables keeper.new)
+    ensures { Responds B.book (came.Asked message.now) closes (K.tables keeper.old) (K.tables keeper.new)
         (K.faults keeper.old) (K.faults keeper.new) (map B.calls books.old) (map B.calls books.new) (bytes_of result) }
 {
     match request_of(
@@ -71,7 +71,7 @@ fn answer_message<R: Threads + Sync, K: Keeper, B: RuleBook + Send>(
 
 // Answers a refusal, or the want of memory for printing it.
 fn refuse<B: RuleBook>(alloc: Global, book: &B, answer: Answer, closes: bool) -> Printed
-    ensures { IsEither (answer_bytes B.infos answer closes) (answer_bytes B.infos no_memory closes) (bytes_of result) }
+    ensures { IsEither (answer_bytes B.book.infos answer closes) (answer_bytes B.book.infos no_memory closes) (bytes_of result) }
 {
     let printed = print_or_full(alloc, book, &answer, closes);
     discard(answer);
@@ -79,7 +79,7 @@ fn refuse<B: RuleBook>(alloc: Global, book: &B, answer: Answer, closes: bool) ->
 }
 
 fn print_or_full<B: RuleBook>(alloc: Global, book: &B, answer: &Answer, closes: bool) -> Printed
-    ensures { IsEither (answer_bytes B.infos answer.now closes) (answer_bytes B.infos no_memory closes) (bytes_of result) }
+    ensures { IsEither (answer_bytes B.book.infos answer.now closes) (answer_bytes B.book.infos no_memory closes) (bytes_of result) }
 {
     match print_alone(alloc, book, answer, closes) {
         Ok(bytes) => Printed::Own(bytes),
@@ -93,7 +93,7 @@ fn print_alone<B: RuleBook>(
     answer: &Answer,
     closes: bool,
 ) -> Result<Vec<u8>, OutOfMemory>
-    ensures { IfOk result (λ bytes. bytes.items ≡ answer_bytes B.infos answer.now closes) }
+    ensures { IfOk result (λ bytes. bytes.items ≡ answer_bytes B.book.infos answer.now closes) }
 {
     let infos = infos_of(alloc, book)?;
     print(alloc, Vec::new(alloc), infos.as_slice(), answer, closes)
@@ -107,7 +107,7 @@ struct Paper {
 }
 
 fn paper_for<B: RuleBook>(alloc: Global, book: &B) -> Result<Paper, OutOfMemory>
-    ensures infos { IfOk result (λ paper. paper.infos.items ≡ B.infos) }
+    ensures infos { IfOk result (λ paper. paper.infos.items ≡ B.book.infos) }
     ensures empty { IfOk result (λ paper. paper.room.items ≡ []) }
     ensures room { IfOk result (λ paper. MOST_REPLY ≤ vec_capacity paper.room) }
 {
@@ -127,8 +127,8 @@ fn answer_request<R: Threads + Sync, K: Keeper, B: RuleBook + Send>(
     closes: bool,
 ) -> Printed
     requires some { 0 < length books.old }
-    requires fits { FitsRequest (record { infos = B.infos; means = B.means }) (as_request asked) }
-    ensures { RespondsTo (record { infos = B.infos; means = B.means }) (as_request asked) closes (K.tables keeper.old) (K.tables keeper.new)
+    requires fits { FitsRequest B.book (as_request asked) }
+    ensures { RespondsTo B.book (as_request asked) closes (K.tables keeper.old) (K.tables keeper.new)
         (K.faults keeper.old) (K.faults keeper.new) (map B.calls books.old) (map B.calls books.new) (bytes_of result) }
 {
     match paper_for(alloc, &books[0]) {
@@ -148,11 +148,11 @@ fn hand_over<R: Threads + Sync, K: Keeper, B: RuleBook + Send>(
     closes: bool,
 ) -> Printed
     requires some { 0 < length books.old }
-    requires fits { FitsRequest (record { infos = B.infos; means = B.means }) (as_request asked) }
-    requires infos { paper.infos.items ≡ B.infos }
+    requires fits { FitsRequest B.book (as_request asked) }
+    requires infos { paper.infos.items ≡ B.book.infos }
     requires empty { paper.room.items ≡ [] }
     requires room { MOST_REPLY ≤ vec_capacity paper.room }
-    ensures { RespondsTo (record { infos = B.infos; means = B.means }) (as_request asked) closes (K.tables keeper.old) (K.tables keeper.new)
+    ensures { RespondsTo B.book (as_request asked) closes (K.tables keeper.old) (K.tables keeper.new)
         (K.faults keeper.old) (K.faults keeper.new) (map B.calls books.old) (map B.calls books.new) (bytes_of result) }
 {
     let Asked { caller, command } = asked;

@@ -1,8 +1,10 @@
 ghost use Rattle.std.specs.Prelude.{◌≡◌, OnOk, OnErr};
-ghost use Rattle.links.specs.Wires.{Wrote, WroteFront, Counts};
+ghost use Rattle.streams.specs.Streams.{Wrote, WroteFront, Counts};
+ghost use Rattle.links.specs.Wires.{extended};
 ghost use Rattle.desk_http.specs.Printed.{bytes_of};
 
-use links::{Failed, Link, write_all};
+use links::{Link, write_all};
+use streams::Failed;
 
 // The bytes of an answer: printed, or constant.
 #[derive(Drop)]
@@ -14,8 +16,8 @@ pub(crate) enum Printed {
 impl Printed {
     // Writes them.
     pub(crate) fn write<L: Link>(&self, link: &mut L) -> Result<(), Failed>
-        ensures wrote { OnOk result (Wrote (bytes_of self.now) (L.wire link.old) (L.wire link.new)) }
-        ensures broke_off { OnErr result (WroteFront (bytes_of self.now) (L.wire link.old) (L.wire link.new)) }
+        ensures wrote { OnOk result (Wrote extended (bytes_of self.now) (L.wire link.old) (L.wire link.new)) }
+        ensures broke_off { OnErr result (WroteFront extended (bytes_of self.now) (L.wire link.old) (L.wire link.new)) }
         ensures kept { L.reads link.new ≡ L.reads link.old }
         ensures counts { Counts (L.faults link.old) (L.faults link.new) result }
     {

@@ -1,6 +1,7 @@
 ghost use Rattle.std.specs.Prelude.{◌≡◌, ◌<◌, ◌≤◌, List, length, map, OnOk};
 ghost use Rattle.rule_core.specs.declared.info.RuleInfo.{RuleInfo};
-ghost use Rattle.links.specs.Wires.{Counts, IsUntouched};
+ghost use Rattle.streams.specs.Streams.{Counts};
+ghost use Rattle.links.specs.Wires.{IsUntouched};
 ghost use Rattle.links.specs.Doors.{TookBack};
 ghost use Rattle.desk_http.specs.Linking.{Finishes, CountsFaults, full};
 ghost use Rattle.desk_http.specs.Serving.{KeepsSound, ServesItem, Serves, Ends, IsFull};
@@ -12,10 +13,11 @@ use http_messages::{Got, Item, ReadFault, read_item};
 use http_replies::no_memory;
 use http_routes::Table;
 use keep_core::Keeper;
-use links::{Door, Failed, Link, write_all};
+use links::{Door, Link, write_all};
 use rule_core::RuleBook;
 use std::alloc::Global;
 use std::thread::Threads;
+use streams::Failed;
 
 /// Serves the links of a door until it gives none, one after the other, with at least one book. Each is
 /// given back to the door's log; one that failed doesn't end the service.
@@ -35,9 +37,9 @@ pub fn serve<R: Threads + Sync, D: Door, K: Keeper, B: RuleBook + Send>(
     books: &mut [B],
 ) -> Result<(), Failed>
     requires some { 0 < length books.old }
-    ensures served { ServesDoor (record { infos = B.infos; means = B.means }) D.Conn.wire D.Conn.faults (D.log door.old) (D.told door.old) (K.tables keeper.old)
+    ensures served { ServesDoor B.book D.Conn.wire D.Conn.faults (D.log door.old) (D.told door.old) (K.tables keeper.old)
         (D.log door.new) (D.told door.new) (K.tables keeper.new) (K.faults keeper.old) (K.faults keeper.new) (map B.calls books.old) (map B.calls books.new) }
-    ensures sound { KeepsSound (record { infos = B.infos; means = B.means }) (K.tables keeper.old) (K.tables keeper.new) }
+    ensures sound { KeepsSound B.book (K.tables keeper.old) (K.tables keeper.new) }
     ensures heard { (D.told door.new).heard ≡ (D.told door.old).heard }
     ensures given_back { (D.told door.new).out ≡ (D.told door.old).out }
     ensures all { OnOk result ((D.told door.new).allowed ≡ 0) }
@@ -67,9 +69,9 @@ fn serve_next<R: Threads + Sync, D: Door, K: Keeper, B: RuleBook + Send>(
     requires some { 0 < length books.old }
     requires out { 0 < (D.told door.old).out }
     requires untouched { IsUntouched (D.Conn.wire link) (D.Conn.faults link) }
-    ensures served { ServesOne (record { infos = B.infos; means = B.means }) D.Conn.wire D.Conn.faults (D.log door.old) (K.tables keeper.old)
+    ensures served { ServesOne B.book D.Conn.wire D.Conn.faults (D.log door.old) (K.tables keeper.old)
         (D.log door.new) (K.tables keeper.new) (K.faults keeper.old) (K.faults keeper.new) (map B.calls books.old) (map B.calls books.new) }
-    ensures sound { KeepsSound (record { infos = B.infos; means = B.means }) (K.tables keeper.old) (K.tables keeper.new) }
+    ensures sound { KeepsSound B.book (K.tables keeper.old) (K.tables keeper.new) }
     ensures took { TookBack (D.told door.old) (D.told door.new) }
     ensures kept { K.faults keeper.old ≤ K.faults keeper.new }
 {
@@ -96,9 +98,9 @@ pub fn serve_link<R: Threads + Sync, L: Link, K: Keeper, B: RuleBook + Send>(
     books: &mut [B],
 ) -> LinkEnd
     requires some { 0 < length books.old }
-    ensures served { Serves (record { infos = B.infos; means = B.means }) (Ends (Finishes B.infos result)) (L.wire link.old) (K.tables keeper.old)
+    ensures served { Serves B.book (Ends (Finishes B.book.infos result)) (L.wire link.old) (K.tables keeper.old)
         (L.wire link.new) (K.tables keeper.new) (K.faults keeper.old) (K.faults keeper.new) (map B.calls books.old) (map B.calls books.new) }
-    ensures sound { KeepsSound (record { infos = B.infos; means = B.means }) (K.tables keeper.old) (K.tables keeper.new) }
+    ensures sound { KeepsSound B.book (K.tables keeper.old) (K.tables keeper.new) }
     ensures faults { CountsFaults result (L.faults link.old) (L.faults link.new) }
     ensures never_falls { L.faults link.old ≤ L.faults link.new }
     ensures kept { K.faults keeper.old ≤ K.faults keeper.new }
@@ -117,9 +119,9 @@ fn serve_by<R: Threads + Sync, L: Link, K: Keeper, B: RuleBook + Send>(
     books: &mut [B],
 ) -> LinkEnd
     requires some { 0 < length books.old }
-    ensures served { Serves (record { infos = B.infos; means = B.means }) (Ends (Finishes B.infos result)) (L.wire link.old) (K.tables keeper.old)
+    ensures served { Serves B.book (Ends (Finishes B.book.infos result)) (L.wire link.old) (K.tables keeper.old)
         (L.wire link.new) (K.tables keeper.new) (K.faults keeper.old) (K.faults keeper.new) (map B.calls books.old) (map B.calls books.new) }
-    ensures sound { KeepsSound (record { infos = B.infos; means = B.means }) (K.tables keeper.old) (K.tables keeper.new) }
+    ensures sound { KeepsSound B.book (K.tables keeper.old) (K.tables keeper.new) }
     ensures faults { CountsFaults result (L.faults link.old) (L.faults link.new) }
     ensures never_falls { L.faults link.old ≤ L.faults link.new }
     ensures kept { K.faults keeper.old ≤ K.faults keeper.new }
@@ -156,9 +158,9 @@ fn serve_item<R: Threads + Sync, L: Link, K: Keeper, B: RuleBook + Send>(
     item: Item,
 ) -> Result<(), Failed>
     requires some { 0 < length books.old }
-    ensures served { ServesItem (record { infos = B.infos; means = B.means }) item result (L.wire link.old) (K.tables keeper.old)
+    ensures served { ServesItem B.book item result (L.wire link.old) (K.tables keeper.old)
         (L.wire link.new) (K.tables keeper.new) (K.faults keeper.old) (K.faults keeper.new) (map B.calls books.old) (map B.calls books.new) }
-    ensures sound { KeepsSound (record { infos = B.infos; means = B.means }) (K.tables keeper.old) (K.tables keeper.new) }
+    ensures sound { KeepsSound B.book (K.tables keeper.old) (K.tables keeper.new) }
     ensures reads { L.reads link.new ≡ L.reads link.old }
     ensures counts { Counts (L.faults link.old) (L.faults link.new) result }
 {

@@ -58,9 +58,10 @@ impl RuleBook for Meeting {
     ghost use Rattle.rule_core.specs.declared.info.Class.TheVariants.{SelfOnly};
     ghost use Rattle.rule_core.specs.Infos.{atomic};
 
-    ghost means = { λ rule page n. None };
-
-    ghost infos = { atomic 1 (codes "meet01") SelfOnly SelfOnly ∷ [] };
+    ghost book = { record {
+      infos = atomic 1 (codes "meet01") SelfOnly SelfOnly ∷ [];
+      means = λ rule page n. None;
+    } };
 
     ghost calls = { λ book. book.1 };
 

@@ -79,13 +79,11 @@ fn marked(alloc: Global, tree: &Tree, name: &str, n: NodeId) -> Result<Option<Ve
 impl RuleBook for Marks {
     ghost use Rattle.std.specs.Prelude.{refl};
     ghost use Rattle.std.proofs.Common.{rules};
-    ghost use Rattle.rule_core.specs.Books.{infos_of, said};
+    ghost use Rattle.rule_core.specs.Books.{book_of};
     ghost use Rattle.rule_core.specs.BookLaws.{said_strange};
     ghost use Rattle.fixture_rules.specs.Marks.{marks};
 
-    ghost means = { said marks };
-
-    ghost infos = { infos_of marks };
+    ghost book = { book_of marks };
 
     ghost calls = { λ book. book };
 

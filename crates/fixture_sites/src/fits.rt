@@ -84,7 +84,7 @@ fn is_judging<B: RuleBook>(
     rule: RuleNo,
     note: &Text,
 ) -> Result<bool, OutOfMemory>
-    ensures { IfOk result (λ is. IsTrue is → FitsJudging (record { infos = B.infos; means = B.means }) page.now rule note.now) }
+    ensures { IfOk result (λ is. IsTrue is → FitsJudging B.book page.now rule note.now) }
 {
     let infos = infos_of(alloc, book)?;
     let is_atomic = has_atomic(infos.as_slice(), rule.0);
@@ -119,7 +119,7 @@ fn have_fit_parts<B: RuleBook>(
     book: &B,
     command: &Command,
 ) -> Result<bool, OutOfMemory>
-    ensures { IfOk result (λ is. IsTrue is → FitsParts (record { infos = B.infos; means = B.means }) command.now) }
+    ensures { IfOk result (λ is. IsTrue is → FitsParts B.book command.now) }
 {
     match command {
         Command::PutSite { .. } => Ok(true),
@@ -153,7 +153,7 @@ pub fn fits<B: RuleBook>(
     command: &Command,
 ) -> Result<bool, OutOfMemory>
     ensures { IfOk result (λ is. IsTrue is →
-        FitsRequest (record { infos = B.infos; means = B.means }) (record { caller = caller.now; command = command.now })) }
+        FitsRequest B.book (record { caller = caller.now; command = command.now })) }
 {
     let have_fit_parts = have_fit_parts(alloc, book, command)?;
     Ok(is_name(caller) && is_name(site_of(command)) && have_fit_parts)

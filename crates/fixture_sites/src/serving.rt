@@ -27,7 +27,7 @@ pub fn answer<R: Threads + Sync, K: Keeper, B: RuleBook + Send>(
     command: Command,
 ) -> Result<Reply, Unasked>
     requires some { 0 < length books.old }
-    ensures served { IfOk result (λ reply. Serves (record { infos = B.infos; means = B.means }) (record { caller = caller.now; command = command })
+    ensures served { IfOk result (λ reply. Serves B.book (record { caller = caller.now; command = command })
         (K.tables keeper.old) (K.tables keeper.new) (K.faults keeper.old) (K.faults keeper.new) reply) }
     ensures unasked { OnErr result (keeper.new ≡ keeper.old) }
     ensures books { length books.new ≡ length books.old }
@@ -50,7 +50,7 @@ pub fn asked<R: Threads + Sync, K: Keeper, B: RuleBook + Send>(
     ask: Ask,
 ) -> Result<Reply, Unasked>
     requires some { 0 < length books.old }
-    ensures served { IfOk result (λ reply. Serves (record { infos = B.infos; means = B.means }) (record { caller = caller.now; command = command_of site.now ask })
+    ensures served { IfOk result (λ reply. Serves B.book (record { caller = caller.now; command = command_of site.now ask })
         (K.tables keeper.old) (K.tables keeper.new) (K.faults keeper.old) (K.faults keeper.new) reply) }
     ensures unasked { OnErr result (keeper.new ≡ keeper.old) }
     ensures books { length books.new ≡ length books.old }

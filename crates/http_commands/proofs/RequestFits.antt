@@ -3,7 +3,7 @@ use Rattle.std.proofs.Common.{◌≡◌, ℕ, List, true, Result, Ok, Err, sym, 
 use Rattle.std.specs.Prelude.{IsTrue, IfOk}
 use Rattle.keep_core.specs.Names.{is_name}
 use Rattle.rule_core.specs.Infos.{is_orderly}
-use Rattle.judge_core.specs.Books.{Book}
+use Rattle.rule_core.specs.Books.{Book}
 use Rattle.http_routes.specs.declared.fault.RequestFault.{RequestFault}
 use Rattle.http_messages.specs.declared.head.Head.{Head}
 use Rattle.http_routes.specs.declared.call.Route.{Route}

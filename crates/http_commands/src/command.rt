@@ -25,7 +25,7 @@ pub(crate) fn command_of<B: RuleBook>(
     body: &[u8],
     route: Route,
 ) -> Result<Command, Unasked>
-    ensures exact { Gives result (command_of B.infos head.now body.now route) }
+    ensures exact { Gives result (command_of B.book.infos head.now body.now route) }
     ensures web { IfOk result IsWeb }
 {
     match route {
@@ -116,7 +116,7 @@ fn judge<B: RuleBook>(
     site: Text,
     page: Text,
 ) -> Result<Command, Unasked>
-    ensures exact { Gives result (judge B.infos body.now site page) }
+    ensures exact { Gives result (judge B.book.infos body.now site page) }
     ensures web { IfOk result IsWeb }
 {
     let body = json_in(alloc, body)?;

@@ -35,7 +35,7 @@ pub(crate) fn opinion_in<B: RuleBook>(
     book: &B,
     body: &Value,
 ) -> Result<Opinion, Unasked>
-    ensures { Gives result (opinion_in B.infos (view body.now)) }
+    ensures { Gives result (opinion_in B.book.infos (view body.now)) }
 {
     in_shape(Part::Body, 0, body.as_object())?;
     let rule = rule_of(alloc, book, body.get("rule"))?;
@@ -60,7 +60,7 @@ fn rule_of<B: RuleBook>(
     book: &B,
     member: Option<&Value>,
 ) -> Result<Option<RuleNo>, OutOfMemory>
-    ensures { IfOk result (λ rule. rule ≡ rule_of B.infos (seen member.entry)) }
+    ensures { IfOk result (λ rule. rule ≡ rule_of B.book.infos (seen member.entry)) }
 {
     let infos = infos_of(alloc, book)?;
     Ok(rule_among(infos.as_slice(), member))

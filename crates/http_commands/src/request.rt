@@ -34,8 +34,8 @@ pub fn request_of<B: RuleBook>(
     head: &Head,
     body: &[u8],
 ) -> Result<Result<Asked, RequestFault>, OutOfMemory>
-    ensures exact { IfOk result (λ asked. asked ≡ request_of B.infos head.now body.now) }
-    ensures fits { IfOk result (λ asked. IfOk asked (λ q. FitsRequest (record { infos = B.infos; means = B.means }) (record { caller = q.caller; command = q.command }))) }
+    ensures exact { IfOk result (λ asked. asked ≡ request_of B.book.infos head.now body.now) }
+    ensures fits { IfOk result (λ asked. IfOk asked (λ q. FitsRequest B.book (record { caller = q.caller; command = q.command }))) }
 {
     read_request(alloc, table, book, head, body)
 }
@@ -48,7 +48,7 @@ fn read_request<B: RuleBook>(
     head: &Head,
     body: &[u8],
 ) -> Result<Result<Asked, RequestFault>, OutOfMemory>
-    ensures exact { IfOk result (λ asked. asked ≡ request_of B.infos head.now body.now) }
+    ensures exact { IfOk result (λ asked. asked ≡ request_of B.book.infos head.now body.now) }
     ensures web { IfOk result (λ asked. IfOk asked (λ q. IsWeb q.command)) }
 {
     let Some(table) = table else {

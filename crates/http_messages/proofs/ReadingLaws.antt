@@ -1,24 +1,30 @@
 -- What reading does to the bytes still to come, one read after another.
 use Rattle.std.proofs.Common.{◌≡◌, ℕ, ◌≤◌, ◌≢◌, List, ◌++◌, length, take, Option, Ok, refl, sym, ap, ◌∙◌, subst, append-nil, append_assoc, length-append, length-take, arith}
-use Rattle.links.specs.Wires.{Wire, unread, Read}
-use Rattle.http_messages.specs.declared.reading.ReadFault.TheVariants.{OutOfMemory}
+use Rattle.streams.specs.Streams.{Read}
+use Rattle.streams.proofs.Told.{was_read}
+use Rattle.links.specs.Wires.{Wire, unread, left_of}
+use Rattle.http_messages.specs.declared.reading.ReadFault.TheVariants.{Failed, OutOfMemory}
 use Rattle.http_messages.specs.Reading.{Moves, Lost, Same, IsSpent}
 
 -- ---- one read
 
-pub read_none : (a b : Option Wire) (held buf : List ℕ) (n : ℕ) → Read buf a b (Ok n) → n ≡ 0 → Moves Same held held a b
+pub read_none : (a b : Option Wire) (held buf : List ℕ) (n : ℕ) → Read unread left_of buf a b (Ok n) → n ≡ 0 → Moves Same held held a b
 read_none a b held buf n read none w is =
-    (unread (take n buf) w, read.0 w is, refl, refl, ap (λ k. held ++ (take k buf ++ w.left)) none)
+    (unread (take n buf) w, was_read unread (take n buf) a b w read.0 is, refl, refl, ap (λ k. held ++ (take k buf ++ w.left)) none)
 
-pub read_some : (a b : Option Wire) (held now buf piece : List ℕ) (n : ℕ) → Read buf a b (Ok n) → now ≡ held ++ piece → piece ≡ take n buf → Moves Same held now a b
+pub read_some : (a b : Option Wire) (held now buf piece : List ℕ) (n : ℕ) → Read unread left_of buf a b (Ok n) → now ≡ held ++ piece → piece ≡ take n buf → Moves Same held now a b
 read_some a b held now buf piece n read grown same w is =
     let whole : held ++ take n buf ≡ now = ap (λ l. held ++ l) (sym same) ∙ sym grown in
-    (unread (take n buf) w, read.0 w is, refl, refl, sym (append_assoc held (take n buf) w.left) ∙ ap (λ l. l ++ w.left) whole)
+    (unread (take n buf) w, was_read unread (take n buf) a b w read.0 is, refl, refl, sym (append_assoc held (take n buf) w.left) ∙ ap (λ l. l ++ w.left) whole)
+
+-- a read that failed
+pub read_failed : (a b : Option Wire) (held now : List ℕ) → b ≡ a → Moves (Lost Failed) held now a b
+read_failed a b held now same w is = (w, sym same ∙ is, refl, refl, tt)
 
 -- memory for what a read gave
-pub read_lost : (a b : Option Wire) (held now buf : List ℕ) (n : ℕ) → Read buf a b (Ok n) → n ≢ 0 → n ≤ length buf → Moves (Lost OutOfMemory) held now a b
+pub read_lost : (a b : Option Wire) (held now buf : List ℕ) (n : ℕ) → Read unread left_of buf a b (Ok n) → n ≢ 0 → n ≤ length buf → Moves (Lost OutOfMemory) held now a b
 read_lost a b held now buf n read some fits w is =
-    (unread (take n buf) w, read.0 w is, refl, refl, omega (arith, length-append held (take n buf ++ w.left), length-append (take n buf) w.left, length-take n buf))
+    (unread (take n buf) w, was_read unread (take n buf) a b w read.0 is, refl, refl, omega (arith, length-append held (take n buf ++ w.left), length-append (take n buf) w.left, length-take n buf))
 
 -- ---- one read after another
 

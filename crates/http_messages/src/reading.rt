@@ -7,8 +7,9 @@ use crate::blocks::{MARK, MOST_HEAD, block_end_from, window};
 use crate::fault::HeadFault;
 use crate::item::Item;
 use crate::message::read_message;
-use links::{Failed, Link};
+use links::Link;
 use std::alloc::{AllocError, Global};
+use streams::Failed;
 use texts::OutOfMemory;
 
 // The most bytes that one read asks for.
@@ -134,6 +135,7 @@ pub(crate) fn read_body<L: Link>(
 }
 
 // Reads one piece more. Gives whether there was one; else the bytes end.
+#[tactic(auto, using(crate::proofs::ReadingLaws::read_failed))]
 fn read_more<L: Link>(link: &mut L, held: &mut Vec<u8>) -> Result<bool, ReadFault>
     ensures same { Reads (λ more. Same) held.old.items held.new.items (L.wire link.old) (L.wire link.new) result }
     ensures grows { IfOk result (λ more. Grows more held.old.items held.new.items (L.reads link.old) (L.reads link.new) (L.wire link.new)) }

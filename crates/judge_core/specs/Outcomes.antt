@@ -8,12 +8,12 @@ use Rattle.rule_core.specs.declared.info.RuleInfo.{RuleInfo}
 use Rattle.rule_core.specs.declared.reason.Reason.TheVariants.{Merged}
 use Rattle.rule_core.specs.declared.verdict.Verdict.{Verdict}
 use Rattle.rule_core.specs.Infos.{is_atomic}
+use Rattle.rule_core.specs.Books.{Book}
 use Rattle.judge_core.specs.declared.judgement.Judgement.{Judgement}
 use Rattle.judge_core.specs.declared.outcomes.OutRow.{OutRow}
 use Rattle.judge_core.specs.declared.outcomes.Final.{Final}
 use Rattle.judge_core.specs.Judgements.{final}
 use Rattle.judge_core.specs.Composites.{merge}
-use Rattle.judge_core.specs.Books.{Book}
 
 -- the row of an outcome with its final one
 abbrev pub row_with : RuleNo → NodeId → Verdict → Final → OutRow

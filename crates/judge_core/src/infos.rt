@@ -6,7 +6,7 @@ use std::alloc::Global;
 
 /// The infos of a book's rules, in the order of their numbers.
 pub fn infos_of<B: RuleBook>(alloc: Global, book: &B) -> Result<Vec<RuleInfo>, OutOfMemory>
-    ensures { IfOk result (λ infos. infos.items ≡ B.infos) }
+    ensures { IfOk result (λ infos. infos.items ≡ B.book.infos) }
 {
     let mut infos = Vec::new(alloc);
     for place in 0..65_536 {

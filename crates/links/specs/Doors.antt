@@ -1,6 +1,6 @@
 -- What a door tells beside its log, and what its calls do to that.
 use Rattle.std.specs.Prelude.{◌≡◌, ℕ, ◌+◌, List, [], ◌∷◌, ◌++◌, Option, Some, None, Result, Ok, Err}
-use Rattle.links.specs.declared.failed.Failed.{Failed}
+use Rattle.streams.specs.declared.failed.Failed.{Failed}
 use Rattle.links.specs.declared.door.Heard.{Heard}
 
 -- the port and the number of connections of the `listen` that answered Ok, how many connections are still

@@ -1,8 +1,9 @@
 -- A link and a door in memory, exact by the list of the calls that fail.
-use Rattle.std.specs.Prelude.{◌≡◌, ◌==◌, ℕ, ◌+◌, ◌-◌, min, max, not, ◌&&◌, ◌||◌, List, [], ◌∷◌, ◌++◌, length, take, drop, Bool, if◌then◌else◌, Option, Some, None}
+use Rattle.std.specs.Prelude.{◌≡◌, ◌==◌, ℕ, ◌+◌, ◌-◌, not, ◌&&◌, ◌||◌, List, [], ◌∷◌, ◌++◌, length, take, drop, Bool, if◌then◌else◌, Option, Some, None}
 use Rattle.std.specs.Option.{option_map_or}
 use Rattle.counts.specs.Counts.{next}
 use Rattle.counts.specs.Calls.{is_named}
+use Rattle.streams.specs.Memory.{gives_of, takes_of, is_full}
 use Rattle.links.specs.declared.door.Heard.{Heard}
 use Rattle.links.specs.Wires.{Wire, IsUntouched}
 use Rattle.links.specs.Doors.{Doorway}
@@ -41,7 +42,7 @@ refuses_read s = is_named s.fails s.calls || (s.reads == 0)
 
 -- how many bytes a read into a buffer of that length gives
 abbrev pub given : LinkState → ℕ → ℕ
-given s room = min (min room (max s.piece 1)) (length (left s))
+given s room = gives_of s.piece (left s) room
 
 -- a link after a read that gave so many bytes
 abbrev pub read_on : LinkState → ℕ → LinkState
@@ -52,11 +53,11 @@ after_read s room = if refuses_read s then link_failed s else read_on s (given s
 
 -- the next write fails: the list names it, or no room is left
 abbrev pub refuses_write : LinkState → Bool
-refuses_write s = is_named s.fails s.calls || (s.room - length s.written == 0)
+refuses_write s = is_named s.fails s.calls || is_full s.room s.written
 
 -- how many of so many bytes a write takes
 abbrev pub taken : LinkState → ℕ → ℕ
-taken s n = min n (s.room - length s.written)
+taken s n = takes_of s.room s.written n
 
 abbrev pub after_write : LinkState → List ℕ → LinkState
 after_write s piece =

@@ -1,9 +1,10 @@
 ghost use Rattle.std.specs.Prelude.{◌≡◌, ◌<◌, List, Option, None, IfOk, IfSome};
-ghost use Rattle.links.specs.Wires.{IsUntouched, Counts};
+ghost use Rattle.streams.specs.Streams.{Counts};
+ghost use Rattle.links.specs.Wires.{IsUntouched};
 ghost use Rattle.links.specs.Doors.{Doorway, Listens, Gives, TookBack, KeepsLog, Logs};
 
-use crate::failed::Failed;
 use crate::link::Link;
+use streams::Failed;
 
 /// What a door listens at: a port, and how many connections it gives in all.
 #[derive(Clone, Copy, Debug, PartialEq, Eq)]

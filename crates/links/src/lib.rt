@@ -5,14 +5,12 @@
 #![tactic(auto)]
 
 mod door;
-mod failed;
 mod link;
 mod mem_door;
 mod mem_link;
 mod writing;
 
 pub use door::{Door, Heard};
-pub use failed::Failed;
 pub use link::Link;
 pub use mem_door::MemDoor;
 pub use mem_link::MemLink;

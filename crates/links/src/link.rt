@@ -1,7 +1,8 @@
 ghost use Rattle.std.specs.Prelude.{◌≡◌, ℕ, ◌<◌, ◌≤◌, length, Option, IfOk};
-ghost use Rattle.links.specs.Wires.{Wire, EndsAlike, Read, Allows, Written, Counts};
+ghost use Rattle.streams.specs.Streams.{Read, Written, Counts};
+ghost use Rattle.links.specs.Wires.{Wire, EndsAlike, unread, left_of, extended, Allows};
 
-use crate::failed::Failed;
+use streams::Failed;
 
 /// A connection to one peer. How many reads it still allows, and its count of faults, which never falls and
 /// rises only in a call that fails, are always told; its bytes only by a link in memory.
@@ -20,7 +21,7 @@ pub trait Link {
     /// that doesn't fail leaves the count of faults.
     fn read(&mut self, buf: &mut [u8]) -> Result<usize, Failed>
         requires { 0 < length buf.old }
-        ensures read { Read buf.new (wire self.old) (wire self.new) result }
+        ensures read { Read unread left_of buf.new (wire self.old) (wire self.new) result }
         ensures allowed { Allows (reads self.old) (reads self.new) result }
         ensures within { IfOk result (λ n. n ≤ length buf.old) }
         ensures counts { Counts (faults self.old) (faults self.new) result };
@@ -29,7 +30,7 @@ pub trait Link {
     /// comes only where the link met a fault; a write that doesn't fail leaves the count of faults.
     fn write(&mut self, piece: &[u8]) -> Result<usize, Failed>
         requires { 0 < length piece.now }
-        ensures written { Written piece.now (wire self.old) (wire self.new) result }
+        ensures written { Written extended piece.now (wire self.old) (wire self.new) result }
         ensures kept { reads self.new ≡ reads self.old }
         ensures some { IfOk result (λ n. 0 < n) }
         ensures within { IfOk result (λ n. n ≤ length piece.now) }

@@ -1,17 +1,17 @@
 ghost use Rattle.std.specs.Prelude.{◌≡◌, ◌<◌, ◌↔◌, [], Some, None, IsErr, IfOk, IfSome, IsTrue};
 ghost use Rattle.std.specs.List.{AllByRecursion};
-ghost use Rattle.links.specs.Wires.{Counts};
+ghost use Rattle.streams.specs.Streams.{Counts};
 ghost use Rattle.links.specs.Doors.{Listens, Gives, TookBack, KeepsLog, Logs};
 ghost use Rattle.counts.specs.Calls.{is_named};
 ghost use Rattle.links.specs.Memory.{allowed, doorway, IsUntouchedLink, after_listen, refuses_next, next_link, after_next, after_done};
 
 use crate::door::{Door, Heard};
-use crate::failed::Failed;
 use crate::mem_link::MemLink;
 use counts::{is_named, next};
 use std::alloc::Global;
 use std::marker::Model;
 use std::vec::IntoIter;
+use streams::Failed;
 use texts::{List, OutOfMemory};
 
 /// A door in memory, with its log. It takes no memory after it is made.

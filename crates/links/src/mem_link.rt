@@ -1,12 +1,13 @@
-ghost use Rattle.std.specs.Prelude.{◌≡◌, ◌==◌, ◌+◌, ◌-◌, ◌<◌, ◌≤◌, ◌↔◌, if◌then◌else◌, min, max, [], length, take, drop, IsErr, IfOk, IsTrue};
-ghost use Rattle.links.specs.Wires.{Read, Allows, Written, Counts};
-ghost use Rattle.links.specs.Memory.{IsUntouchedLink, wire, left, refuses_read, given, after_read, refuses_write, taken, after_write};
+ghost use Rattle.std.specs.Prelude.{◌≡◌, ◌==◌, ◌-◌, ◌<◌, ◌≤◌, ◌↔◌, if◌then◌else◌, [], length, IsErr, IfOk, IsTrue};
+ghost use Rattle.streams.specs.Streams.{Read, Written, Counts};
+ghost use Rattle.links.specs.Wires.{unread, left_of, extended, Allows};
+ghost use Rattle.links.specs.Memory.{IsUntouchedLink, wire, refuses_read, given, after_read, refuses_write, taken, after_write};
 
-use crate::failed::Failed;
 use crate::link::Link;
 use counts::{is_named, next};
 use std::alloc::Global;
 use std::marker::Model;
+use streams::{Failed, copy_front};
 use texts::{List, OutOfMemory};
 
 /// A link in memory. It takes no memory after it is made.
@@ -83,7 +84,7 @@ impl Link for MemLink {
     /// bytes as it may.
     fn read(&mut self, buf: &mut [u8]) -> Result<usize, Failed>
         requires { 0 < length buf.old }
-        ensures read { Read buf.new (wire self.old) (wire self.new) result }
+        ensures read { Read unread left_of buf.new (wire self.old) (wire self.new) result }
         ensures allowed { Allows self.old.reads self.new.reads result }
         ensures within { IfOk result (λ n. n ≤ length buf.old) }
         ensures counts { Counts self.old.faults self.new.faults result }
@@ -107,7 +108,7 @@ impl Link for MemLink {
     /// there is room for.
     fn write(&mut self, piece: &[u8]) -> Result<usize, Failed>
         requires { 0 < length piece.now }
-        ensures written { Written piece.now (wire self.old) (wire self.new) result }
+        ensures written { Written extended piece.now (wire self.old) (wire self.new) result }
         ensures kept { self.new.reads ≡ self.old.reads }
         ensures some { IfOk result (λ n. 0 < n) }
         ensures within { IfOk result (λ n. n ≤ length piece.now) }
@@ -139,17 +140,4 @@ fn allowed_after(reads: u64, n: usize) -> u64
     ensures { result ≡ reads - (if n == 0 then 0 else 1) }
 {
     if n == 0 { reads } else { reads - 1 }
-}
-
-// Copies into the front of the buffer what stands at a place, at most a piece of it.
-fn copy_front(bytes: &[u8], at: usize, piece: usize, buf: &mut [u8]) -> usize
-    requires { at ≤ length bytes.now }
-    ensures count { result ≡ min (min (length buf.old) (max piece 1)) (length (drop at bytes.now)) }
-    ensures copied { take result buf.new ≡ take result (drop at bytes.now) }
-    ensures fits { at + result ≤ length bytes.now }
-{
-    let left = &bytes[at..];
-    let n = buf.len().min(piece.max(1)).min(left.len());
-    buf[..n].copy_from_slice(&left[..n]);
-    n
 }

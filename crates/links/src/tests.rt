@@ -1,10 +1,11 @@
 ghost use Rattle.std.specs.Prelude.{◌≡◌, None, IfOk};
 ghost use Rattle.links.specs.Memory.{IsUntouchedLink};
 
-use crate::{Door, Failed, Heard, Link, MemDoor, MemLink, write_all};
+use crate::{Door, Heard, Link, MemDoor, MemLink, write_all};
 use std::alloc::Global;
 use std::process::Abort;
 use std::test::Fail;
+use streams::Failed;
 use texts::{List, OutOfMemory};
 
 fn list<T: Copy>(alloc: Global, items: &[T]) -> Result<List<T>, OutOfMemory> {

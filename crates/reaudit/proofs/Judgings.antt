@@ -5,7 +5,7 @@ use Rattle.std.proofs.lemmas.List.Sums.{sum_by_more, sum_by_more_le}
 use Rattle.snap_tree.specs.Trees.{Document, rows_of}
 use Rattle.rule_core.specs.declared.info.RuleInfo.{RuleInfo}
 use Rattle.rule_core.specs.Infos.{is_atomic}
-use Rattle.judge_core.specs.Books.{Meaning}
+use Rattle.rule_core.specs.Books.{Meaning}
 use Rattle.judge_core.specs.Outcomes.{judgings}
 
 joined : (all some one n : ℕ) → all ≡ some + one → all * n ≡ some * n + (0 + one) * n

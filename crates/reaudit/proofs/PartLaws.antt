@@ -9,9 +9,9 @@ use Rattle.rule_core.specs.declared.info.RuleNo.{RuleNo}
 use Rattle.rule_core.specs.declared.info.RuleInfo.{RuleInfo}
 use Rattle.rule_core.specs.declared.verdict.Verdict.{Verdict}
 use Rattle.rule_core.specs.Infos.{is_atomic, info_of, has_atomic}
+use Rattle.rule_core.specs.Books.{Book}
 use Rattle.judge_core.specs.declared.judgement.Judgement.{Judgement}
 use Rattle.judge_core.specs.declared.outcomes.OutRow.{OutRow}
-use Rattle.judge_core.specs.Books.{Book}
 use Rattle.judge_core.specs.Outcomes.{row_of, atomic_row, atomic_rows, composite_row, composite_rows, inputs_of, rule_rows, outcomes}
 use Rattle.reaudit.specs.declared.parts.Part.{Part}
 use Rattle.reaudit.specs.Merging.{AreOn}

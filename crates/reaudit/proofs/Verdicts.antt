@@ -8,9 +8,9 @@ use Rattle.rule_core.specs.declared.info.RuleNo.{RuleNo}
 use Rattle.rule_core.specs.declared.verdict.NodeVerdict.{NodeVerdict}
 use Rattle.rule_core.specs.declared.verdict.Verdict.{Verdict}
 use Rattle.rule_core.specs.Pages.{on_node, page_verdicts}
+use Rattle.rule_core.specs.Books.{Book}
 use Rattle.judge_core.specs.declared.judgement.Judgement.{Judgement}
 use Rattle.judge_core.specs.declared.outcomes.OutRow.{OutRow}
-use Rattle.judge_core.specs.Books.{Book}
 use Rattle.judge_core.specs.Outcomes.{row_of, atomic_row, atomic_rows}
 
 -- the row of a verdict on a node

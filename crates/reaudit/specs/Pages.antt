@@ -1,7 +1,7 @@
 -- The outcomes of many pages.
 use Rattle.std.specs.Prelude.{ℕ, List, map, sum_by}
+use Rattle.rule_core.specs.Books.{Book}
 use Rattle.judge_core.specs.declared.outcomes.Outcomes.{Outcomes}
-use Rattle.judge_core.specs.Books.{Book}
 use Rattle.judge_core.specs.Outcomes.{outcomes, judgings}
 use Rattle.reaudit.specs.declared.pages.PageWork.{PageWork}
 

@@ -60,7 +60,7 @@ pub(crate) fn atomic_rows<B: RuleBook>(
     rule: RuleNo,
 ) -> Result<List<OutRow>, OutOfMemory>
     ensures rows { (js : List Judgement) → IsByNode js by_node.now → IfOk result
-        (λ rows. rows ≡ atomic_rows (record { infos = B.infos; means = B.means }) tree.now js rule) }
+        (λ rows. rows ≡ atomic_rows B.book tree.now js rule) }
     ensures counted { B.calls book.new ≤ B.calls book.old + length (rows_of tree.now.trees) }
 {
     let verdicts = book.judge_page(alloc, tree, rule)?;

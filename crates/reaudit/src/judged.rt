@@ -2,8 +2,8 @@ ghost use Rattle.std.specs.Prelude.{◌≡◌, ◌≤◌, List, IsTrue, map, tak
 ghost use Rattle.std.specs.List.{prefix_len, AllByRecursion};
 ghost use Rattle.snap_tree.specs.Trees.{Document};
 ghost use Rattle.rule_core.specs.Infos.{rise};
+ghost use Rattle.rule_core.specs.Books.{Book};
 ghost use Rattle.judge_core.specs.declared.judgement.Judgement.{Judgement};
-ghost use Rattle.judge_core.specs.Books.{Book};
 ghost use Rattle.judge_core.specs.Outcomes.{rule_rows, outcomes};
 ghost use Rattle.reaudit.specs.ByNode.{IsByNode};
 ghost use Rattle.reaudit.specs.Parts.{IsPart};
@@ -25,9 +25,8 @@ pub fn after_judgement<B: RuleBook>(
     rows: &Outcomes,
     js: &[Judgement],
 ) -> Result<Outcomes, OutOfMemory>
-    ensures { (page : Document) (before : List Judgement)
-        → rows.now.rows ≡ outcomes (record { infos = B.infos; means = B.means }) page before
-        → IfOk result (λ o. o.rows ≡ outcomes (record { infos = B.infos; means = B.means }) page js.now) }
+    ensures { (page : Document) (before : List Judgement) → rows.now.rows ≡ outcomes B.book page before
+        → IfOk result (λ o. o.rows ≡ outcomes B.book page js.now) }
 {
     let infos = infos_of(alloc, book)?;
     let by_node = by_node(alloc, js)?;

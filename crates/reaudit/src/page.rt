@@ -22,10 +22,8 @@ pub fn audit_page<B: RuleBook>(
     tree: &Tree,
     js: &[Judgement],
 ) -> Result<Outcomes, OutOfMemory>
-    ensures rows { IfOk result
-        (λ o. o.rows ≡ outcomes (record { infos = B.infos; means = B.means }) tree.now js.now) }
-    ensures counted { B.calls book.new
-        ≤ B.calls book.old + judgings (record { infos = B.infos; means = B.means }) tree.now }
+    ensures rows { IfOk result (λ o. o.rows ≡ outcomes B.book tree.now js.now) }
+    ensures counted { B.calls book.new ≤ B.calls book.old + judgings B.book tree.now }
 {
     let infos = infos_of(alloc, book)?;
     let by_node = by_node(alloc, js)?;
@@ -46,9 +44,9 @@ fn parts_of<B: RuleBook>(
 ) -> Result<Vec<Part>, OutOfMemory>
     ensures infos { IfOk result (λ parts. map (λ p. p.info) parts.items ≡ infos.now) }
     ensures parts { (js : List Judgement) → IsByNode js by_node.now → IfOk result
-        (λ parts. AllByRecursion (IsPart (record { infos = B.infos; means = B.means }) tree.now js) parts.items) }
+        (λ parts. AllByRecursion (IsPart B.book tree.now js) parts.items) }
     ensures counted { B.calls book.new
-        ≤ B.calls book.old + judgings (record { infos = infos.now; means = B.means }) tree.now }
+        ≤ B.calls book.old + judgings (record { infos = infos.now; means = B.book.means }) tree.now }
 {
     let mut parts = Vec::with_capacity(alloc, infos.len())?;
     for info in infos {
@@ -67,9 +65,9 @@ fn part_of<B: RuleBook>(
 ) -> Result<Part, OutOfMemory>
     ensures info { IfOk result (λ part. part.info ≡ info.now) }
     ensures part { (js : List Judgement) → IsByNode js by_node.now → IfOk result
-        (λ part. IsPart (record { infos = B.infos; means = B.means }) tree.now js part) }
+        (λ part. IsPart B.book tree.now js part) }
     ensures counted { B.calls book.new
-        ≤ B.calls book.old + judgings (record { infos = info.now ∷ []; means = B.means }) tree.now }
+        ≤ B.calls book.old + judgings (record { infos = info.now ∷ []; means = B.book.means }) tree.now }
 {
     if info.is_atomic() {
         Ok(Part {

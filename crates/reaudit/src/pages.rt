@@ -27,10 +27,9 @@ pub fn audit_pages<R: Threads + Sync, B: RuleBook + Send>(
     pages: &[PageWork],
 ) -> Result<Vec<Outcomes>, OutOfMemory>
     requires { 0 < length books.old }
-    ensures outcomes { IfOk result
-        (λ all. all.items ≡ pages_outcomes (record { infos = B.infos; means = B.means }) pages.now) }
+    ensures outcomes { IfOk result (λ all. all.items ≡ pages_outcomes B.book pages.now) }
     ensures counted { sum_by B.calls books.new ≤ sum_by B.calls books.old
-        + pages_judgings (record { infos = B.infos; means = B.means }) pages.now }
+        + pages_judgings B.book pages.now }
 {
     let (busy, _) = books.split_at_mut(busy(books.len(), pages.len()));
     audit_part(rt, &alloc, pages, busy)
@@ -47,10 +46,9 @@ fn audit_part<R: Threads + Sync, B: RuleBook + Send>(
     books: &mut [B],
 ) -> Result<Vec<Outcomes>, OutOfMemory>
     requires { 0 < length books.old }
-    ensures outcomes { IfOk result
-        (λ all. all.items ≡ pages_outcomes (record { infos = B.infos; means = B.means }) pages.now) }
+    ensures outcomes { IfOk result (λ all. all.items ≡ pages_outcomes B.book pages.now) }
     ensures counted { sum_by B.calls books.new ≤ sum_by B.calls books.old
-        + pages_judgings (record { infos = B.infos; means = B.means }) pages.now }
+        + pages_judgings B.book pages.now }
 {
     if books.len() == 1 {
         return audit_in_turn(*alloc, &mut books[0], pages);
@@ -83,30 +81,26 @@ fn audit_both<R: Threads + Sync, B: RuleBook + Send>(
 )
     requires some_first { 0 < length first_books.old }
     requires some_later { 0 < length later_books.old }
-    ensures first { IfOk result.0
-        (λ all. all.items ≡ pages_outcomes (record { infos = B.infos; means = B.means }) first_pages.now) }
-    ensures later { IfOk result.1
-        (λ all. all.items ≡ pages_outcomes (record { infos = B.infos; means = B.means }) later_pages.now) }
+    ensures first { IfOk result.0 (λ all. all.items ≡ pages_outcomes B.book first_pages.now) }
+    ensures later { IfOk result.1 (λ all. all.items ≡ pages_outcomes B.book later_pages.now) }
     ensures first_counted { sum_by B.calls first_books.new ≤ sum_by B.calls first_books.old
-        + pages_judgings (record { infos = B.infos; means = B.means }) first_pages.now }
+        + pages_judgings B.book first_pages.now }
     ensures later_counted { sum_by B.calls later_books.new ≤ sum_by B.calls later_books.old
-        + pages_judgings (record { infos = B.infos; means = B.means }) later_pages.now }
+        + pages_judgings B.book later_pages.now }
 {
     let mut first = || -> Result<Vec<Outcomes>, OutOfMemory>
         requires sync { IsSync R.row × IsSend B.row }
         requires some { 0 < length first_books.now }
-        ensures outcomes { IfOk result (λ all. all.items
-            ≡ pages_outcomes (record { infos = B.infos; means = B.means }) first_pages.entry.now) }
+        ensures outcomes { IfOk result (λ all. all.items ≡ pages_outcomes B.book first_pages.entry.now) }
         ensures counted { sum_by B.calls first_books.exit.now ≤ sum_by B.calls first_books.entry.now
-            + pages_judgings (record { infos = B.infos; means = B.means }) first_pages.entry.now }
+            + pages_judgings B.book first_pages.entry.now }
     { audit_part(rt, alloc, first_pages, first_books) };
     let mut later = || -> Result<Vec<Outcomes>, OutOfMemory>
         requires sync { IsSync R.row × IsSend B.row }
         requires some { 0 < length later_books.now }
-        ensures outcomes { IfOk result (λ all. all.items
-            ≡ pages_outcomes (record { infos = B.infos; means = B.means }) later_pages.entry.now) }
+        ensures outcomes { IfOk result (λ all. all.items ≡ pages_outcomes B.book later_pages.entry.now) }
         ensures counted { sum_by B.calls later_books.exit.now ≤ sum_by B.calls later_books.entry.now
-            + pages_judgings (record { infos = B.infos; means = B.means }) later_pages.entry.now }
+            + pages_judgings B.book later_pages.entry.now }
     { audit_part(rt, alloc, later_pages, later_books) };
     join_mut(rt, &mut first, &mut later)
 }
@@ -137,10 +131,8 @@ fn audit_in_turn<B: RuleBook>(
     book: &mut B,
     pages: &[PageWork],
 ) -> Result<Vec<Outcomes>, OutOfMemory>
-    ensures outcomes { IfOk result
-        (λ all. all.items ≡ pages_outcomes (record { infos = B.infos; means = B.means }) pages.now) }
-    ensures counted { B.calls book.new
-        ≤ B.calls book.old + pages_judgings (record { infos = B.infos; means = B.means }) pages.now }
+    ensures outcomes { IfOk result (λ all. all.items ≡ pages_outcomes B.book pages.now) }
+    ensures counted { B.calls book.new ≤ B.calls book.old + pages_judgings B.book pages.now }
 {
     let mut all = Vec::with_capacity(alloc, pages.len())?;
     for page in pages {

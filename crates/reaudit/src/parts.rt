@@ -3,9 +3,9 @@ ghost use Rattle.std.specs.Option.{option_copied};
 ghost use Rattle.std.specs.List.{find};
 ghost use Rattle.snap_tree.specs.Trees.{Document};
 ghost use Rattle.rule_core.specs.Infos.{is_atomic};
+ghost use Rattle.rule_core.specs.Books.{Book};
 ghost use Rattle.judge_core.specs.declared.judgement.Judgement.{Judgement};
 ghost use Rattle.judge_core.specs.declared.outcomes.OutRow.{OutRow};
-ghost use Rattle.judge_core.specs.Books.{Book};
 ghost use Rattle.judge_core.specs.Outcomes.{composite_rows, outcomes};
 ghost use Rattle.reaudit.specs.Parts.{rows_found, AreParts, IsPart, SaysByAtomic};
 

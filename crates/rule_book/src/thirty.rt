@@ -6,7 +6,7 @@ ghost use Rattle.rule_book.specs.Book.{thirty};
 
 use crate::table::infos;
 use counts::next;
-use rule_core::{NodeVerdict, Rule, RuleBook, RuleInfo, RuleNo, Verdict, push_verdict};
+use rule_core::{NodeVerdict, Rule, RuleBook, RuleInfo, RuleNo, Verdict};
 use rules_aria::{
     AriaAttributeIsDefined, AriaValueIsValid, AutocompleteIsValid, HasRequiredStates,
     HiddenHoldsNoFocus, OwnsRequiredElements, RoleIsValid,
@@ -93,26 +93,42 @@ fn said(alloc: Global, tree: &Tree, rule: RuleNo, n: NodeId) -> Result<Option<Ve
     }
 }
 
-// The verdicts of a rule that is judged on one node after another.
-fn said_in_turn(alloc: Global, tree: &Tree, rule: RuleNo) -> Result<Vec<NodeVerdict>, OutOfMemory>
-    ensures { IfOk result (λ verdicts. verdicts.items ≡ page_verdicts (said thirty rule) tree.now) }
-{
-    let mut verdicts = Vec::new(alloc);
-    for row in tree.rows() {
-        let verdict = said(alloc, tree, rule, row.id)?;
-        push_verdict(&mut verdicts, row.id, verdict)?;
-    }
-    Ok(verdicts)
-}
-
-// What the rule of a number says of a page. The two rules on tables go over each table once.
+// What the rule of a number says of a page, as the rule goes over it; nothing by a number that is no atomic rule of
+// the book.
 fn said_of_page(alloc: Global, tree: &Tree, rule: RuleNo) -> Result<Vec<NodeVerdict>, OutOfMemory>
     ensures { IfOk result (λ verdicts. verdicts.items ≡ page_verdicts (said thirty rule) tree.now) }
 {
     match rule.0 {
+        1 => PageHasTitle.judge_page(alloc, tree),
+        2 => TitleIsDescriptive.judge_page(alloc, tree),
+        3 => PageHasLang.judge_page(alloc, tree),
+        4 => LanguageIsKnown.judge_page(alloc, tree),
+        5 => LanguageOfPartIsKnown.judge_page(alloc, tree),
+        6 => ViewportAllowsZoom.judge_page(alloc, tree),
+        7 => PageHasNoDelay.judge_page(alloc, tree),
+        8 => ButtonHasName.judge_page(alloc, tree),
+        9 => LinkHasName.judge_page(alloc, tree),
+        10 => ImageHasName.judge_page(alloc, tree),
+        11 => ImageButtonHasName.judge_page(alloc, tree),
+        12 => FormFieldHasName.judge_page(alloc, tree),
+        13 => IframeHasName.judge_page(alloc, tree),
+        14 => HeadingHasName.judge_page(alloc, tree),
+        15 => SvgImageHasName.judge_page(alloc, tree),
+        16 => HeadingIsDescriptive.judge_page(alloc, tree),
+        17 => AutocompleteIsValid.judge_page(alloc, tree),
+        18 => RoleIsValid.judge_page(alloc, tree),
+        19 => AriaAttributeIsDefined.judge_page(alloc, tree),
+        20 => AriaValueIsValid.judge_page(alloc, tree),
+        21 => HasRequiredStates.judge_page(alloc, tree),
+        22 => OwnsRequiredElements.judge_page(alloc, tree),
+        23 => HiddenHoldsNoFocus.judge_page(alloc, tree),
         24 => HeadersReferToCells.judge_page(alloc, tree),
         25 => HeaderHasCells.judge_page(alloc, tree),
-        _ => said_in_turn(alloc, tree, rule),
+        26 => HasHeadingToStart.judge_page(alloc, tree),
+        27 => HasLandmark.judge_page(alloc, tree),
+        28 => HasSkipLink.judge_page(alloc, tree),
+        29 => HasCollapse.judge_page(alloc, tree),
+        _ => Ok(Vec::new(alloc)),
     }
 }
 
@@ -133,13 +149,11 @@ fn info_at(infos: &[RuleInfo], place: usize) -> Option<RuleInfo>
 impl RuleBook for Thirty {
     ghost use Rattle.std.specs.Prelude.{refl};
     ghost use Rattle.std.proofs.Common.{rules};
-    ghost use Rattle.rule_core.specs.Books.{infos_of, said};
+    ghost use Rattle.rule_core.specs.Books.{book_of};
     ghost use Rattle.rule_core.specs.BookLaws.{said_strange};
     ghost use Rattle.rule_book.specs.Book.{thirty};
 
-    ghost means = { said thirty };
-
-    ghost infos = { infos_of thirty };
+    ghost book = { book_of thirty };
 
     ghost calls = { λ calls. calls };
 

@@ -1,10 +1,9 @@
-ghost use Rattle.std.specs.Prelude.{◌≡◌, ℕ, ◌+◌, ◌<◌, ◌≤◌, ◌^◌, List, length, Option, None, IfOk, OnOk, IsTrue, false, slice_get};
+ghost use Rattle.std.specs.Prelude.{◌≡◌, ℕ, ◌+◌, ◌<◌, ◌≤◌, ◌^◌, length, None, IfOk, OnOk, IsTrue, false, slice_get};
 ghost use Rattle.counts.specs.Counts.{next, raised};
 ghost use Rattle.snap_tree.specs.declared.row.NodeId.{NodeId};
 ghost use Rattle.snap_tree.specs.Trees.{Document};
 ghost use Rattle.rule_core.specs.declared.info.RuleNo.{RuleNo};
-ghost use Rattle.rule_core.specs.declared.info.RuleInfo.{RuleInfo};
-ghost use Rattle.rule_core.specs.declared.verdict.Verdict.{Verdict};
+ghost use Rattle.rule_core.specs.Books.{Book};
 ghost use Rattle.rule_core.specs.Infos.{is_orderly, has_atomic};
 ghost use Rattle.rule_core.specs.Pages.{page_verdicts, node_count};
 
@@ -16,16 +15,14 @@ use std::alloc::Global;
 /// A list of rules that counts its judgings. What its rules say, and their infos, belong to the
 /// type and not to the value, so that all books of one type agree.
 pub trait RuleBook {
-    ghost means: { RuleNo → Document → NodeId → Option Verdict };
-
-    ghost infos: { List RuleInfo };
+    ghost book: { Book };
 
     ghost calls: { Self → ℕ };
 
     /// What the rule at this place says of itself, in the order of the numbers, from place 0; `None`
     /// past the last. Composite rules have places too.
     fn info(&self, place: usize) -> Option<RuleInfo>
-        ensures { result ≡ slice_get infos place };
+        ensures { result ≡ slice_get book.infos place };
 
     /// The verdict of an atomic rule on a node: `None` exactly where the number isn't that of an
     /// atomic rule of the book, or the node isn't a target of the rule. The count of judgings
@@ -37,7 +34,7 @@ pub trait RuleBook {
         rule: RuleNo,
         n: NodeId,
     ) -> Result<Option<Verdict>, OutOfMemory>
-        ensures verdict { IfOk result (λ verdict. verdict ≡ means rule tree.now n) }
+        ensures verdict { IfOk result (λ verdict. verdict ≡ book.means rule tree.now n) }
         ensures counted { calls self.new ≡ next (calls self.old) };
 
     /// The verdicts of an atomic rule on a page, in document order: of each node that is a target of the
@@ -52,7 +49,7 @@ pub trait RuleBook {
         tree: &Tree,
         rule: RuleNo,
     ) -> Result<Vec<NodeVerdict>, OutOfMemory>
-        ensures verdicts { IfOk result (λ verdicts. verdicts.items ≡ page_verdicts (means rule) tree.now) }
+        ensures verdicts { IfOk result (λ verdicts. verdicts.items ≡ page_verdicts (book.means rule) tree.now) }
         ensures counted { OnOk result (calls self.new ≡ raised (calls self.old) (node_count tree.now)) }
         ensures bounded { calls self.new ≤ calls self.old + node_count tree.now }
     {
@@ -71,11 +68,11 @@ pub trait RuleBook {
         ensures { result ≡ calls self.now };
 
     // The infos are orderly, so that a rule is found by its number or its id.
-    ghost orderly: { IsTrue (is_orderly infos) };
+    ghost orderly: { IsTrue (is_orderly book.infos) };
 
     // A loop over the places ends.
-    ghost few: { length infos < 2 ^ 16 };
+    ghost few: { length book.infos < 2 ^ 16 };
 
     // The book says nothing by a number that is no atomic rule of it.
-    ghost strange: { (rule : RuleNo) → has_atomic infos rule.0 ≡ false → (page : Document) (n : NodeId) → means rule page n ≡ None };
+    ghost strange: { (rule : RuleNo) → has_atomic book.infos rule.0 ≡ false → (page : Document) (n : NodeId) → book.means rule page n ≡ None };
 }

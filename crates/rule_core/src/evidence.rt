@@ -7,7 +7,7 @@ use snap_tree::{OutOfMemory, Text};
 use std::alloc::Global;
 
 /// The greatest length in bytes of a text that stands in evidence as it is.
-const LONGEST: usize = 4096;
+pub(crate) const LONGEST: usize = 4096;
 
 /// The SHA-256 digest of a text's bytes (FIPS 180-4).
 pub fn digest(text: &Text) -> [u8; 32]
@@ -19,7 +19,7 @@ pub fn digest(text: &Text) -> [u8; 32]
 /// What stands for a text that is too long: `long `, its length in bytes in decimal, a space, and
 /// its digest in lower-case hexadecimal.
 #[tactic(auto, unfolding(crate::specs::Brief::digested))]
-fn digested(alloc: Global, text: &Text) -> Result<Text, OutOfMemory>
+pub(crate) fn digested(alloc: Global, text: &Text) -> Result<Text, OutOfMemory>
     ensures { IfOk result (λ t. t ≡ digested text.now) }
 {
     let hexadecimal = hex::encode(alloc, digest(text))?;
@@ -55,6 +55,3 @@ pub fn laws_of_evidence()
     ensures itself { (text : List ℕ) → length text ≤ 4096 → brief text ≡ text }
     ensures short { (text : List ℕ) → length text < 2 ^ 64 → length (brief text) ≤ 4096 }
 {}
-
-#[cfg(test)]
-mod tests;

@@ -11,7 +11,7 @@ use acc_tree::{
     Above, Attribute, Tag, attr, element_of, has, html_tag, included_at, role_at, under,
 };
 use aria_tables::{AriaAttr, Role, is_landmark};
-use rule_core::{Finding, Reason, Verdict, brief};
+use rule_core::{Finding, LastLong, Reason, Verdict};
 use snap_tree::{Branches, OutOfMemory, Row, Text, Tree};
 use std::alloc::Global;
 
@@ -69,23 +69,32 @@ fn leads_inside(tree: &Tree, href: &str) -> bool
 }
 
 // Something, a space, and the name.
-fn with_name(alloc: Global, word: &str, name: &Text) -> Result<Text, OutOfMemory>
+fn with_name(
+    alloc: Global,
+    word: &str,
+    name: &Text,
+    last: &mut LastLong,
+) -> Result<Text, OutOfMemory>
     ensures { IfOk result (λ line. line ≡ with_name word.now name.now) }
 {
-    let shown = brief(alloc, name)?;
+    let shown = last.brief(alloc, name)?;
     let mut line = String::from_str(alloc, word)?;
     line.push(' ')?;
     line.push_str(shown.as_str())?;
     Ok(Text::from_string(line))
 }
 
-fn heading_line(alloc: Global, name: &Text) -> Result<Option<Text>, OutOfMemory>
+fn heading_line(
+    alloc: Global,
+    name: &Text,
+    last: &mut LastLong,
+) -> Result<Option<Text>, OutOfMemory>
     ensures { IfOk result (λ line. line ≡ heading_line name.now) }
 {
     if name.is_empty() {
         return Ok(None);
     }
-    Ok(Some(brief(alloc, name)?))
+    Ok(Some(last.brief(alloc, name)?))
 }
 
 fn collapses(above: &Above, row: &Row) -> bool
@@ -100,13 +109,14 @@ fn of_heading(
     tree: &Tree,
     above: &Above,
     row: &Row,
+    last: &mut LastLong,
 ) -> Result<Option<Text>, OutOfMemory>
     ensures { IfOk result (λ line. line ≡ of_heading above.now (seen_row row.now) (name_of (seen tree.now.trees) row.now.id).text) }
 {
     if !(is_heading(role_at(above, row)) && included_at(above, row)) {
         return Ok(None);
     }
-    heading_line(alloc, &name(alloc, tree, row.id)?.text)
+    heading_line(alloc, &name(alloc, tree, row.id)?.text, last)
 }
 
 fn of_landmark(
@@ -114,13 +124,14 @@ fn of_landmark(
     tree: &Tree,
     above: &Above,
     row: &Row,
+    last: &mut LastLong,
 ) -> Result<Option<Text>, OutOfMemory>
     ensures { IfOk result (λ line. line ≡ of_landmark above.now (seen_row row.now) (name_of (seen tree.now.trees) row.now.id).text) }
 {
     match role_at(above, row) {
         Some(role) if is_landmark(role) && included_at(above, row) => {
             let name = name(alloc, tree, row.id)?;
-            Ok(Some(with_name(alloc, role.word(), &name.text)?))
+            Ok(Some(with_name(alloc, role.word(), &name.text, last)?))
         }
         _ => Ok(None),
     }
@@ -131,6 +142,7 @@ fn of_skip_link(
     tree: &Tree,
     above: &Above,
     row: &Row,
+    last: &mut LastLong,
 ) -> Result<Option<Text>, OutOfMemory>
     ensures { IfOk result (λ line. line ≡ of_skip_link (seen tree.now.trees) above.now (seen_row row.now) (name_of (seen tree.now.trees) row.now.id).text) }
 {
@@ -140,7 +152,7 @@ fn of_skip_link(
     match attr(row, Attribute::Href) {
         Some(href) if leads_inside(tree, href.as_str()) => {
             let name = name(alloc, tree, row.id)?;
-            Ok(Some(with_name(alloc, href.as_str(), &name.text)?))
+            Ok(Some(with_name(alloc, href.as_str(), &name.text, last)?))
         }
         _ => Ok(None),
     }
@@ -151,6 +163,7 @@ fn of_collapse(
     tree: &Tree,
     above: &Above,
     row: &Row,
+    last: &mut LastLong,
 ) -> Result<Option<Text>, OutOfMemory>
     ensures { IfOk result (λ line. line ≡ of_collapse above.now (seen_row row.now) (name_of (seen tree.now.trees) row.now.id).text) }
 {
@@ -158,7 +171,7 @@ fn of_collapse(
         return Ok(None);
     }
     let name = name(alloc, tree, row.id)?;
-    Ok(Some(brief(alloc, &name.text)?))
+    Ok(Some(last.brief(alloc, &name.text)?))
 }
 
 impl Bypass {
@@ -170,14 +183,15 @@ impl Bypass {
         tree: &Tree,
         above: &Above,
         row: &Row,
+        last: &mut LastLong,
     ) -> Result<Option<Text>, OutOfMemory>
         ensures { IfOk result (λ line. line ≡ line_at self (seen tree.now.trees) above.now (seen_row row.now)) }
     {
         match self {
-            Bypass::Heading => of_heading(alloc, tree, above, row),
-            Bypass::Landmark => of_landmark(alloc, tree, above, row),
-            Bypass::SkipLink => of_skip_link(alloc, tree, above, row),
-            Bypass::Collapse => of_collapse(alloc, tree, above, row),
+            Bypass::Heading => of_heading(alloc, tree, above, row, last),
+            Bypass::Landmark => of_landmark(alloc, tree, above, row, last),
+            Bypass::SkipLink => of_skip_link(alloc, tree, above, row, last),
+            Bypass::Collapse => of_collapse(alloc, tree, above, row, last),
         }
     }
 
@@ -189,10 +203,11 @@ impl Bypass {
         tree: &Tree,
         above: &Above,
         row: &Row,
+        last: &mut LastLong,
     ) -> Result<(), OutOfMemory>
         ensures { OnOk result (found.new.items ≡ found.old.items ++ one (line_at self (seen tree.now.trees) above.now (seen_row row.now))) }
     {
-        if let Some(line) = self.line_at(alloc, tree, above, row)? {
+        if let Some(line) = self.line_at(alloc, tree, above, row, last)? {
             found.push(line)?;
         }
         Ok(())
@@ -206,14 +221,15 @@ impl Bypass {
         tree: &Tree,
         above: &Above<'a>,
         trees: Branches<'a>,
+        last: &mut LastLong,
     ) -> Result<(), OutOfMemory>
         ensures { OnOk result (found.new.items ≡ found.old.items ++ lines self (seen tree.now.trees) above.now (seen trees.entry)) }
     {
         let mut rest = trees;
         while let Some(branch) = rest.first() {
-            self.add_line(found, alloc, tree, above, branch.row)?;
+            self.add_line(found, alloc, tree, above, branch.row, last)?;
             let kids_above = under(above, branch.row);
-            self.add_lines(found, alloc, tree, &kids_above, branch.kids)?;
+            self.add_lines(found, alloc, tree, &kids_above, branch.kids, last)?;
             rest = branch.after;
         }
         Ok(())
@@ -263,7 +279,15 @@ impl Bypass {
             return Ok(None);
         }
         let mut lines = Vec::new(alloc);
-        self.add_lines(&mut lines, alloc, tree, &Above::nothing(), tree.branches())?;
+        let mut last = LastLong::new();
+        self.add_lines(
+            &mut lines,
+            alloc,
+            tree,
+            &Above::nothing(),
+            tree.branches(),
+            &mut last,
+        )?;
         Ok(Some(self.lines_verdict(alloc, lines.as_slice())?))
     }
 }

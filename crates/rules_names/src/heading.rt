@@ -1,9 +1,10 @@
 ghost use Rattle.rules_names.specs.Heading.{heading_has_name, heading_has_name_info};
 
+use crate::by_name::{JudgesByName, judge_alone, judge_in_turn};
 use crate::named::wants_name;
 use acc_tree::included_at;
 use aria_tables::Role;
-use rule_core::{Class, Rule, RuleInfo, Verdict};
+use rule_core::{Class, LastLong, NodeVerdict, Rule, RuleInfo, Verdict};
 use rule_sights::sight_as;
 use snap_tree::{NodeId, OutOfMemory, Tree};
 use std::alloc::Global;
@@ -13,6 +14,26 @@ use std::alloc::Global;
 /// node of role heading. It fails where the name is empty. The evidence is the role and the name.
 #[derive(Clone, Copy, Debug, PartialEq, Eq)]
 pub struct HeadingHasName;
+
+impl JudgesByName for HeadingHasName {
+    ghost says = { heading_has_name };
+
+    fn judge_by(
+        &self,
+        alloc: Global,
+        last: &mut LastLong,
+        tree: &Tree,
+        n: NodeId,
+    ) -> Result<Option<Verdict>, OutOfMemory> {
+        let Some(sight) = sight_as(tree, n, &[Role::Heading]) else {
+            return Ok(None);
+        };
+        if !included_at(&sight.above, sight.row) {
+            return Ok(None);
+        }
+        wants_name(alloc, last, tree, n, &sight)
+    }
+}
 
 impl Rule for HeadingHasName {
     ghost means = { heading_has_name };
@@ -24,12 +45,10 @@ impl Rule for HeadingHasName {
     }
 
     fn judge(&self, alloc: Global, tree: &Tree, n: NodeId) -> Result<Option<Verdict>, OutOfMemory> {
-        let Some(sight) = sight_as(tree, n, &[Role::Heading]) else {
-            return Ok(None);
-        };
-        if !included_at(&sight.above, sight.row) {
-            return Ok(None);
-        }
-        wants_name(alloc, tree, n, &sight)
+        judge_alone(self, alloc, tree, n)
+    }
+
+    fn judge_page(&self, alloc: Global, tree: &Tree) -> Result<Vec<NodeVerdict>, OutOfMemory> {
+        judge_in_turn(self, alloc, tree)
     }
 }

@@ -4,11 +4,12 @@ ghost use Rattle.acc_tree.specs.Seen.{seen_row, seen};
 ghost use Rattle.acc_name.specs.Names.{name_of};
 ghost use Rattle.rules_names.specs.HeadingDescriptive.{asks_a_person, heading_is_descriptive, heading_is_descriptive_info};
 
+use crate::by_name::{JudgesByName, judge_alone, judge_in_turn};
 use crate::named::named_verdict;
 use acc_name::name;
 use acc_tree::{Sight, included_at, role_at};
 use aria_tables::Role;
-use rule_core::{Class, Finding, Reason, Rule, RuleInfo, Verdict};
+use rule_core::{Class, Finding, LastLong, NodeVerdict, Reason, Rule, RuleInfo, Verdict};
 use rule_sights::sight_as;
 use snap_tree::{NodeId, OutOfMemory, Text, Tree};
 use std::alloc::Global;
@@ -22,6 +23,7 @@ pub struct HeadingIsDescriptive;
 
 fn asks_a_person(
     alloc: Global,
+    last: &mut LastLong,
     role: Option<Role>,
     name: &Text,
 ) -> Result<Option<Verdict>, OutOfMemory>
@@ -31,11 +33,12 @@ fn asks_a_person(
         return Ok(None);
     }
     let finding = Finding::cant_tell(Reason::JudgeHeading);
-    Ok(Some(named_verdict(alloc, finding, role, name)?))
+    Ok(Some(named_verdict(alloc, last, finding, role, name)?))
 }
 
 fn verdict(
     alloc: Global,
+    last: &mut LastLong,
     tree: &Tree,
     n: NodeId,
     sight: &Sight<'_>,
@@ -43,7 +46,27 @@ fn verdict(
     ensures { IfOk result (λ verdict. verdict ≡ asks_a_person (role_at sight.now.above (seen_row sight.now.row.now)) (name_of (seen tree.now.trees) n).text) }
 {
     let name = name(alloc, tree, n)?;
-    asks_a_person(alloc, role_at(&sight.above, sight.row), &name.text)
+    asks_a_person(alloc, last, role_at(&sight.above, sight.row), &name.text)
+}
+
+impl JudgesByName for HeadingIsDescriptive {
+    ghost says = { heading_is_descriptive };
+
+    fn judge_by(
+        &self,
+        alloc: Global,
+        last: &mut LastLong,
+        tree: &Tree,
+        n: NodeId,
+    ) -> Result<Option<Verdict>, OutOfMemory> {
+        let Some(sight) = sight_as(tree, n, &[Role::Heading]) else {
+            return Ok(None);
+        };
+        if !included_at(&sight.above, sight.row) {
+            return Ok(None);
+        }
+        verdict(alloc, last, tree, n, &sight)
+    }
 }
 
 impl Rule for HeadingIsDescriptive {
@@ -56,12 +79,10 @@ impl Rule for HeadingIsDescriptive {
     }
 
     fn judge(&self, alloc: Global, tree: &Tree, n: NodeId) -> Result<Option<Verdict>, OutOfMemory> {
-        let Some(sight) = sight_as(tree, n, &[Role::Heading]) else {
-            return Ok(None);
-        };
-        if !included_at(&sight.above, sight.row) {
-            return Ok(None);
-        }
-        verdict(alloc, tree, n, &sight)
+        judge_alone(self, alloc, tree, n)
+    }
+
+    fn judge_page(&self, alloc: Global, tree: &Tree) -> Result<Vec<NodeVerdict>, OutOfMemory> {
+        judge_in_turn(self, alloc, tree)
     }
 }

@@ -1,8 +1,9 @@
 ghost use Rattle.rules_names.specs.Iframe.{iframe_has_name, iframe_has_name_info};
 
+use crate::by_name::{JudgesByName, judge_alone, judge_in_turn};
 use crate::named::wants_name;
 use acc_tree::included_at;
-use rule_core::{Class, Rule, RuleInfo, Verdict};
+use rule_core::{Class, LastLong, NodeVerdict, Rule, RuleInfo, Verdict};
 use rule_sights::sight_of_html;
 use snap_tree::{NodeId, OutOfMemory, Tree};
 use std::alloc::Global;
@@ -12,6 +13,26 @@ use std::alloc::Global;
 /// HTML `iframe`. It fails where the name is empty. The evidence is the role and the name.
 #[derive(Clone, Copy, Debug, PartialEq, Eq)]
 pub struct IframeHasName;
+
+impl JudgesByName for IframeHasName {
+    ghost says = { iframe_has_name };
+
+    fn judge_by(
+        &self,
+        alloc: Global,
+        last: &mut LastLong,
+        tree: &Tree,
+        n: NodeId,
+    ) -> Result<Option<Verdict>, OutOfMemory> {
+        let Some(sight) = sight_of_html(tree, n, "iframe") else {
+            return Ok(None);
+        };
+        if !included_at(&sight.above, sight.row) {
+            return Ok(None);
+        }
+        wants_name(alloc, last, tree, n, &sight)
+    }
+}
 
 impl Rule for IframeHasName {
     ghost means = { iframe_has_name };
@@ -23,12 +44,10 @@ impl Rule for IframeHasName {
     }
 
     fn judge(&self, alloc: Global, tree: &Tree, n: NodeId) -> Result<Option<Verdict>, OutOfMemory> {
-        let Some(sight) = sight_of_html(tree, n, "iframe") else {
-            return Ok(None);
-        };
-        if !included_at(&sight.above, sight.row) {
-            return Ok(None);
-        }
-        wants_name(alloc, tree, n, &sight)
+        judge_alone(self, alloc, tree, n)
+    }
+
+    fn judge_page(&self, alloc: Global, tree: &Tree) -> Result<Vec<NodeVerdict>, OutOfMemory> {
+        judge_in_turn(self, alloc, tree)
     }
 }

@@ -4,12 +4,13 @@ ghost use Rattle.acc_tree.specs.Seen.{seen_row, seen};
 ghost use Rattle.acc_name.specs.Names.{name_of};
 ghost use Rattle.rules_names.specs.Image.{is_included_image, is_decorative_image, is_image_target, image_finding, image_verdict, image_has_name, image_has_name_info};
 
+use crate::by_name::{JudgesByName, judge_alone, judge_in_turn};
 use crate::elements::{is_html_element, is_img};
 use crate::named::{name_finding, named_verdict};
 use acc_name::name;
 use acc_tree::{Above, Sight, decorative_at, exposed_at, included_at, role_at};
 use aria_tables::Role;
-use rule_core::{Class, Finding, Reason, Rule, RuleInfo, Verdict};
+use rule_core::{Class, Finding, LastLong, NodeVerdict, Reason, Rule, RuleInfo, Verdict};
 use rule_sights::sight_as;
 use snap_tree::{NodeId, OutOfMemory, Row, Text, Tree};
 use std::alloc::Global;
@@ -51,6 +52,7 @@ fn finding(role: Option<Role>, name: &Text) -> Finding
 
 fn verdict(
     alloc: Global,
+    last: &mut LastLong,
     tree: &Tree,
     n: NodeId,
     sight: &Sight<'_>,
@@ -59,7 +61,27 @@ fn verdict(
 {
     let role = role_at(&sight.above, sight.row);
     let name = name(alloc, tree, n)?;
-    Ok(Some(named_verdict(alloc, finding(role, &name.text), role, &name.text)?))
+    Ok(Some(named_verdict(alloc, last, finding(role, &name.text), role, &name.text)?))
+}
+
+impl JudgesByName for ImageHasName {
+    ghost says = { image_has_name };
+
+    fn judge_by(
+        &self,
+        alloc: Global,
+        last: &mut LastLong,
+        tree: &Tree,
+        n: NodeId,
+    ) -> Result<Option<Verdict>, OutOfMemory> {
+        let Some(sight) = sight_as(tree, n, &[Role::Img, Role::NoneRole, Role::Presentation]) else {
+            return Ok(None);
+        };
+        if !is_target(&sight.above, sight.row) {
+            return Ok(None);
+        }
+        verdict(alloc, last, tree, n, &sight)
+    }
 }
 
 impl Rule for ImageHasName {
@@ -72,12 +94,10 @@ impl Rule for ImageHasName {
     }
 
     fn judge(&self, alloc: Global, tree: &Tree, n: NodeId) -> Result<Option<Verdict>, OutOfMemory> {
-        let Some(sight) = sight_as(tree, n, &[Role::Img, Role::NoneRole, Role::Presentation]) else {
-            return Ok(None);
-        };
-        if !is_target(&sight.above, sight.row) {
-            return Ok(None);
-        }
-        verdict(alloc, tree, n, &sight)
+        judge_alone(self, alloc, tree, n)
+    }
+
+    fn judge_page(&self, alloc: Global, tree: &Tree) -> Result<Vec<NodeVerdict>, OutOfMemory> {
+        judge_in_turn(self, alloc, tree)
     }
 }

@@ -2,10 +2,11 @@ ghost use Rattle.std.specs.Prelude.{◌≡◌};
 ghost use Rattle.acc_tree.specs.Seen.{seen_row};
 ghost use Rattle.rules_names.specs.ImageButton.{is_image_button_target, image_button_has_name, image_button_has_name_info};
 
+use crate::by_name::{JudgesByName, judge_alone, judge_in_turn};
 use crate::elements::is_image_input;
 use crate::named::wants_name;
 use acc_tree::{Above, Attribute, included_at};
-use rule_core::{Class, Rule, RuleInfo, Verdict};
+use rule_core::{Class, LastLong, NodeVerdict, Rule, RuleInfo, Verdict};
 use rule_sights::sight_with;
 use snap_tree::{NodeId, OutOfMemory, Row, Tree};
 use std::alloc::Global;
@@ -22,6 +23,26 @@ fn is_target(above: &Above, row: &Row) -> bool
     is_image_input(row) && included_at(above, row)
 }
 
+impl JudgesByName for ImageButtonHasName {
+    ghost says = { image_button_has_name };
+
+    fn judge_by(
+        &self,
+        alloc: Global,
+        last: &mut LastLong,
+        tree: &Tree,
+        n: NodeId,
+    ) -> Result<Option<Verdict>, OutOfMemory> {
+        let Some(sight) = sight_with(tree, n, Attribute::TypeAttr) else {
+            return Ok(None);
+        };
+        if !is_target(&sight.above, sight.row) {
+            return Ok(None);
+        }
+        wants_name(alloc, last, tree, n, &sight)
+    }
+}
+
 impl Rule for ImageButtonHasName {
     ghost means = { image_button_has_name };
 
@@ -32,12 +53,10 @@ impl Rule for ImageButtonHasName {
     }
 
     fn judge(&self, alloc: Global, tree: &Tree, n: NodeId) -> Result<Option<Verdict>, OutOfMemory> {
-        let Some(sight) = sight_with(tree, n, Attribute::TypeAttr) else {
-            return Ok(None);
-        };
-        if !is_target(&sight.above, sight.row) {
-            return Ok(None);
-        }
-        wants_name(alloc, tree, n, &sight)
+        judge_alone(self, alloc, tree, n)
+    }
+
+    fn judge_page(&self, alloc: Global, tree: &Tree) -> Result<Vec<NodeVerdict>, OutOfMemory> {
+        judge_in_turn(self, alloc, tree)
     }
 }

@@ -3,6 +3,7 @@
 #![tactic(auto)]
 
 mod button;
+mod by_name;
 mod elements;
 mod form_field;
 mod heading;

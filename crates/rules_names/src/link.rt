@@ -2,11 +2,12 @@ ghost use Rattle.std.specs.Prelude.{◌≡◌};
 ghost use Rattle.acc_tree.specs.Seen.{seen_row};
 ghost use Rattle.rules_names.specs.Link.{is_link_target, link_has_name, link_has_name_info};
 
+use crate::by_name::{JudgesByName, judge_alone, judge_in_turn};
 use crate::elements::is_html_element;
 use crate::named::wants_name;
 use acc_tree::{Above, included_at};
 use aria_tables::Role;
-use rule_core::{Class, Rule, RuleInfo, Verdict};
+use rule_core::{Class, LastLong, NodeVerdict, Rule, RuleInfo, Verdict};
 use rule_sights::sight_as;
 use snap_tree::{NodeId, OutOfMemory, Row, Tree};
 use std::alloc::Global;
@@ -23,6 +24,26 @@ fn is_target(above: &Above, row: &Row) -> bool
     is_html_element(row) && included_at(above, row)
 }
 
+impl JudgesByName for LinkHasName {
+    ghost says = { link_has_name };
+
+    fn judge_by(
+        &self,
+        alloc: Global,
+        last: &mut LastLong,
+        tree: &Tree,
+        n: NodeId,
+    ) -> Result<Option<Verdict>, OutOfMemory> {
+        let Some(sight) = sight_as(tree, n, &[Role::Link]) else {
+            return Ok(None);
+        };
+        if !is_target(&sight.above, sight.row) {
+            return Ok(None);
+        }
+        wants_name(alloc, last, tree, n, &sight)
+    }
+}
+
 impl Rule for LinkHasName {
     ghost means = { link_has_name };
 
@@ -33,12 +54,10 @@ impl Rule for LinkHasName {
     }
 
     fn judge(&self, alloc: Global, tree: &Tree, n: NodeId) -> Result<Option<Verdict>, OutOfMemory> {
-        let Some(sight) = sight_as(tree, n, &[Role::Link]) else {
-            return Ok(None);
-        };
-        if !is_target(&sight.above, sight.row) {
-            return Ok(None);
-        }
-        wants_name(alloc, tree, n, &sight)
+        judge_alone(self, alloc, tree, n)
+    }
+
+    fn judge_page(&self, alloc: Global, tree: &Tree) -> Result<Vec<NodeVerdict>, OutOfMemory> {
+        judge_in_turn(self, alloc, tree)
     }
 }

@@ -8,20 +8,21 @@ use crate::role_and_name::role_and_name;
 use acc_name::name;
 use acc_tree::{Sight, role_at};
 use aria_tables::Role;
-use rule_core::{Finding, Reason, Verdict};
+use rule_core::{Finding, LastLong, Reason, Verdict};
 use snap_tree::{NodeId, OutOfMemory, Text, Tree};
 use std::alloc::Global;
 
 /// The verdict that rests on a role and a name.
 pub(crate) fn named_verdict(
     alloc: Global,
+    last: &mut LastLong,
     finding: Finding,
     role: Option<Role>,
     name: &Text,
 ) -> Result<Verdict, OutOfMemory>
     ensures { IfOk result (λ verdict. verdict ≡ named_verdict finding role name.now) }
 {
-    let evidence = role_and_name(alloc, role, name)?;
+    let evidence = role_and_name(alloc, last, role, name)?;
     finding.verdict(alloc, &evidence)
 }
 
@@ -39,6 +40,7 @@ pub(crate) fn name_finding(name: &Text) -> Finding
 /// What a rule says of a target that wants a name. The name is computed here, and only here.
 pub(crate) fn wants_name(
     alloc: Global,
+    last: &mut LastLong,
     tree: &Tree,
     n: NodeId,
     sight: &Sight<'_>,
@@ -47,5 +49,5 @@ pub(crate) fn wants_name(
 {
     let role = role_at(&sight.above, sight.row);
     let name = name(alloc, tree, n)?;
-    Ok(Some(named_verdict(alloc, name_finding(&name.text), role, &name.text)?))
+    Ok(Some(named_verdict(alloc, last, name_finding(&name.text), role, &name.text)?))
 }

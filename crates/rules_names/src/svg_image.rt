@@ -2,11 +2,12 @@ ghost use Rattle.std.specs.Prelude.{◌≡◌};
 ghost use Rattle.acc_tree.specs.Seen.{seen_row};
 ghost use Rattle.rules_names.specs.SvgImage.{is_svg_image_target, svg_image_has_name, svg_image_has_name_info};
 
+use crate::by_name::{JudgesByName, judge_alone, judge_in_turn};
 use crate::elements::is_svg_element;
 use crate::named::wants_name;
 use acc_tree::{Above, Attribute, explicit_at, included_at};
 use aria_tables::Role;
-use rule_core::{Class, Rule, RuleInfo, Verdict};
+use rule_core::{Class, LastLong, NodeVerdict, Rule, RuleInfo, Verdict};
 use rule_sights::sight_with;
 use snap_tree::{NodeId, OutOfMemory, Row, Tree};
 use std::alloc::Global;
@@ -24,6 +25,26 @@ fn is_target(above: &Above, row: &Row) -> bool
     is_svg_element(row) && matches!(explicit_at(row), Some(Role::Img)) && included_at(above, row)
 }
 
+impl JudgesByName for SvgImageHasName {
+    ghost says = { svg_image_has_name };
+
+    fn judge_by(
+        &self,
+        alloc: Global,
+        last: &mut LastLong,
+        tree: &Tree,
+        n: NodeId,
+    ) -> Result<Option<Verdict>, OutOfMemory> {
+        let Some(sight) = sight_with(tree, n, Attribute::RoleAttr) else {
+            return Ok(None);
+        };
+        if !is_target(&sight.above, sight.row) {
+            return Ok(None);
+        }
+        wants_name(alloc, last, tree, n, &sight)
+    }
+}
+
 impl Rule for SvgImageHasName {
     ghost means = { svg_image_has_name };
 
@@ -34,12 +55,10 @@ impl Rule for SvgImageHasName {
     }
 
     fn judge(&self, alloc: Global, tree: &Tree, n: NodeId) -> Result<Option<Verdict>, OutOfMemory> {
-        let Some(sight) = sight_with(tree, n, Attribute::RoleAttr) else {
-            return Ok(None);
-        };
-        if !is_target(&sight.above, sight.row) {
-            return Ok(None);
-        }
-        wants_name(alloc, tree, n, &sight)
+        judge_alone(self, alloc, tree, n)
+    }
+
+    fn judge_page(&self, alloc: Global, tree: &Tree) -> Result<Vec<NodeVerdict>, OutOfMemory> {
+        judge_in_turn(self, alloc, tree)
     }
 }

@@ -72,7 +72,7 @@ fn seconds(content: &[u8]) -> Option<u64>
     }
 }
 
-#[tactic(auto, using(crate::proofs::Seeing::html_seen))]
+#[tactic(auto, using(rule_sights::proofs::Seeing::html_seen))]
 fn asks_to_refresh(row: &Row) -> bool
     ensures { result ≡ asks_to_refresh (seen_row row.now) }
 {

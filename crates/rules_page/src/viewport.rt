@@ -199,7 +199,7 @@ fn content_verdict(alloc: Global, content: &Text) -> Result<Option<Verdict>, Out
     zoom_verdict(alloc, content, scalable, scale)
 }
 
-#[tactic(auto, using(crate::proofs::Seeing::html_seen))]
+#[tactic(auto, using(rule_sights::proofs::Seeing::html_seen))]
 fn is_viewport(row: &Row) -> bool
     ensures { result ≡ is_viewport (seen_row row.now) }
 {

@@ -1,6 +1,5 @@
 ghost use Rattle.std.specs.Prelude.{◌≡◌, ◌++◌, codes, decimal, option_and_then, IfOk};
 ghost use Rattle.rule_core.specs.Findings.{verdict_of};
-ghost use Rattle.rule_core.specs.Pages.{page_verdicts};
 ghost use Rattle.acc_tree.specs.Seen.{seen_row, seen};
 ghost use Rattle.rules_tables.specs.HeaderHasCells.{is_header_role, is_header_target, header_finding, cells_text};
 ghost use Rattle.rules_tables.specs.HeaderHasCells.{header_verdict, header_has_cells, header_has_cells_info};
@@ -122,22 +121,6 @@ fn verdict_among(
     }
 }
 
-impl HeaderHasCells {
-    /// The verdicts on a page, in document order: of each node that is a target. Each table of the page is
-    /// gone over once, whatever the number of its headers. Fails only for want of memory.
-    pub fn judge_page(&self, alloc: Global, tree: &Tree) -> Result<Vec<NodeVerdict>, OutOfMemory>
-        ensures { IfOk result (λ verdicts. verdicts.items ≡ page_verdicts header_has_cells tree.now) }
-    {
-        let tables = heads_of(alloc, tree)?;
-        let mut verdicts = Vec::new(alloc);
-        for row in tree.rows() {
-            let verdict = verdict_among(alloc, tables.as_slice(), tree, row.id)?;
-            push_verdict(&mut verdicts, row.id, verdict)?;
-        }
-        Ok(verdicts)
-    }
-}
-
 impl Rule for HeaderHasCells {
     ghost means = { header_has_cells };
 
@@ -149,5 +132,16 @@ impl Rule for HeaderHasCells {
 
     fn judge(&self, alloc: Global, tree: &Tree, n: NodeId) -> Result<Option<Verdict>, OutOfMemory> {
         verdict_among(alloc, &[], tree, n)
+    }
+
+    /// Each table of the page is gone over once, whatever the number of its headers.
+    fn judge_page(&self, alloc: Global, tree: &Tree) -> Result<Vec<NodeVerdict>, OutOfMemory> {
+        let tables = heads_of(alloc, tree)?;
+        let mut verdicts = Vec::new(alloc);
+        for row in tree.rows() {
+            let verdict = verdict_among(alloc, tables.as_slice(), tree, row.id)?;
+            push_verdict(&mut verdicts, row.id, verdict)?;
+        }
+        Ok(verdicts)
     }
 }

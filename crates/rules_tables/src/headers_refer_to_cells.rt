@@ -3,7 +3,6 @@ ghost use Rattle.texts.specs.Words.{words};
 ghost use Rattle.acc_tree.specs.declared.attributes.Attribute.TheVariants as attribute;
 ghost use Rattle.acc_tree.specs.Seen.{seen_row, seen, text_at};
 ghost use Rattle.rule_core.specs.Findings.{verdict_of};
-ghost use Rattle.rule_core.specs.Pages.{page_verdicts};
 ghost use Rattle.rules_tables.specs.HeadersReferToCells.{refer_inside, headers_finding, is_headers_target, headers_verdict};
 ghost use Rattle.rules_tables.specs.HeadersReferToCells.{headers_refer_to_cells, headers_refer_to_cells_info};
 ghost use Rattle.rules_tables.specs.TableIds.{AreIds, AreAllIds};
@@ -124,23 +123,6 @@ fn verdict_among(
     }
 }
 
-impl HeadersReferToCells {
-    /// The verdicts on a page, in document order: of each node that is a target. Each table of the page is
-    /// gone over once, whatever the number of the cells with `headers`. Fails only for want of memory.
-    pub fn judge_page(&self, alloc: Global, tree: &Tree) -> Result<Vec<NodeVerdict>, OutOfMemory>
-        ensures { IfOk result
-            (λ verdicts. verdicts.items ≡ page_verdicts headers_refer_to_cells tree.now) }
-    {
-        let tables = all_ids(alloc, tree)?;
-        let mut verdicts = Vec::new(alloc);
-        for row in tree.rows() {
-            let verdict = verdict_among(alloc, tables.as_slice(), tree, row.id)?;
-            push_verdict(&mut verdicts, row.id, verdict)?;
-        }
-        Ok(verdicts)
-    }
-}
-
 impl Rule for HeadersReferToCells {
     ghost means = { headers_refer_to_cells };
 
@@ -152,5 +134,16 @@ impl Rule for HeadersReferToCells {
 
     fn judge(&self, alloc: Global, tree: &Tree, n: NodeId) -> Result<Option<Verdict>, OutOfMemory> {
         verdict_among(alloc, &[], tree, n)
+    }
+
+    /// Each table of the page is gone over once, whatever the number of the cells with `headers`.
+    fn judge_page(&self, alloc: Global, tree: &Tree) -> Result<Vec<NodeVerdict>, OutOfMemory> {
+        let tables = all_ids(alloc, tree)?;
+        let mut verdicts = Vec::new(alloc);
+        for row in tree.rows() {
+            let verdict = verdict_among(alloc, tables.as_slice(), tree, row.id)?;
+            push_verdict(&mut verdicts, row.id, verdict)?;
+        }
+        Ok(verdicts)
     }
 }

@@ -1,10 +1,11 @@
-ghost use Rattle.std.specs.Prelude.{◌≡◌, ◌<◌, [], length, IsErr, IfOk, IsTrue, ◌↔◌};
+ghost use Rattle.std.specs.Prelude.{◌≡◌, ◌<◌, ◌≤◌, [], length, Some, IsErr, IfOk, OnErr, IsTrue, ◌↔◌};
+ghost use Rattle.counts.specs.Counts.{next};
 ghost use Rattle.streams.specs.Memory.{held_told, is_refused, taken, after_write};
-ghost use Rattle.streams.specs.Streams.{Writes};
+ghost use Rattle.streams.specs.Streams.{Written, Counts, after_held};
 
+use crate::failed::Failed;
 use crate::sink::Sink;
 use counts::{is_named, next};
-use links::Failed;
 use std::alloc::Global;
 use std::marker::Model;
 use texts::{List, OutOfMemory};
@@ -60,12 +61,16 @@ impl Sink for MemSink {
 
     /// Fails exactly where the list names the call or no room is left, and else takes as many bytes as
     /// there is room for.
-    fn write(&mut self, bytes: &[u8]) -> Result<usize, Failed>
-        requires { 0 < length bytes.now }
-        ensures writes { Writes (held_told self.old) (held_told self.new) bytes.now result }
+    fn write(&mut self, piece: &[u8]) -> Result<usize, Failed>
+        requires { 0 < length piece.now }
+        ensures written { Written after_held piece.now (Some self.old.held) (Some self.new.held) result }
+        ensures some { IfOk result (λ n. 0 < n) }
+        ensures within { IfOk result (λ n. n ≤ length piece.now) }
+        ensures counts { Counts self.old.faults self.new.faults result }
+        ensures fault { OnErr result (self.new.faults ≡ next self.old.faults) }
         ensures fails { IsErr result ↔ IsTrue (is_refused self.old) }
-        ensures takes { IfOk result (λ n. n ≡ taken self.old (length bytes.now)) }
-        ensures after { self.new ≡ after_write self.old bytes.now }
+        ensures takes { IfOk result (λ n. n ≡ taken self.old (length piece.now)) }
+        ensures after { self.new ≡ after_write self.old piece.now }
     {
         let fails = is_named(self.fails.as_slice(), self.calls);
         let left = self.room - self.bytes.len();
@@ -74,8 +79,8 @@ impl Sink for MemSink {
             self.faults = next(self.faults);
             return Err(Failed);
         }
-        let n = bytes.len().min(left);
-        self.bytes.extend_from_slice(&bytes[..n]).unwrap();
+        let n = piece.len().min(left);
+        self.bytes.extend_from_slice(&piece[..n]).unwrap();
         Ok(n)
     }
 }

@@ -1,11 +1,11 @@
-ghost use Rattle.std.specs.Prelude.{◌≡◌, ◌-◌, ◌≤◌, min, max, ◌<◌, [], length, take, drop, IsErr, IfOk, IsTrue, ◌↔◌};
+ghost use Rattle.std.specs.Prelude.{◌≡◌, ◌+◌, ◌≤◌, ◌<◌, [], length, take, drop, Some, IsErr, IfOk, IsTrue, ◌↔◌};
 ghost use Rattle.counts.specs.Calls.{is_named};
-ghost use Rattle.streams.specs.Memory.{given_told, given, after_read};
-ghost use Rattle.streams.specs.Streams.{Reads};
+ghost use Rattle.streams.specs.Memory.{gives_of, given_told, given, after_read};
+ghost use Rattle.streams.specs.Streams.{Read, Counts, before_left, left_is};
 
+use crate::failed::Failed;
 use crate::source::Source;
 use counts::{is_named, next};
-use links::Failed;
 use std::marker::Model;
 use texts::List;
 
@@ -54,9 +54,11 @@ impl Source for MemSource {
     /// Fails exactly where the list names the call, and else gives as many bytes as it may.
     fn read(&mut self, buf: &mut [u8]) -> Result<usize, Failed>
         requires { 0 < length buf.old }
-        ensures reads { Reads (given_told self.old) (given_told self.new) buf.new result }
+        ensures read { Read before_left left_is buf.new (Some self.old.left) (Some self.new.left) result }
+        ensures within { IfOk result (λ n. n ≤ length buf.old) }
+        ensures counts { Counts self.old.faults self.new.faults result }
         ensures fails { IsErr result ↔ IsTrue (is_named self.old.fails self.old.calls) }
-        ensures gives { IfOk result (λ n. (n ≡ given self.old (length buf.old)) × (take n buf.new ≡ take n self.old.left)) }
+        ensures gives { IfOk result (λ n. n ≡ given self.old (length buf.old)) }
         ensures after { self.new ≡ after_read self.old (length buf.old) }
     {
         let fails = is_named(self.fails.as_slice(), self.calls);
@@ -71,11 +73,13 @@ impl Source for MemSource {
     }
 }
 
-// Copies into the front of the buffer what stands at a place, at most a piece of it.
-fn copy_front(bytes: &[u8], at: usize, piece: usize, buf: &mut [u8]) -> usize
+/// Copies into the front of a buffer what stands at a place, at most a piece of it, or 1 byte where that is 0. Gives
+/// how many bytes.
+pub fn copy_front(bytes: &[u8], at: usize, piece: usize, buf: &mut [u8]) -> usize
     requires { at ≤ length bytes.now }
-    ensures count { result ≡ min (min (length buf.old) (max piece 1)) (length bytes.now - at) }
+    ensures count { result ≡ gives_of piece (drop at bytes.now) (length buf.old) }
     ensures copied { take result buf.new ≡ take result (drop at bytes.now) }
+    ensures fits { at + result ≤ length bytes.now }
 {
     let left = &bytes[at..];
     let n = buf.len().min(piece.max(1)).min(left.len());

@@ -26,6 +26,7 @@ impl From<AllocError> for ReadFault {
 
 /// All bytes that a source gives, but no more than the limit; no more are read, whatever comes. `Failed`
 /// comes only where the source met a fault.
+#[tactic(auto, using(crate::proofs::Known::gave_none))]
 pub fn read_all<I: Source>(alloc: Global, input: &mut I, limit: usize) -> Result<Vec<u8>, ReadFault>
     ensures bytes { IfOk result (λ v. IsReadTo limit (I.told input.old) (I.told input.new) v.items) }
     ensures failed { result ≡ Err ReadFault.Failed

@@ -1,12 +1,12 @@
-ghost use Rattle.std.specs.Prelude.{◌≡◌, ◌<◌, None, length, OnOk, OnErr};
+ghost use Rattle.std.specs.Prelude.{◌≡◌, ◌<◌, ◌≤◌, None, length, IfOk, OnOk, OnErr};
 ghost use Rattle.counts.specs.Counts.{next};
 ghost use Rattle.streams.specs.Told.{counted};
-ghost use Rattle.streams.specs.Streams.{Reads};
+ghost use Rattle.streams.specs.Streams.{Read, Counts, before_left, left_is};
 
+use crate::failed::Failed;
 use crate::sink::Sink;
 use crate::source::Source;
 use counts::next;
-use links::Failed;
 use std::io::{Read, Write};
 
 /// A stream that is read, as standard input.
@@ -31,7 +31,9 @@ impl<R: Read + Drop> Source for Reader<R> {
     /// A fault raises the count by one, and nothing else raises it.
     fn read(&mut self, buf: &mut [u8]) -> Result<usize, Failed>
         requires { 0 < length buf.old }
-        ensures reads { Reads (counted self.old.faults) (counted self.new.faults) buf.new result }
+        ensures read { Read before_left left_is buf.new None None result }
+        ensures within { IfOk result (λ n. n ≤ length buf.old) }
+        ensures counts { Counts self.old.faults self.new.faults result }
         ensures fault { OnErr result (self.new.faults ≡ next self.old.faults) }
         ensures no_fault { OnOk result (self.new.faults ≡ self.old.faults) }
     {
@@ -64,8 +66,8 @@ impl<W: Write + Drop> Writer<W> {
 impl<W: Write + Drop> Sink for Writer<W> {
     ghost told = { λ s. record { faults = s.faults; held = None } };
 
-    fn write(&mut self, bytes: &[u8]) -> Result<usize, Failed> {
-        match self.stream.write(bytes) {
+    fn write(&mut self, piece: &[u8]) -> Result<usize, Failed> {
+        match self.stream.write(piece) {
             Ok(n) if n > 0 => Ok(n),
             _ => {
                 self.faults = next(self.faults);

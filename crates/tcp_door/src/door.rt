@@ -3,9 +3,10 @@ ghost use Rattle.std.specs.Prelude.{◌≡◌, ◌+◌, ◌^◌, ◌<◌, None};
 use crate::link::TcpLink;
 use crate::patience::Patience;
 use counts::next;
-use links::{Door, Failed, Heard};
+use links::{Door, Heard};
 use std::net::{Ipv4Addr, Net, TcpListener, TcpStream};
 use std::time::Clock;
+use streams::Failed;
 
 // How often a connection is tried to be taken. One that its peer broke off before may fail a try.
 const MOST_TRIES: u32 = 16;

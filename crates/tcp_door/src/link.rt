@@ -4,9 +4,10 @@ ghost use Rattle.counts.specs.Counts.{Rose};
 use crate::line::Line;
 use crate::patience::Patience;
 use counts::next;
-use links::{Failed, Link};
+use links::Link;
 use std::net::TcpStream;
 use std::time::Clock;
+use streams::Failed;
 
 /// How many reads that give bytes a link over TCP allows in all: 2^48.
 pub const MOST_READS: u64 = 1 << 48;

@@ -7,11 +7,15 @@ mod copies;
 #[cfg(test)]
 mod digests;
 #[cfg(test)]
+mod evidence;
+#[cfg(test)]
 mod finals;
 #[cfg(test)]
 mod findings;
 #[cfg(test)]
 mod infos;
+#[cfg(test)]
+mod long_texts;
 #[cfg(test)]
 mod merging;
 #[cfg(test)]

@@ -18,6 +18,8 @@ mod image_button;
 #[cfg(test)]
 mod link;
 #[cfg(test)]
+mod long_names;
+#[cfg(test)]
 mod naming;
 #[cfg(test)]
 mod samples;

@@ -1,5 +1,5 @@
 use Rattle.std.proofs.Common.{◌+◌, ◌≤◌, sum_by, refl, sym, subst}
-use Rattle.judge_core.specs.Books.{Book}
+use Rattle.rule_core.specs.Books.{Book}
 use Rattle.desk_core.specs.declared.command.Command.TheVariants.{EditPage}
 use Rattle.desk_core.specs.declared.refusal.Needed.TheVariants.{Editor}
 use Rattle.desk_core.specs.Steps.{Request}
@@ -14,7 +14,7 @@ use Rattle.desk_core.proofs.edit_page.edit_page.Goals as goal
 
 pub returns-in-Ok-clause-decides : goal.returns-in-Ok-clause-decides
 returns-in-Ok-clause-decides g c =
-    let book : Book = record { infos = g.B.RuleBook.infos; means = g.B.RuleBook.means } in
+    let book : Book = g.B.RuleBook.book in
     let sent = c.args.sent in
     let request : Request = record { caller = c.args.caller.now; command = EditPage sent.site sent.page sent.rev c.args.edits } in
     let site = c.in-Ok.found.0 in
@@ -28,7 +28,7 @@ returns-in-Ok-clause-decides g c =
 pub returns-in-Ok-clause-counted : goal.returns-in-Ok-clause-counted
 returns-in-Ok-clause-counted g c =
     λ t told.
-    let book : Book = record { infos = g.B.RuleBook.infos; means = g.B.RuleBook.means } in
+    let book : Book = g.B.RuleBook.book in
     let sent = c.args.sent in
     let found = c.in-Ok.ensures.found t told in
     let p = c.in-Ok.found.1 in
@@ -38,7 +38,7 @@ returns-in-Ok-clause-counted g c =
 
 pub returns-in-Err-clause-decides : goal.returns-in-Err-clause-decides
 returns-in-Err-clause-decides g c =
-    let book : Book = record { infos = g.B.RuleBook.infos; means = g.B.RuleBook.means } in
+    let book : Book = g.B.RuleBook.book in
     let sent = c.args.sent in
     let request : Request = record { caller = c.args.caller.now; command = EditPage sent.site sent.page sent.rev c.args.edits } in
     decides_not_found book request Editor sent.site sent.page (λ s p. edit_page book sent.site c.args.caller.now sent.page sent.rev c.args.edits s p) (λ t. refl) _ _ _ _ c.in-Err.refusal c.in-Err.ensures

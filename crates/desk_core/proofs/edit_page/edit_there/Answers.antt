@@ -1,5 +1,5 @@
 use Rattle.std.proofs.Common.{subst}
-use Rattle.judge_core.specs.Books.{Book}
+use Rattle.rule_core.specs.Books.{Book}
 use Rattle.desk_core.specs.Pages.{renewed}
 use Rattle.desk_core.specs.Serving.{Agrees}
 use Rattle.desk_core.proofs.Onward.{agrees_as}
@@ -8,7 +8,7 @@ use Rattle.desk_core.proofs.edit_page.edit_there.Goals as goal
 
 pub returns-in-Ok-clause-decided : goal.returns-in-Ok-clause-decided
 returns-in-Ok-clause-decided g c =
-    let book : Book = record { infos = g.B.RuleBook.infos; means = g.B.RuleBook.means } in
+    let book : Book = g.B.RuleBook.book in
     let sent = c.args.sent in
     let site = c.args.site.now in
     agrees_as c.renewed.result _ _
@@ -17,7 +17,7 @@ returns-in-Ok-clause-decided g c =
 
 pub returns-in-Err-clause-decided : goal.returns-in-Err-clause-decided
 returns-in-Err-clause-decided g c =
-    let book : Book = record { infos = g.B.RuleBook.infos; means = g.B.RuleBook.means } in
+    let book : Book = g.B.RuleBook.book in
     let sent = c.args.sent in
     edit_refused book sent.site c.args.caller.now sent.page sent.rev c.args.edits.now c.args.site.now c.args.kept.now c.requires.revision c.requires.current c.in-Err.refusal
     (c.in-Err.ensures.refused (renewed book sent.site c.args.caller.now sent.page c.args.site.now.counter c.args.kept.now.judgements))

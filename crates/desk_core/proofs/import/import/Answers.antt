@@ -1,5 +1,5 @@
 use Rattle.std.proofs.Common.{◌≤◌, ◌+◌, sum_by, sym, subst}
-use Rattle.judge_core.specs.Books.{Book}
+use Rattle.rule_core.specs.Books.{Book}
 use Rattle.desk_core.specs.declared.command.Command.TheVariants as command
 use Rattle.desk_core.specs.Fitting.{FitsEntries}
 use Rattle.desk_core.specs.Steps.{Request}
@@ -13,7 +13,7 @@ use Rattle.desk_core.proofs.import.import.Goals as goal
 
 pub returns-in-Ok-clause-decides : goal.returns-in-Ok-clause-decides
 returns-in-Ok-clause-decides g c =
-    let book : Book = record { infos = g.B.RuleBook.infos; means = g.B.RuleBook.means } in
+    let book : Book = g.B.RuleBook.book in
     let a = c.args in
     let at = c.in-Ok.arrival in
     let request : Request = record { caller = a.caller.now; command = command.Import a.site a.entries } in
@@ -27,7 +27,7 @@ returns-in-Ok-clause-decides g c =
 
 pub returns-in-Ok-clause-counted : goal.returns-in-Ok-clause-counted
 returns-in-Ok-clause-counted g c =
-    let book : Book = record { infos = g.B.RuleBook.infos; means = g.B.RuleBook.means } in
+    let book : Book = g.B.RuleBook.book in
     subst (λ es. sum_by g.B.RuleBook.calls c.decide.new.books ≤ sum_by g.B.RuleBook.calls c.args.books.now + import_judgings book es) c.in-Ok.ensures.listed c.decide.ensures.counted
 
 pub returns-in-Err-clause-decides : goal.returns-in-Err-clause-decides

@@ -1,5 +1,5 @@
 use Rattle.std.proofs.Common.{Ok, Err, ap, ◌+◌, ◌∙◌, subst}
-use Rattle.judge_core.specs.Books.{Book}
+use Rattle.rule_core.specs.Books.{Book}
 use Rattle.desk_core.specs.Placing.{heads_from}
 use Rattle.desk_core.specs.Building.{Builds}
 use Rattle.desk_core.proofs.ImportLaws.{agrees_there, refused_fault, counted_there}
@@ -7,7 +7,7 @@ use Rattle.desk_core.proofs.import.import_there.Goals as goal
 
 pub returns-in-Ok-clause-decided : goal.returns-in-Ok-clause-decided
 returns-in-Ok-clause-decided g c =
-    let book : Book = record { infos = g.B.RuleBook.infos; means = g.B.RuleBook.means } in
+    let book : Book = g.B.RuleBook.book in
     let at = c.args.arrival in
     let built = subst (λ ws. Builds ws (Ok c.in-Ok.works)) (c.from_vec-placed.ensures.items ∙ c.into_vec.ensures) c.in-Ok.ensures in
     let heads = c.in_ok-heads.ensures ∙ ap (heads_from c.args.caller.now at.counter) c.as_slice.ensures in
@@ -17,13 +17,13 @@ returns-in-Ok-clause-decided g c =
 
 pub returns-in-Ok-clause-counted : goal.returns-in-Ok-clause-counted
 returns-in-Ok-clause-counted g c =
-    let book : Book = record { infos = g.B.RuleBook.infos; means = g.B.RuleBook.means } in
+    let book : Book = g.B.RuleBook.book in
     let built = subst (λ ws. Builds ws (Ok c.in-Ok.works)) (c.from_vec-placed.ensures.items ∙ c.into_vec.ensures) c.in-Ok.ensures in
     counted_there book c.args.arrival.placed c.from_vec-works.result _ _ built.whole (c.from_vec-works.ensures ∙ built.works) c.store_all.ensures.counted
 
 pub returns-in-Err-clause-decided : goal.returns-in-Err-clause-decided
 returns-in-Err-clause-decided g c =
-    let book : Book = record { infos = g.B.RuleBook.infos; means = g.B.RuleBook.means } in
+    let book : Book = g.B.RuleBook.book in
     let at = c.args.arrival in
     let built = subst (λ ws. Builds ws (Err c.in-Err.refusal)) (c.from_vec-placed.ensures.items ∙ c.into_vec.ensures) c.in-Err.ensures in
     refused_fault book c.args.site c.args.caller.now at.counter at.pages at.placed c.in-Err.refusal c.requires.room c.requires.revisions c.requires.fresh built.refused

@@ -3,4 +3,4 @@ use Rattle.desk_core.specs.Pages.{stored}
 use Rattle.desk_core.proofs.import.stored_all.Given as goal
 
 abbrev pub invariant-loop-put : goal.invariant-loop-put
-invariant-loop-put g l = l.told.items ≡ map (stored (record { infos = g.B.RuleBook.infos; means = g.B.RuleBook.means })) (take l.put-index l.pages)
+invariant-loop-put g l = l.told.items ≡ map (stored g.B.RuleBook.book) (take l.put-index l.pages)

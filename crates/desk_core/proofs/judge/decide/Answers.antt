@@ -1,5 +1,5 @@
 use Rattle.std.proofs.Common.{refl}
-use Rattle.judge_core.specs.Books.{Book}
+use Rattle.rule_core.specs.Books.{Book}
 use Rattle.desk_core.specs.State.{page_state}
 use Rattle.desk_core.proofs.Onward.{agrees_as}
 use Rattle.desk_core.proofs.JudgeLaws.{judge_is, no_fault_on}
@@ -7,7 +7,7 @@ use Rattle.desk_core.proofs.judge.decide.Goals as goal
 
 pub returns-in_err-row-clause-no_fault : goal.returns-in_err-row-clause-no_fault
 returns-in_err-row-clause-no_fault g c =
-    let book : Book = record { infos = g.B.RuleBook.infos; means = g.B.RuleBook.means } in
+    let book : Book = g.B.RuleBook.book in
     let a = c.args in
     let j = a.said in
     no_fault_on book a.site a.caller.now a.page j.rule j.node j.verdict j.digest j.note a.kept _ _ c.from_residual.ensures.1 c.in_err-row.ensures.refused
@@ -15,7 +15,7 @@ returns-in_err-row-clause-no_fault g c =
 pub returns-clause-agrees : goal.returns-clause-agrees
 returns-clause-agrees g c =
     λ holds.
-    let book : Book = record { infos = g.B.RuleBook.infos; means = g.B.RuleBook.means } in
+    let book : Book = g.B.RuleBook.book in
     let a = c.args in
     let j = a.said in
     agrees_as c.added.result _ _

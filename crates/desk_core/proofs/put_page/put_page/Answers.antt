@@ -1,4 +1,4 @@
-use Rattle.judge_core.specs.Books.{Book}
+use Rattle.rule_core.specs.Books.{Book}
 use Rattle.desk_core.specs.declared.command.Command.TheVariants.{PutPage}
 use Rattle.desk_core.specs.Steps.{Request}
 use Rattle.desk_core.specs.Pages.{put_page}
@@ -9,7 +9,7 @@ use Rattle.desk_core.proofs.put_page.put_page.Goals as goal
 
 pub returns-in-Ok-clause-decides : goal.returns-in-Ok-clause-decides
 returns-in-Ok-clause-decides g c =
-    let book : Book = record { infos = g.B.RuleBook.infos; means = g.B.RuleBook.means } in
+    let book : Book = g.B.RuleBook.book in
     let sent = c.args.sent in
     let at = c.in-Ok.survey in
     let request : Request = record { caller = c.args.caller.now; command = PutPage sent.site sent.page sent.rev c.args.raw } in

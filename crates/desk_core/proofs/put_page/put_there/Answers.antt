@@ -1,5 +1,5 @@
 use Rattle.std.proofs.Common.{subst}
-use Rattle.judge_core.specs.Books.{Book}
+use Rattle.rule_core.specs.Books.{Book}
 use Rattle.desk_core.specs.Pages.{judged, renewed}
 use Rattle.desk_core.specs.Serving.{Agrees}
 use Rattle.desk_core.proofs.Onward.{agrees_as}
@@ -8,7 +8,7 @@ use Rattle.desk_core.proofs.put_page.put_there.Goals as goal
 
 pub returns-in-Ok-clause-decided : goal.returns-in-Ok-clause-decided
 returns-in-Ok-clause-decided g c =
-    let book : Book = record { infos = g.B.RuleBook.infos; means = g.B.RuleBook.means } in
+    let book : Book = g.B.RuleBook.book in
     let at = c.args.survey.now in
     let sent = c.args.sent in
     agrees_as c.renewed.result _ _
@@ -17,7 +17,7 @@ returns-in-Ok-clause-decided g c =
 
 pub returns-in-Err-clause-decided : goal.returns-in-Err-clause-decided
 returns-in-Err-clause-decided g c =
-    let book : Book = record { infos = g.B.RuleBook.infos; means = g.B.RuleBook.means } in
+    let book : Book = g.B.RuleBook.book in
     let at = c.args.survey.now in
     let sent = c.args.sent in
     put_refused book sent.site c.args.caller.now sent.page sent.rev c.args.raw at.site at.kept at.pages c.requires.room c.requires.revision c.requires.current c.in-Err.refusal

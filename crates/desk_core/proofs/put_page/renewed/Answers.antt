@@ -1,11 +1,11 @@
 use Rattle.std.proofs.Common.{ap, subst}
 use Rattle.keep_core.specs.declared.page.PagePut.{PagePut}
-use Rattle.judge_core.specs.Books.{Book}
+use Rattle.rule_core.specs.Books.{Book}
 use Rattle.desk_core.specs.Pages.{storing}
 use Rattle.desk_core.specs.Serving.{Agrees}
 use Rattle.desk_core.proofs.put_page.renewed.Goals as goal
 
 pub returns-clause-decided : goal.returns-clause-decided
 returns-clause-decided g c =
-    let book : Book = record { infos = g.B.RuleBook.infos; means = g.B.RuleBook.means } in
+    let book : Book = g.B.RuleBook.book in
     subst (Agrees ⊥ c.storing.result) (ap (λ (put : PagePut). storing book c.args.sent.site put.page.head.rev put) c.in_ok-put.ensures.put) c.storing.ensures

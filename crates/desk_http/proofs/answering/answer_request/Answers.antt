@@ -1,5 +1,5 @@
 use Rattle.std.proofs.Common.{map}
-use Rattle.judge_core.specs.Books.{Book}
+use Rattle.rule_core.specs.Books.{Book}
 use Rattle.desk_http.specs.Printed.{bytes_of}
 use Rattle.desk_http.specs.Answering.{as_request}
 use Rattle.desk_http.proofs.Responding.{unhandled}
@@ -9,6 +9,6 @@ pub returns-in-Err : goal.returns-in-Err
 returns-in-Err g c =
     let keeper = g.K.Keeper in
     let calls = g.B.RuleBook.calls in
-    let book : Book = record { infos = g.B.RuleBook.infos; means = g.B.RuleBook.means } in
+    let book : Book = g.B.RuleBook.book in
     unhandled book (as_request c.args.asked) c.args.closes (keeper.tables c.args.keeper.now) (keeper.faults c.args.keeper.now) (map calls c.args.books.now)
     (bytes_of c.drop_request.result) (c.drop_request.ensures book.infos)

@@ -1,6 +1,6 @@
 use Rattle.std.proofs.Common.{List, map, subst}
 use Rattle.rule_core.specs.declared.info.RuleInfo.{RuleInfo}
-use Rattle.judge_core.specs.Books.{Book}
+use Rattle.rule_core.specs.Books.{Book}
 use Rattle.desk_http.specs.Printed.{bytes_of, PrintsReply}
 use Rattle.desk_http.specs.Answering.{as_request}
 use Rattle.desk_http.proofs.Responding.{others_rest, costs_of, answered}
@@ -10,7 +10,7 @@ pub returns : goal.returns
 returns g c =
     let keeper = g.K.Keeper in
     let calls = g.B.RuleBook.calls in
-    let book : Book = record { infos = g.B.RuleBook.infos; means = g.B.RuleBook.means } in
+    let book : Book = g.B.RuleBook.book in
     let P : List RuleInfo → Type 0 = λ infos. PrintsReply infos c.handle-reply.result c.args.closes (bytes_of c.print_reply.result) in
     answered book (as_request c.args.asked) c.args.closes (keeper.tables c.args.keeper.now) (keeper.tables c.handle-reply.new.keeper)
     (keeper.faults c.args.keeper.now) (keeper.faults c.handle-reply.new.keeper) (map calls c.args.books.now) (map calls c.handle-reply.new.books)

@@ -1,6 +1,6 @@
 use Rattle.std.proofs.Common.{◌∙◌, refl, arith, map}
 use Rattle.counts.proofs.CountLaws.{rose_after}
-use Rattle.judge_core.specs.Books.{Book}
+use Rattle.rule_core.specs.Books.{Book}
 use Rattle.desk_http.proofs.Tables.{keeps_join}
 use Rattle.desk_http.proofs.DoorLaws.{door_none, door_more, door_keeps}
 use Rattle.desk_http.proofs.serving.serve.Goals as goal
@@ -10,7 +10,7 @@ loop-link-init g c =
     let door = g.D.Door in
     let link = g.D.Conn.Link in
     let keeper = g.K.Keeper in
-    let book : Book = record { infos = g.B.RuleBook.infos; means = g.B.RuleBook.means } in
+    let book : Book = g.B.RuleBook.book in
     record {
       served = door_none book link.wire link.faults (door.log c.args.door.now) (door.told c.args.door.now) (keeper.tables c.args.keeper.now) (keeper.faults c.args.keeper.now) (map g.B.RuleBook.calls c.args.books.now);
       sound = λ t is. (t, is, λ sound. sound);
@@ -37,7 +37,7 @@ loop-link-preserved g c =
     let link = g.D.Conn.Link in
     let keeper = g.K.Keeper in
     let calls = g.B.RuleBook.calls in
-    let book : Book = record { infos = g.B.RuleBook.infos; means = g.B.RuleBook.means } in
+    let book : Book = g.B.RuleBook.book in
     let i = c.loop-link.invariant in
     let one = c.serve_next.ensures in
     let gave = rw c.in-Ok-Some.field-0-is at c.in-Ok-Some.ensures.gives in
@@ -61,7 +61,7 @@ returns-in-Ok-None-clause-served g c =
     let link = g.D.Conn.Link in
     let keeper = g.K.Keeper in
     let calls = g.B.RuleBook.calls in
-    let book : Book = record { infos = g.B.RuleBook.infos; means = g.B.RuleBook.means } in
+    let book : Book = g.B.RuleBook.book in
     let ended = rw c.in-Ok-None.field-0-is at c.in-Ok-None.ensures.gives in
     door_keeps book link.wire link.faults (door.log c.args.door.now) (door.log c.loop-link.door) (door.log c.next.new.self)
     (door.told c.args.door.now) (door.told c.loop-link.door) (door.told c.next.new.self) (keeper.tables c.args.keeper.now) (keeper.tables c.loop-link.keeper)
@@ -96,7 +96,7 @@ returns-in-Err-clause-served g c =
     let link = g.D.Conn.Link in
     let keeper = g.K.Keeper in
     let calls = g.B.RuleBook.calls in
-    let book : Book = record { infos = g.B.RuleBook.infos; means = g.B.RuleBook.means } in
+    let book : Book = g.B.RuleBook.book in
     door_keeps book link.wire link.faults (door.log c.args.door.now) (door.log c.loop-link.door) (door.log c.next.new.self)
     (door.told c.args.door.now) (door.told c.loop-link.door) (door.told c.next.new.self) (keeper.tables c.args.keeper.now) (keeper.tables c.loop-link.keeper)
     (keeper.faults c.args.keeper.now) (keeper.faults c.loop-link.keeper) (map calls c.args.books.now) (map calls c.loop-link.books)

@@ -1,5 +1,5 @@
 use Rattle.std.proofs.Common.{◌≡◌, ◌≤◌, map}
-use Rattle.judge_core.specs.Books.{Book}
+use Rattle.rule_core.specs.Books.{Book}
 use Rattle.desk_http.specs.Serving.{KeepsSound}
 use Rattle.desk_http.specs.Doors.{ServesDoor}
 use Rattle.desk_http.proofs.serving.serve.Given as goal
@@ -10,7 +10,7 @@ invariant-loop-link g l =
     let link = g.D.Conn.Link in
     let keeper = g.K.Keeper in
     let calls = g.B.RuleBook.calls in
-    let book : Book = record { infos = g.B.RuleBook.infos; means = g.B.RuleBook.means } in
+    let book : Book = g.B.RuleBook.book in
     record {
       served : ServesDoor book link.wire link.faults (door.log l.initial.door) (door.told l.initial.door) (keeper.tables l.initial.keeper)
           (door.log l.door) (door.told l.door) (keeper.tables l.keeper) (keeper.faults l.initial.keeper) (keeper.faults l.keeper) (map calls l.initial.books) (map calls l.books);

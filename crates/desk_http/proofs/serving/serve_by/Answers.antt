@@ -1,6 +1,6 @@
 use Rattle.std.proofs.Common.{ℕ, ◌≤◌, map, Ok, Err, refl, ◌∙◌, subst, arith}
 use Rattle.counts.proofs.CountLaws.{rose_after}
-use Rattle.judge_core.specs.Books.{Book}
+use Rattle.rule_core.specs.Books.{Book}
 use Rattle.desk_http.specs.declared.link_end.LinkEnd.TheVariants as end
 use Rattle.desk_http.specs.Linking.{Finishes, CountsFaults}
 use Rattle.desk_http.specs.Serving.{SoFar, Ends}
@@ -13,7 +13,7 @@ loop-held-init g c =
     let link = g.L.Link in
     let keeper = g.K.Keeper in
     let calls = g.B.RuleBook.calls in
-    let book : Book = record { infos = g.B.RuleBook.infos; means = g.B.RuleBook.means } in
+    let book : Book = g.B.RuleBook.book in
     record {
       served = begins book c.new-held.result.items (link.wire c.args.link.now) (keeper.tables c.args.keeper.now) (keeper.faults c.args.keeper.now) (map calls c.args.books.now) c.new-held.ensures.items;
       sound = λ t is. (t, is, λ sound. sound);
@@ -26,7 +26,7 @@ returns-in-Ok-Ended-clause-served g c =
     let link = g.L.Link in
     let keeper = g.K.Keeper in
     let calls = g.B.RuleBook.calls in
-    let book : Book = record { infos = g.B.RuleBook.infos; means = g.B.RuleBook.means } in
+    let book : Book = g.B.RuleBook.book in
     ended_between book c.loop-held.held.items c.read_item.new.held.items (link.wire c.args.link.now) (link.wire c.loop-held.link) (link.wire c.read_item.new.link)
     (keeper.tables c.args.keeper.now) (keeper.tables c.loop-held.keeper) (keeper.faults c.args.keeper.now) (keeper.faults c.loop-held.keeper) (map calls c.args.books.now) (map calls c.loop-held.books)
     c.loop-held.invariant.served (rw c.in-Ok-Ended.field-0-is at c.in-Ok-Ended.ensures.says)
@@ -48,7 +48,7 @@ returns-in-Ok-Cut-clause-served g c =
     let link = g.L.Link in
     let keeper = g.K.Keeper in
     let calls = g.B.RuleBook.calls in
-    let book : Book = record { infos = g.B.RuleBook.infos; means = g.B.RuleBook.means } in
+    let book : Book = g.B.RuleBook.book in
     ended_within book c.loop-held.held.items c.read_item.new.held.items (link.wire c.args.link.now) (link.wire c.loop-held.link) (link.wire c.read_item.new.link)
     (keeper.tables c.args.keeper.now) (keeper.tables c.loop-held.keeper) (keeper.faults c.args.keeper.now) (keeper.faults c.loop-held.keeper) (map calls c.args.books.now) (map calls c.loop-held.books)
     c.loop-held.invariant.served (rw c.in-Ok-Cut.field-0-is at c.in-Ok-Cut.ensures.says)
@@ -70,7 +70,7 @@ returns-in-Err-Failed-clause-served g c =
     let link = g.L.Link in
     let keeper = g.K.Keeper in
     let calls = g.B.RuleBook.calls in
-    let book : Book = record { infos = g.B.RuleBook.infos; means = g.B.RuleBook.means } in
+    let book : Book = g.B.RuleBook.book in
     failed_between book c.loop-held.held.items c.read_item.new.held.items (link.wire c.args.link.now) (link.wire c.loop-held.link) (link.wire c.read_item.new.link)
     (keeper.tables c.args.keeper.now) (keeper.tables c.loop-held.keeper) (keeper.faults c.args.keeper.now) (keeper.faults c.loop-held.keeper) (map calls c.args.books.now) (map calls c.loop-held.books)
     c.loop-held.invariant.served (rw c.in-Err-Failed.field-0-is at c.in-Err-Failed.ensures.says)
@@ -94,7 +94,7 @@ returns-in-Err-clause-served g c =
     let link = g.L.Link in
     let keeper = g.K.Keeper in
     let calls = g.B.RuleBook.calls in
-    let book : Book = record { infos = g.B.RuleBook.infos; means = g.B.RuleBook.means } in
+    let book : Book = g.B.RuleBook.book in
     one_more book c.in-Ok-Came.item (Err c.in-Err.field-0) c.loop-held.held.items c.read_item.new.held.items (link.wire c.args.link.now) (link.wire c.loop-held.link) (link.wire c.read_item.new.link) (link.wire c.serve_item.new.link)
     (keeper.tables c.args.keeper.now) (keeper.tables c.loop-held.keeper) (keeper.tables c.serve_item.new.keeper) (keeper.faults c.args.keeper.now) (keeper.faults c.loop-held.keeper) (keeper.faults c.serve_item.new.keeper)
     (map calls c.args.books.now) (map calls c.loop-held.books) (map calls c.serve_item.new.books) (Ends (Finishes book.infos end.LinkFault))
@@ -103,7 +103,7 @@ returns-in-Err-clause-served g c =
 pub returns-in-Err-clause-sound : goal.returns-in-Err-clause-sound
 returns-in-Err-clause-sound g c =
     let keeper = g.K.Keeper in
-    let book : Book = record { infos = g.B.RuleBook.infos; means = g.B.RuleBook.means } in
+    let book : Book = g.B.RuleBook.book in
     keeps_join book (keeper.tables c.args.keeper.now) (keeper.tables c.loop-held.keeper) (keeper.tables c.serve_item.new.keeper) c.loop-held.invariant.sound c.serve_item.ensures.sound
 
 pub returns-in-Err-clause-faults : goal.returns-in-Err-clause-faults
@@ -122,7 +122,7 @@ returns-then-closes-clause-served g c =
     let link = g.L.Link in
     let keeper = g.K.Keeper in
     let calls = g.B.RuleBook.calls in
-    let book : Book = record { infos = g.B.RuleBook.infos; means = g.B.RuleBook.means } in
+    let book : Book = g.B.RuleBook.book in
     one_more book c.in-Ok-Came.item (Ok c.in-Ok.field-0) c.loop-held.held.items c.read_item.new.held.items (link.wire c.args.link.now) (link.wire c.loop-held.link) (link.wire c.read_item.new.link) (link.wire c.serve_item.new.link)
     (keeper.tables c.args.keeper.now) (keeper.tables c.loop-held.keeper) (keeper.tables c.serve_item.new.keeper) (keeper.faults c.args.keeper.now) (keeper.faults c.loop-held.keeper) (keeper.faults c.serve_item.new.keeper)
     (map calls c.args.books.now) (map calls c.loop-held.books) (map calls c.serve_item.new.books) (Ends (Finishes book.infos end.Closed))
@@ -131,7 +131,7 @@ returns-then-closes-clause-served g c =
 pub returns-then-closes-clause-sound : goal.returns-then-closes-clause-sound
 returns-then-closes-clause-sound g c =
     let keeper = g.K.Keeper in
-    let book : Book = record { infos = g.B.RuleBook.infos; means = g.B.RuleBook.means } in
+    let book : Book = g.B.RuleBook.book in
     keeps_join book (keeper.tables c.args.keeper.now) (keeper.tables c.loop-held.keeper) (keeper.tables c.serve_item.new.keeper) c.loop-held.invariant.sound c.serve_item.ensures.sound
 
 pub returns-then-closes-clause-faults : goal.returns-then-closes-clause-faults
@@ -153,7 +153,7 @@ loop-held-preserved g c =
     let link = g.L.Link in
     let keeper = g.K.Keeper in
     let calls = g.B.RuleBook.calls in
-    let book : Book = record { infos = g.B.RuleBook.infos; means = g.B.RuleBook.means } in
+    let book : Book = g.B.RuleBook.book in
     record {
       served = one_more book c.in-Ok-Came.item (Ok c.in-Ok.field-0) c.loop-held.held.items c.read_item.new.held.items (link.wire c.args.link.now) (link.wire c.loop-held.link) (link.wire c.read_item.new.link) (link.wire c.serve_item.new.link)
           (keeper.tables c.args.keeper.now) (keeper.tables c.loop-held.keeper) (keeper.tables c.serve_item.new.keeper) (keeper.faults c.args.keeper.now) (keeper.faults c.loop-held.keeper) (keeper.faults c.serve_item.new.keeper)
@@ -169,7 +169,7 @@ returns-in-Err-OutOfMemory-clause-served g c =
     let link = g.L.Link in
     let keeper = g.K.Keeper in
     let calls = g.B.RuleBook.calls in
-    let book : Book = record { infos = g.B.RuleBook.infos; means = g.B.RuleBook.means } in
+    let book : Book = g.B.RuleBook.book in
     not_held book c.close_full.result c.loop-held.held.items c.read_item.new.held.items (link.wire c.args.link.now) (link.wire c.loop-held.link) (link.wire c.read_item.new.link) (link.wire c.close_full.new.link)
     (keeper.tables c.args.keeper.now) (keeper.tables c.loop-held.keeper) (keeper.faults c.args.keeper.now) (keeper.faults c.loop-held.keeper) (map calls c.args.books.now) (map calls c.loop-held.books)
     c.loop-held.invariant.served (rw c.in-Err-OutOfMemory.field-0-is at c.in-Err-OutOfMemory.ensures.says) (c.close_full.ensures.closed book.infos)

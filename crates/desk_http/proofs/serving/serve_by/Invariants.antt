@@ -1,5 +1,5 @@
 use Rattle.std.proofs.Common.{◌≡◌, ◌≤◌, map}
-use Rattle.judge_core.specs.Books.{Book}
+use Rattle.rule_core.specs.Books.{Book}
 use Rattle.http_messages.specs.Reading.{weight}
 use Rattle.desk_http.specs.Serving.{KeepsSound, Serves, SoFar}
 use Rattle.desk_http.proofs.serving.serve_by.Given as goal
@@ -9,7 +9,7 @@ invariant-loop-held g l =
     let link = g.L.Link in
     let keeper = g.K.Keeper in
     let calls = g.B.RuleBook.calls in
-    let book : Book = record { infos = g.B.RuleBook.infos; means = g.B.RuleBook.means } in
+    let book : Book = g.B.RuleBook.book in
     record {
       served : Serves book (SoFar book.infos l.held.items) (link.wire l.initial.link) (keeper.tables l.initial.keeper) (link.wire l.link) (keeper.tables l.keeper)
           (keeper.faults l.initial.keeper) (keeper.faults l.keeper) (map calls l.initial.books) (map calls l.books);

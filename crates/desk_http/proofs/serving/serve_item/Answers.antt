@@ -1,5 +1,5 @@
 use Rattle.std.proofs.Common.{map}
-use Rattle.judge_core.specs.Books.{Book}
+use Rattle.rule_core.specs.Books.{Book}
 use Rattle.desk_http.specs.Printed.{bytes_of}
 use Rattle.desk_http.specs.Serving.{AnsweredBy}
 use Rattle.desk_http.proofs.Responding.{item_served}
@@ -11,7 +11,7 @@ returns-clause-served g c =
     let link = g.L.Link in
     let keeper = g.K.Keeper in
     let calls = g.B.RuleBook.calls in
-    let book : Book = record { infos = g.B.RuleBook.infos; means = g.B.RuleBook.means } in
+    let book : Book = g.B.RuleBook.book in
     item_served book c.args.item c.write.result (link.wire c.args.link.now) (link.wire c.write.new.link) (keeper.tables c.args.keeper.now) (keeper.tables c.answer-printed.new.keeper)
     (keeper.faults c.args.keeper.now) (keeper.faults c.answer-printed.new.keeper) (map calls c.args.books.now) (map calls c.answer-printed.new.books)
     (bytes_of c.answer-printed.result) c.answer-printed.ensures c.write.ensures.wrote c.write.ensures.broke_off
@@ -20,7 +20,7 @@ pub returns-clause-sound : goal.returns-clause-sound
 returns-clause-sound g c =
     let keeper = g.K.Keeper in
     let calls = g.B.RuleBook.calls in
-    let book : Book = record { infos = g.B.RuleBook.infos; means = g.B.RuleBook.means } in
+    let book : Book = g.B.RuleBook.book in
     keeps_sound book (AnsweredBy book c.args.item.sent c.answer-printed.ensures.answer (keeper.faults c.args.keeper.now) (keeper.faults c.answer-printed.new.keeper)
     (map calls c.args.books.now) (map calls c.answer-printed.new.books)) (keeper.tables c.args.keeper.now) (keeper.tables c.answer-printed.new.keeper) c.answer-printed.ensures.settles.told
 

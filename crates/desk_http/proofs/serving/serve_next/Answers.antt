@@ -1,5 +1,5 @@
 use Rattle.std.proofs.Common.{map}
-use Rattle.judge_core.specs.Books.{Book}
+use Rattle.rule_core.specs.Books.{Book}
 use Rattle.desk_http.proofs.DoorLaws.{one_served}
 use Rattle.desk_http.proofs.serving.serve_next.Goals as goal
 
@@ -9,7 +9,7 @@ returns-clause-served g c =
     let link = g.D.Conn.Link in
     let keeper = g.K.Keeper in
     let calls = g.B.RuleBook.calls in
-    let book : Book = record { infos = g.B.RuleBook.infos; means = g.B.RuleBook.means } in
+    let book : Book = g.B.RuleBook.book in
     one_served book link.wire link.faults c.serve_by.new.link c.serve_by.result (link.wire c.args.link) (link.faults c.args.link) (door.log c.args.door.now) (door.log c.done.new.self)
     (keeper.tables c.args.keeper.now) (keeper.tables c.serve_by.new.keeper) (keeper.faults c.args.keeper.now) (keeper.faults c.serve_by.new.keeper)
     (map calls c.args.books.now) (map calls c.serve_by.new.books) c.requires.untouched c.serve_by.ensures.served c.serve_by.ensures.faults c.done.ensures.log

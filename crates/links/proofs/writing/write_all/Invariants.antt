@@ -1,5 +1,6 @@
 use Rattle.std.proofs.Common.{◌≡◌, length, take, ◌-◌, ◌≤◌}
-use Rattle.links.specs.Wires.{Wrote}
+use Rattle.streams.specs.Streams.{Wrote}
+use Rattle.links.specs.Wires.{extended}
 use Rattle.links.proofs.writing.write_all.Given as goal
 
 abbrev pub invariant-loop-at : goal.invariant-loop-at
@@ -9,7 +10,7 @@ invariant-loop-at g l =
     let faults = g.L.Link.faults in
     record {
       within : l.at ≤ length l.bytes;
-      wrote : Wrote (take l.at l.bytes) (wire l.initial.link) (wire l.link);
+      wrote : Wrote extended (take l.at l.bytes) (wire l.initial.link) (wire l.link);
       kept : reads l.link ≡ reads l.initial.link;
       same : faults l.link ≡ faults l.initial.link;
     }

@@ -6,4 +6,4 @@ pub returns-clause-rows : goal.returns-clause-rows
 returns-clause-rows g c =
     λ js has.
     c.from_vec.ensures ∙ c.in_ok-rows.ensures js has ∙ ap (map (verdict_row c.args.rule js)) c.in_ok-verdicts.ensures.verdicts
-    ∙ verdict_rows (record { infos = g.B.RuleBook.infos; means = g.B.RuleBook.means }) c.args.tree.now js c.args.rule
+    ∙ verdict_rows g.B.RuleBook.book c.args.tree.now js c.args.rule

@@ -1,15 +1,15 @@
 use Rattle.std.proofs.Common.{◌∙◌, ap}
 use Rattle.rule_core.specs.Infos.{rise}
-use Rattle.judge_core.specs.Books.{Book}
+use Rattle.rule_core.specs.Books.{Book}
 use Rattle.reaudit.proofs.AgainLaws.{orderly_rise}
 use Rattle.reaudit.proofs.judged.after_judgement.Goals as goal
 
 pub returns : goal.returns
 returns g c =
     λ page before from.
-    let book : Book = record { infos = g.B.RuleBook.infos; means = g.B.RuleBook.means } in
+    let book : Book = g.B.RuleBook.book in
     let same = c.as_slice.ensures.value ∙ c.in_ok-infos.ensures in
-    let rising = ap rise same ∙ orderly_rise g.B.RuleBook.infos g.met.B.RuleBook.orderly in
+    let rising = ap rise same ∙ orderly_rise g.B.RuleBook.book.infos g.met.B.RuleBook.orderly in
     c.from_vec.ensures
     ∙ c.in_ok-rows.ensures book page c.args.js.now g.met.B.RuleBook.strange (record {
       whole = c.in_ok-parts.ensures.infos ∙ same;

@@ -2,8 +2,8 @@ use Rattle.std.proofs.Common.{◌≡◌, List, IsTrue, map, take, drop}
 use Rattle.std.specs.List.{flat_map, AllByRecursion}
 use Rattle.snap_tree.specs.Trees.{Document}
 use Rattle.rule_core.specs.Infos.{rise}
+use Rattle.rule_core.specs.Books.{Book}
 use Rattle.judge_core.specs.declared.judgement.Judgement.{Judgement}
-use Rattle.judge_core.specs.Books.{Book}
 use Rattle.judge_core.specs.Outcomes.{rule_rows, outcomes}
 use Rattle.reaudit.specs.ByNode.{IsByNode}
 use Rattle.reaudit.specs.Parts.{IsPart}

@@ -4,7 +4,7 @@ use Rattle.reaudit.proofs.page.audit_page.Goals as goal
 pub returns-clause-rows : goal.returns-clause-rows
 returns-clause-rows g c =
     c.from_vec.ensures
-    ∙ c.in_ok-rows.ensures (record { infos = g.B.RuleBook.infos; means = g.B.RuleBook.means }) c.args.tree.now c.args.js.now g.met.B.RuleBook.strange (record {
+    ∙ c.in_ok-rows.ensures g.B.RuleBook.book c.args.tree.now c.args.js.now g.met.B.RuleBook.strange (record {
       whole = c.in_ok-parts.ensures.infos ∙ c.as_slice.ensures.value ∙ c.in_ok-infos.ensures;
       each = c.in_ok-parts.ensures.parts c.args.js.now c.in_ok-by_node.ensures;
     })

@@ -4,5 +4,5 @@ use Rattle.reaudit.proofs.pages.audit_in_turn.Given as goal
 
 abbrev pub invariant-loop-page : goal.invariant-loop-page
 invariant-loop-page g l =
-    (l.all.items ≡ pages_outcomes (record { infos = g.B.RuleBook.infos; means = g.B.RuleBook.means }) (take l.page-index l.pages))
-    × (g.B.RuleBook.calls l.book ≤ g.B.RuleBook.calls l.initial.book + pages_judgings (record { infos = g.B.RuleBook.infos; means = g.B.RuleBook.means }) (take l.page-index l.pages))
+    (l.all.items ≡ pages_outcomes g.B.RuleBook.book (take l.page-index l.pages))
+    × (g.B.RuleBook.calls l.book ≤ g.B.RuleBook.calls l.initial.book + pages_judgings g.B.RuleBook.book (take l.page-index l.pages))

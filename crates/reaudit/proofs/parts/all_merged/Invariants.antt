@@ -1,8 +1,8 @@
 use Rattle.std.proofs.Common.{◌≡◌, List, [], cond, map, take}
 use Rattle.snap_tree.specs.Trees.{Document}
 use Rattle.rule_core.specs.Infos.{is_atomic}
+use Rattle.rule_core.specs.Books.{Book}
 use Rattle.judge_core.specs.declared.judgement.Judgement.{Judgement}
-use Rattle.judge_core.specs.Books.{Book}
 use Rattle.judge_core.specs.Outcomes.{composite_rows}
 use Rattle.reaudit.specs.Parts.{AreParts, SaysByAtomic}
 use Rattle.reaudit.proofs.parts.all_merged.Given as goal

@@ -1,15 +1,14 @@
-use Rattle.std.proofs.Common.{◌≡◌, ℕ, IfOk, subst, sym}
+use Rattle.std.proofs.Common.{rules, ◌≡◌, ◌∙◌, ap, None}
+use Rattle.snap_tree.specs.declared.row.NodeId.{NodeId}
+use Rattle.snap_tree.specs.declared.row.Row.{Row}
+use Rattle.snap_tree.specs.Trees.{rows_of}
 use Rattle.rule_core.specs.Books.{said}
-use Rattle.rule_core.specs.Pages.{page_verdicts}
+use Rattle.rule_core.specs.Pages.{on_node}
 use Rattle.rule_book.specs.Book.{thirty}
+use Rattle.rule_book.proofs.Nothing.{nothing}
 use Rattle.rule_book.proofs.thirty.said_of_page.Goals as goal
 
-pub returns-in-24 : goal.returns-in-24
-returns-in-24 c =
-    let Are : ℕ → Type 0 = λ n. IfOk c.judge_page.result (λ verdicts. verdicts.items ≡ page_verdicts (said thirty (record { 0 = n })) c.args.tree.now) in
-    subst Are (sym c.in-24.is) c.judge_page.ensures
-
-pub returns-in-25 : goal.returns-in-25
-returns-in-25 c =
-    let Are : ℕ → Type 0 = λ n. IfOk c.judge_page-in-25.result (λ verdicts. verdicts.items ≡ page_verdicts (said thirty (record { 0 = n })) c.args.tree.now) in
-    subst Are (sym c.in-25.is) c.judge_page-in-25.ensures
+pub returns-in_default : goal.returns-in_default
+returns-in_default c =
+    let unsaid : (n : NodeId) → None ≡ said thirty c.args.rule c.args.tree.now n = λ n. search rules in
+    c.new.ensures.items ∙ nothing (λ (row : Row). on_node row.id (said thirty c.args.rule c.args.tree.now row.id)) (λ row. ap (on_node row.id) (unsaid row.id)) (rows_of c.args.tree.now.trees)

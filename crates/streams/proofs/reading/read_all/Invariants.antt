@@ -1,5 +1,5 @@
 use Rattle.std.proofs.Common.{◌-◌, ◌≤◌, ◌<◌, vec_len}
-use Rattle.std.specs.Io.KnownBytes.{Consumes}
+use Rattle.streams.specs.Streams.{Gave}
 use Rattle.streams.proofs.reading.read_all.Given as goal
 
 abbrev pub invariant-loop-buf : goal.invariant-loop-buf
@@ -7,7 +7,7 @@ invariant-loop-buf g l =
     record {
       within : vec_len l.bytes ≤ l.limit;
       room : 0 < vec_len l.buf;
-      front : Consumes (g.I.Source.told l.initial.input).left (g.I.Source.told l.input).left l.bytes.items;
+      front : Gave l.bytes.items (g.I.Source.told l.initial.input) (g.I.Source.told l.input);
       never_falls : (g.I.Source.told l.initial.input).faults ≤ (g.I.Source.told l.input).faults;
     }
 

@@ -7,7 +7,7 @@ use Rattle.rule_core.proofs.book.RuleBook.judge_page.Goals as goal
 
 pub loop-row-preserved : goal.loop-row-preserved
 loop-row-preserved g c =
-    let found = λ (row : Row). on_node row.id (g.Self.RuleBook.means c.args.rule c.args.tree.now row.id) in (
+    let found = λ (row : Row). on_node row.id (g.Self.RuleBook.book.means c.args.rule c.args.tree.now row.id) in (
       gathered_more found _ c.loop-row.row-index _ c.loop-row.verdicts.items _ (omega arith) c.loop-row.invariant.0
           (c.in_ok-push_verdict.ensures ∙ ap (λ o. c.loop-row.verdicts.items ++ option_to_list (on_node c.row-item.result.id o)) c.in_ok-verdict.ensures.verdict ∙ ap (λ (row : Row). c.loop-row.verdicts.items ++ option_to_list (found row)) c.row-item.is),
       omega (arith, c.judge.ensures.counted),

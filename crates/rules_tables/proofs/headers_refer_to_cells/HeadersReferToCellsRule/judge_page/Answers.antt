@@ -4,7 +4,7 @@ use Rattle.snap_tree.specs.declared.row.Row.{Row}
 use Rattle.rule_core.specs.Pages.{on_node}
 use Rattle.rule_core.proofs.Gathering.{gathered_more}
 use Rattle.rules_tables.specs.HeadersReferToCells.{headers_refer_to_cells}
-use Rattle.rules_tables.proofs.headers_refer_to_cells.HeadersReferToCells.judge_page.Goals as goal
+use Rattle.rules_tables.proofs.headers_refer_to_cells.HeadersReferToCellsRule.judge_page.Goals as goal
 
 pub loop-row-preserved : goal.loop-row-preserved
 loop-row-preserved c =

@@ -1,4 +1,5 @@
-use super::*;
+use rule_core::{brief, digest};
+use snap_tree::Text;
 use std::test::Fail;
 
 // A piece, how often it is repeated, and how the text stands in evidence where that is not as it is. The

@@ -2,7 +2,7 @@ use Rattle.std.proofs.Common.{◌≡◌, take}
 use Rattle.std.specs.List.{filter_map}
 use Rattle.rule_core.specs.Pages.{on_node}
 use Rattle.rules_tables.specs.HeaderHasCells.{header_has_cells}
-use Rattle.rules_tables.proofs.header_has_cells.HeaderHasCells.judge_page.Given as goal
+use Rattle.rules_tables.proofs.header_has_cells.HeaderHasCellsRule.judge_page.Given as goal
 
 abbrev pub invariant-loop-row : goal.invariant-loop-row
 invariant-loop-row l = l.verdicts.items ≡ filter_map (λ row. on_node row.id (header_has_cells l.tree row.id)) (take l.row-index l.row-items)

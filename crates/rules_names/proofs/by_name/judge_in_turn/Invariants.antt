@@ -1,0 +1,7 @@
+use Rattle.std.proofs.Common.{◌≡◌, take}
+use Rattle.std.specs.List.{filter_map}
+use Rattle.rule_core.specs.Pages.{on_node}
+use Rattle.rules_names.proofs.by_name.judge_in_turn.Given as goal
+
+abbrev pub invariant-loop-row : goal.invariant-loop-row
+invariant-loop-row g l = l.verdicts.items ≡ filter_map (λ row. on_node row.id (g.R.JudgesByName.says l.tree row.id)) (take l.row-index l.row-items)
