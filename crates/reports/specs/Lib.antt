@@ -1,6 +1,7 @@
 pub mod TextReport
 pub mod Criteria
 pub mod SiteReport
+pub mod Summary
 pub mod Table
 pub mod Terms
 pub mod Earl

@@ -20,8 +20,8 @@ pub struct Sums {
 }
 
 impl Sums {
-    // Nothing counted.
-    pub(crate) fn none() -> Sums
+    /// Nothing counted.
+    pub fn none() -> Sums
         ensures { result ≡ record { passed = 0; failed = 0; cant_tell = 0; inapplicable = 0 } }
     {
         Sums {
@@ -32,8 +32,8 @@ impl Sums {
         }
     }
 
-    // These and others together; each sum stops at the greatest number.
-    pub(crate) fn and(self, other: Sums) -> Sums
+    /// These and others together; each sum stops at the greatest number.
+    pub fn and(self, other: Sums) -> Sums
         ensures { result ≡ added self other }
     {
         Sums {

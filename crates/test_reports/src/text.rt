@@ -1,5 +1,5 @@
 use judge_core::{OutRow, Outcomes};
-use reports::text_report;
+use reports::{Sums, summary_line, text_report};
 use rule_core::{Auto, Class, Reason, RuleInfo, RuleNo};
 use snap_tree::{List, NodeId, OutOfMemory, Text};
 use std::alloc::Global;
@@ -54,5 +54,26 @@ fn a_row_tells_its_reason_or_its_judge(rt: HostRuntime) -> Result<(), Fail> {
     let address = Text::from_str(alloc, "https://example.org/")?;
     let report = text_report(alloc, &address, infos.as_slice(), &outcomes(alloc)?)?;
     assert_eq!(rt; report.as_slice(), REPORT.as_bytes());
+    Ok(())
+}
+
+#[test]
+fn a_summary_is_one_line(rt: HostRuntime) -> Result<(), Fail> {
+    let one = Sums {
+        passed: 700,
+        failed: 4,
+        cant_tell: 18_446_744_073_709_551_615,
+        inapplicable: 14,
+    };
+    let other = Sums {
+        passed: 4,
+        failed: 100,
+        cant_tell: 1,
+        inapplicable: 1,
+    };
+    let line = summary_line(rt.alloc(), 2, 3_817, Sums::none().and(one).and(other))?;
+    let wanted =
+        "pages 2 nodes 3817 passed 704 failed 104 cantTell 18446744073709551615 inapplicable 15\n";
+    assert_eq!(rt; line.as_str(), wanted);
     Ok(())
 }
