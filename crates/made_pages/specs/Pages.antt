@@ -93,7 +93,7 @@ abbrev pub with_part : ℕ → ℕ → ℕ → List Row → List Row
 with_part number i j rows = rows ++ part number i j (length rows + 1)
 
 -- the rows of page i before its part j
-abbrev pub rows_before : ℕ → ℕ → ℕ → List Row
+unfoldable pub rows_before : ℕ → ℕ → ℕ → List Row
 rows_before number i zero = top i
 rows_before number i (suc j) = with_part number i j (rows_before number i j)
 

@@ -26,7 +26,8 @@ pub fn made_pages(alloc: Global, number: u32, pages: u32) -> Result<Vec<Tree>, B
 {
     let mut trees = Vec::new(alloc);
     for earlier in 0..pages {
-        trees.push(made_tree(alloc, number, earlier + 1)?)?;
+        let tree = made_tree(alloc, number, earlier + 1)?;
+        trees.push(tree)?;
     }
     Ok(trees)
 }
