@@ -1,8 +1,8 @@
 use aria_tables::AriaAttr::*;
 use aria_tables::{
     AriaAttr, Role, ValueKind, allowed_owned, attr_of, is_among, is_global, is_landmark, is_later,
-    is_reference, looks_through, named_from_content, required_states, role_of, same_role, value_kind,
-    value_ok,
+    is_reference, looks_through, named_from_content, required_states, role_of, same_role,
+    value_kind, value_ok,
 };
 
 static ROLES: [(&str, Option<Role>); 14] = [
