@@ -1,5 +1,6 @@
 -- Pages as far as they are made, and their first fault.
-use Rattle.std.proofs.Common.{◌≡◌, ◌≤◌, ◌<◌, ◌+◌, ℕ, List, [], ◌∷◌, ◌++◌, map, take, drop, Option, Some, None, refl, sym, ap, ◌∙◌, arith}
+use Rattle.std.proofs.Common.{◌≡◌, ◌≤◌, ◌<◌, ◌+◌, ℕ, List, [], ◌∷◌, ◌++◌, map, take, drop, Option, Some, None, Result, Ok, Err, IfErr, refl, sym, ap, ◌∙◌, subst, arith}
+use Rattle.std.specs.Prelude.{IsErrAnd}
 use Rattle.std.specs.Option.{option_or}
 use Rattle.std.specs.List.{range_with_len}
 use Rattle.std.proofs.lemmas.List.{take-append-drop}
@@ -49,3 +50,10 @@ breaks_all number k n OutOfMemory within none broken = tt
 breaks_all number k n (Tree f) within none broken =
     first_taken f (k + 1) (map (page_fault number) (range_with_len 1 n))
     (ap first_some (take-map-range_with_len (page_fault number) 1 n (k + 1) (omega (arith, within))) ∙ one_more number k none ∙ broken)
+
+-- the same of what is answered there
+pub fails_there : {X : Type 0} (number k n : ℕ) (result : Result X BuildFault) (f : BuildFault) → IsErrAnd result (λ s. s ≡ f) → k < n
+    → pages_fault number k ≡ None → Breaks f (page_fault number (k + 1)) → IfErr result (λ s. Breaks s (pages_fault number n))
+fails_there number k n (Ok x) f same within none broken = tt
+fails_there number k n (Err s) f same within none broken =
+    breaks_all number k n s within none (subst (λ (e : BuildFault). Breaks e (page_fault number (k + 1))) (sym same) broken)

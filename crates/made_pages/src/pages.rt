@@ -18,7 +18,7 @@ fn made_tree(alloc: Global, number: u32, page: u32) -> Result<Tree, BuildFault>
 
 /// The pages that a number makes, from 1 to the last. It is refused exactly where the rows of a page have a
 /// fault, with the first one; else it wants memory.
-#[tactic(auto, using(crate::proofs::Firsts::made_more, crate::proofs::Firsts::sound_more, crate::proofs::Firsts::breaks_all))]
+#[tactic(auto, using(crate::proofs::Firsts::made_more, crate::proofs::Firsts::sound_more))]
 pub fn made_pages(alloc: Global, number: u32, pages: u32) -> Result<Vec<Tree>, BuildFault>
     ensures pages { IfOk result (λ trees. trees.items ≡ made_pages number pages) }
     ensures sound { OnOk result (pages_fault number pages ≡ None) }
