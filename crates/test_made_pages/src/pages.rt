@@ -120,7 +120,7 @@ fn is_row(row: &Row, told: Told<'_>) -> bool {
 fn is_made(alloc: Global, told: Told<'_>) -> Result<bool, Fail> {
     let (number, page, at, ..) = told;
     let raw = made_page(alloc, number, page)?;
-    match raw.rows.as_slice().get(at as usize - 1) {
+    match raw.rows.as_slice().get(at.saturating_sub(1) as usize) {
         Some(row) => Ok(is_row(row, told)),
         None => Ok(false),
     }
