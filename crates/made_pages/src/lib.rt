@@ -8,5 +8,5 @@ mod page;
 mod pages;
 mod part;
 
-pub use page::{PARTS, made_page};
+pub use page::{PARTS, laws_of_limits, made_page};
 pub use pages::made_pages;

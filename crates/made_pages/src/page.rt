@@ -1,4 +1,5 @@
 ghost use Rattle.std.specs.Prelude.{◌≡◌, ◌≤◌, IfOk};
+ghost use Rattle.made_pages.specs.declared.page.TheConstants.{PARTS};
 ghost use Rattle.made_pages.specs.Pages.{address, made_page, rows_before, top};
 
 use crate::node::{NO_FACTS, RV, attr, below, element, no_attrs, words};
@@ -8,6 +9,12 @@ use std::alloc::Global;
 
 /// How many parts a page has, which are numbered from 0.
 pub const PARTS: u32 = 401;
+
+/// How many parts a page has, as a number, since the definition names the constant. It does nothing: the clause
+/// is what it is for.
+pub fn laws_of_limits()
+    ensures parts { PARTS ≡ 401 }
+{}
 
 // What stands before the parts of a page.
 #[tactic(auto, unfolding(crate::specs::Pages::top))]
