@@ -1,0 +1,10 @@
+pub mod Tests
+pub mod Stands
+pub mod Agreeing
+pub mod Trails
+pub mod Pages
+pub mod Again
+pub mod Outer
+pub mod Referring
+pub mod Classes
+pub mod Looking

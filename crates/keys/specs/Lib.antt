@@ -1,0 +1,7 @@
+pub mod Keys
+pub mod Same
+pub mod Nodes
+pub mod References
+pub mod Classes
+pub mod Standing
+pub mod Laws
