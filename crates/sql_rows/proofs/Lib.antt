@@ -1,0 +1,14 @@
+pub mod Canon
+pub mod Sorting
+pub mod Raw
+pub mod Letters
+pub mod Typed
+pub mod Groups
+pub mod Casting
+pub mod Statements
+pub mod Selects
+pub mod Writing
+pub mod Reading
+pub mod Kept
+pub mod OpenLemmas
+pub mod Creating
