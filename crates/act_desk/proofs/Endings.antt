@@ -1,44 +1,35 @@
 -- What a run does, from why it was to end and what it has written.
 use Rattle.std.proofs.Common.{◌≡◌, ℕ, ◌<◌, ◌≤◌, ◌⊎◌, inl, inr, Bool, true, false, if◌then◌else◌, List, [], ◌∷◌, length, Some, None, refl, sym, ap, ◌∙◌, subst, arith}
 use Rattle.std.proofs.lemmas.Option.{none-some, same_Some}
-use Rattle.counts.specs.Counts.{StoodStill, Rose}
-use Rattle.counts.proofs.CountLaws.{next_rose, still_not_risen}
+use Rattle.counts.specs.Counts.{StoodStill}
+use Rattle.counts.proofs.CountLaws.{still_not_risen}
 use Rattle.snap_tree.specs.Trees.{Document}
 use Rattle.rule_core.specs.Books.{Book}
 use Rattle.act_desk.specs.declared.audit.TheConstants.{MOST_READ}
 use Rattle.desk_words.specs.Words.{command_in}
 use Rattle.desk_words.specs.declared.command.Command.{Command}
-use Rattle.desk_words.specs.declared.command.Command.TheVariants.{Audit, Serve}
+use Rattle.desk_words.specs.declared.command.Command.TheVariants.{Audit, Serve, Generate, Show}
 use Rattle.desk_words.specs.declared.command.Serving.{Serving}
+use Rattle.desk_words.specs.declared.command.Generating.{Generating}
+use Rattle.desk_words.specs.declared.command.Showing.{Showing}
 use Rattle.act_desk.specs.declared.status.Status.{Status}
 use Rattle.act_desk.specs.declared.status.Status.TheVariants.{Done, SomeFailed, UsageFault, ReadFault, WriteFault, SnapshotFault, StoreFault, ListenFault, NoMemory}
 use Rattle.act_desk.specs.Status.{status_number, OneOf}
-use Rattle.streams.specs.Told.{Output, Outside}
+use Rattle.streams.specs.Told.{Outside}
 use Rattle.streams.specs.Streams.{ReadsAtMost, NoFaults, BrokeOff}
 use Rattle.act_desk.specs.Telling.{Writing, IsWritten, Tells}
 use Rattle.act_desk.specs.Audit.{Reports, AuditCause, AuditComplete, TellsPage, TellsFault, IsReported}
 use Rattle.act_desk.specs.Desk.{Desk}
 use Rattle.act_desk.specs.Serve.{IsDeaf, IsServed, ServeCause, ServeBound, ServeComplete}
+use Rattle.act_desk.specs.Generate.{GenerateCause}
+use Rattle.act_desk.specs.Show.{ShowCause}
 use Rattle.act_desk.specs.Commands.{CommandCause, CommandBound, CommandComplete}
 use Rattle.act_desk.specs.Run.{Cause, IsComplete, Runs}
 use Rattle.act_desk.proofs.Causes.{same_page, refused, of_no_snapshot}
-
--- ---- without faults all is written
-
-no_break : (old new : Output) (bytes : List ℕ) → StoodStill old.faults new.faults → BrokeOff old new bytes → ⊥
-no_break old new bytes still broke = still_not_risen old.faults new.faults still (subst (Rose old.faults) (sym broke.fault) (next_rose old.faults))
-
-all_written : (old new : Outside) (planned status : Status) (writing : Writing) → NoFaults old new → Tells planned writing old.out new.out old.err new.err status → (status ≡ planned) × IsWritten writing old.out new.out old.err new.err
-all_written old new planned status writing none (inl whole) = whole
-all_written old new planned status writing none (inr (is, inl cut)) = absurd (no_break old.out new.out writing.output none.out cut.out_broke)
-all_written old new planned status writing none (inr (is, inr cut)) = absurd (no_break old.err new.err writing.line none.err cut.err_broke)
+use Rattle.act_desk.proofs.Written.{no_break, all_written, ends_in}
+use Rattle.act_desk.proofs.Outputs.{generate_bound, generate_complete, show_bound, show_complete}
 
 -- ---- which statuses can come
-
--- the status of a cause, or that of a write fault
-ends_in : (planned status : Status) (writing : Writing) (out out' err err' : Output) → Tells planned writing out out' err err' status → (status ≡ planned) ⊎ (status ≡ WriteFault)
-ends_in planned status writing out out' err err' (inl whole) = inl whole.0
-ends_in planned status writing out out' err err' (inr cut) = inr cut.0
 
 -- why it ends for words that are no command, and for those of a command
 usage : {L : Type 0} (book : Book) (words : List (List ℕ)) (old new : Outside) (before now : Desk L) (planned : Status) (writing : Writing) → Cause book words old.input new.input before now planned writing → command_in words ≡ None →
@@ -196,12 +187,26 @@ serves : {L : Type 0} (book : Book) (serving : Serving) (old new : Outside) (bef
 serves book serving old new before now planned writing (inl memory) = inl memory
 serves book serving old new before now planned writing (inr cause) = inr cause.1
 
+generates : {L : Type 0} (book : Book) (g : Generating) (old new : Outside) (before now : Desk L) (planned : Status) (writing : Writing) → (planned ≡ NoMemory) ⊎ CommandCause (Generate g) book old.input new.input before now planned writing →
+    (planned ≡ NoMemory) ⊎ GenerateCause book g planned writing
+generates book g old new before now planned writing (inl memory) = inl memory
+generates book g old new before now planned writing (inr cause) = inr cause.1.0
+
+shows : {L : Type 0} (book : Book) (s : Showing) (old new : Outside) (before now : Desk L) (planned : Status) (writing : Writing) → (planned ≡ NoMemory) ⊎ CommandCause (Show s) book old.input new.input before now planned writing →
+    (planned ≡ NoMemory) ⊎ ShowCause book s now.tables before.faults now.faults planned writing
+shows book s old new before now planned writing (inl memory) = inl memory
+shows book s old new before now planned writing (inr cause) = inr cause.1.0
+
 command_bound : {L : Type 0} (book : Book) (words : List (List ℕ)) (old new : Outside) (before now : Desk L) (planned status : Status) (writing : Writing) → Cause book words old.input new.input before now planned writing →
     (status ≡ planned) ⊎ (status ≡ WriteFault) → (command : Command) → command_in words ≡ Some command → CommandBound command old before status
 command_bound book words old new before now planned status writing cause in_ Audit is =
     λ tells. bound_refusal planned status (audit_bound book old new planned writing (audits book old new before now planned writing (cause_of book words old new before now planned writing cause Audit is)) tells) in_
 command_bound book words old new before now planned status writing cause in_ (Serve serving) is =
     λ many. bound_words planned status (serve_bound book serving before now planned writing (serves book serving old new before now planned writing (cause_of book words old new before now planned writing cause (Serve serving) is)) many) in_
+command_bound book words old new before now planned status writing cause in_ (Generate g) is =
+    generate_bound book g planned status writing (generates book g old new before now planned writing (cause_of book words old new before now planned writing cause (Generate g) is)) in_
+command_bound book words old new before now planned status writing cause in_ (Show s) is =
+    show_bound book s now.tables before.faults now.faults planned status writing (shows book s old new before now planned writing (cause_of book words old new before now planned writing cause (Show s) is)) in_
 
 command_complete : {L : Type 0} (book : Book) (words : List (List ℕ)) (old new : Outside) (before now : Desk L) (planned status : Status) (writing : Writing) → Cause book words old.input new.input before now planned writing →
     Tells planned writing old.out new.out old.err new.err status → (command : Command) → command_in words ≡ Some command → CommandComplete command book old new before now status
@@ -211,6 +216,12 @@ command_complete book words old new before now planned status writing cause told
 command_complete book words old new before now planned status writing cause told (Serve serving) is =
     λ err. serve_complete book serving old new before now planned status writing (serves book serving old new before now planned writing (cause_of book words old new before now planned writing cause (Serve serving) is))
     (outputs_none book words old new before now planned writing cause serving is) err told
+command_complete book words old new before now planned status writing cause told (Generate g) is =
+    λ none. let written = all_written old new planned status writing none told in
+    generate_complete book g old new planned status writing (generates book g old new before now planned writing (cause_of book words old new before now planned writing cause (Generate g) is)) written.0 written.1
+command_complete book words old new before now planned status writing cause told (Show s) is =
+    λ none still t has. let written = all_written old new planned status writing none told in
+    show_complete book s now.tables t has before.faults now.faults still old new planned status writing (shows book s old new before now planned writing (cause_of book words old new before now planned writing cause (Show s) is)) written.0 written.1
 
 pub runs : {L : Type 0} (book : Book) (words : List (List ℕ)) (old new : Outside) (before now : Desk L) (planned status : Status) (writing : Writing) (number : ℕ) → Cause book words old.input new.input before now planned writing →
     old.input.faults ≤ new.input.faults → length now.calls ≡ length before.calls → ReadsAtMost MOST_READ old.input new.input → Tells planned writing old.out new.out old.err new.err status → number ≡ status_number status → Runs book words old new before now number

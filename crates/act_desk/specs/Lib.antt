@@ -4,6 +4,8 @@ pub mod Telling
 pub mod Audit
 pub mod Desk
 pub mod Serve
+pub mod Generate
+pub mod Show
 pub mod Commands
 pub mod Run
 pub mod Start

@@ -5,7 +5,7 @@ use Rattle.act_desk.specs.declared.found.Found.TheVariants.{Finished, Served, Us
 use Rattle.act_desk.specs.declared.status.Status.{Status}
 use Rattle.act_desk.specs.declared.status.Status.TheVariants as status
 use Rattle.act_desk.specs.Status.{status_line}
-use Rattle.streams.specs.Told.{Output}
+use Rattle.streams.specs.Told.{Output, Outside}
 use Rattle.streams.specs.Streams.{Took, BrokeOff, TookOrBroke}
 
 -- what a run is to write, on standard output and on standard error
@@ -39,6 +39,12 @@ writing_of (Finished output failed) = output_alone output
 writing_of Served = nothing
 writing_of (NotSnapshot line) = line_alone line
 writing_of found = line_alone (status_line (status_of found))
+
+-- these bytes alone were written, and all is done
+pub record IsDone (bytes : List ℕ) (old new : Outside) (ended : Status) : Type 0 where
+  pub status_is : ended ≡ status.Done
+  pub out : Took old.out new.out bytes
+  pub err : Took old.err new.err []
 
 -- all was written
 pub record IsWritten (writing : Writing) (out out' err err' : Output) : Type 0 where

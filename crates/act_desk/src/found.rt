@@ -7,13 +7,13 @@ pub enum Found {
     Finished { output: List<u8>, failed: bool },
     /// All connections are served.
     Served,
-    /// The words are no command, or want more workers than there are.
+    /// The words are no command, want more workers than there are, or name a site that isn't kept.
     Usage,
     /// The source met a fault.
     ReadFault,
     /// The input is no snapshot: the line that names the fault.
     NotSnapshot { line: Text },
-    /// The store can't be opened.
+    /// The store can't be opened, or can't be read.
     StoreFault,
     /// The door met a fault.
     ListenFault,

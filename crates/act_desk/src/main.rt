@@ -7,8 +7,10 @@
 mod audit;
 mod fault_line;
 mod found;
+mod generate;
 mod run;
 mod serve;
+mod show;
 mod start;
 mod status;
 mod tell;

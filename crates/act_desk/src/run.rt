@@ -8,7 +8,9 @@ ghost use Rattle.act_desk.specs.Run.{Cause, Runs};
 
 use crate::audit::audit;
 use crate::found::Found;
+use crate::generate::generate;
 use crate::serve::serve;
+use crate::show::show;
 use crate::tell::tell;
 use desk_words::{Command, command_in};
 use keep_core::Keeper;
@@ -23,7 +25,9 @@ use streams::{Sink, Source};
 ///
 /// `audit` reads one snapshot from `input` to its end, judges it by the first book, and writes its text report
 /// on `out`. `serve` listens at the door and serves its connections over the keeper, with as many of the
-/// books as it has workers. There is one book or more, and the door doesn't listen yet.
+/// books as it has workers. `generate` makes pages, audits them with all books, and writes one line. `report`,
+/// `earl` and `csv` write what the keeper has of a site. There is one book or more, and the door doesn't listen
+/// yet.
 pub fn run<R: Threads + Sync, I: Source, O: Sink, E: Sink, K: Keeper, D: Door, B: RuleBook + Send>(
     rt: &R,
     alloc: Global,
@@ -70,6 +74,8 @@ fn find<R: Threads + Sync, I: Source, K: Keeper, D: Door, B: RuleBook + Send>(
     match command_in(alloc, words.as_slice()) {
         Ok(Some(Command::Audit)) => audit_by_first(alloc, input, books),
         Ok(Some(Command::Serve(serving))) => serve(rt, alloc, serving, keeper, door, books),
+        Ok(Some(Command::Generate(generating))) => generate(rt, alloc, generating, books),
+        Ok(Some(Command::Show(showing))) => show(alloc, &showing, keeper, &books[0]),
         Ok(None) => Found::Usage,
         Err(OutOfMemory) => Found::NoMemory,
     }

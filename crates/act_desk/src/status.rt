@@ -4,11 +4,11 @@ ghost use Rattle.act_desk.specs.Status.{status_number, status_line};
 /// How the program ends.
 #[derive(Clone, Copy, Debug, PartialEq, Eq)]
 pub enum Status {
-    /// The command is done: an audit in which no final outcome is failed, or all connections are served.
+    /// The command is done: of an audit, no final outcome is failed; of a serve, all connections are served.
     Done,
     /// A page was audited, and some final outcome is failed.
     SomeFailed,
-    /// The words are no command, or want more workers than there are.
+    /// The words are no command, want more workers than there are, or name a site that isn't kept.
     UsageFault,
     /// The source met a fault.
     ReadFault,
@@ -16,7 +16,7 @@ pub enum Status {
     WriteFault,
     /// The input is no snapshot.
     SnapshotFault,
-    /// The store can't be opened.
+    /// The store can't be opened, or can't be read.
     StoreFault,
     /// The door met a fault.
     ListenFault,

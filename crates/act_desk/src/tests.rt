@@ -49,9 +49,11 @@ struct Case {
     out_writes: &'static [u64],
     err_room: usize,
     err_writes: &'static [u64],
-    // what the one link of the door brings, none where it has none, and which calls of the door fail
+    // what the one link of the door brings, none where it has none, and which calls of the door and of the
+    // keeper fail
     brought: Option<&'static str>,
     door_calls: &'static [u64],
+    keeper_calls: &'static [u64],
     // the status, what the sinks hold then, and what was written to the link
     status: u8,
     out: &'static str,
@@ -71,6 +73,7 @@ const REPORTED: Case = Case {
     err_writes: &[],
     brought: None,
     door_calls: &[],
+    keeper_calls: &[],
     status: 0,
     out: HOME_REPORT,
     err: "",
@@ -156,11 +159,12 @@ fn door(alloc: Global, case: &Case) -> Result<MemDoor, OutOfMemory>
     MemDoor::new(alloc, links, List::from_vec(fails))
 }
 
-fn run_by<R: Threads + Sync, B: RuleBook + Send>(
+fn run_on<R: Threads + Sync, B: RuleBook + Send>(
     rt: &R,
     alloc: Global,
     bytes: &[u8],
     case: &Case,
+    keeper: &mut MemoryKeeper,
     books: &mut Vec<B>,
 ) -> Result<Ended, OutOfMemory>
     requires { 0 < vec_len books.old }
@@ -168,7 +172,6 @@ fn run_by<R: Threads + Sync, B: RuleBook + Send>(
     let words = texts(alloc, case.words)?;
     let mut input = source(alloc, bytes, case)?;
     let (mut out, mut err) = sinks(alloc, case)?;
-    let mut keeper = MemoryKeeper::new(alloc, List::from_vec(Vec::new(alloc)));
     let mut door = door(alloc, case)?;
     let status = run(
         rt,
@@ -177,7 +180,7 @@ fn run_by<R: Threads + Sync, B: RuleBook + Send>(
         &mut input,
         &mut out,
         &mut err,
-        &mut keeper,
+        keeper,
         &mut door,
         books,
     );
@@ -187,6 +190,25 @@ fn run_by<R: Threads + Sync, B: RuleBook + Send>(
         err,
         door,
     })
+}
+
+// An empty keeper of which these calls fail.
+fn empty_keeper(alloc: Global, calls: &[u64]) -> Result<MemoryKeeper, OutOfMemory> {
+    let fails = Vec::from_slice(alloc, calls)?;
+    Ok(MemoryKeeper::new(alloc, List::from_vec(fails)))
+}
+
+fn run_by<R: Threads + Sync, B: RuleBook + Send>(
+    rt: &R,
+    alloc: Global,
+    bytes: &[u8],
+    case: &Case,
+    books: &mut Vec<B>,
+) -> Result<Ended, OutOfMemory>
+    requires { 0 < vec_len books.old }
+{
+    let mut keeper = empty_keeper(alloc, case.keeper_calls)?;
+    run_on(rt, alloc, bytes, case, &mut keeper, books)
 }
 
 fn run_over<R: Threads + Sync>(
@@ -322,7 +344,7 @@ const USAGE_FAULT: Case = Case {
     ..REPORTED
 };
 
-static OTHER_WORDS: [Case; 5] = [
+static OTHER_WORDS: [Case; 6] = [
     Case {
         name: "no word",
         words: &[],
@@ -336,6 +358,11 @@ static OTHER_WORDS: [Case; 5] = [
     Case {
         name: "another word",
         words: &["report"],
+        ..USAGE_FAULT
+    },
+    Case {
+        name: "a site that isn't kept",
+        words: &["report", "nobody"],
         ..USAGE_FAULT
     },
     Case {
@@ -432,6 +459,56 @@ static SERVES: [Case; 5] = [
 #[test]
 fn each_serve_has_its_status_and_replies(rt: HostRuntime) -> Result<(), Fail> {
     each_ends_so(&rt, rt.alloc(), SERVES.as_slice())
+}
+
+static GENERATES: [Case; 3] = [
+    Case {
+        name: "one page",
+        words: &["generate", "1", "1"],
+        out: "pages 1 nodes 1909 passed 704 failed 104 cantTell 404 inapplicable 15\n",
+        ..REPORTED
+    },
+    Case {
+        name: "four pages",
+        words: &["generate", "0", "4"],
+        out: "pages 4 nodes 7639 passed 2819 failed 413 cantTell 1616 inapplicable 60\n",
+        ..REPORTED
+    },
+    Case {
+        name: "a keeper that fails at a site",
+        words: &["report", "acme"],
+        keeper_calls: &[1],
+        status: 6,
+        out: "",
+        err: "store fault\n",
+        ..REPORTED
+    },
+];
+
+#[test]
+fn pages_are_made_and_sites_looked_for(rt: HostRuntime) -> Result<(), Fail> {
+    each_ends_so(&rt, rt.alloc(), GENERATES.as_slice())
+}
+
+static SHOWN: Case = Case {
+    name: "the CSV of a site without pages",
+    words: &["csv", "acme"],
+    out: "site,page,rev,node,rule,outcome,automatic,reason,judge\n",
+    ..REPORTED
+};
+
+#[test]
+fn a_site_that_is_kept_is_written(rt: HostRuntime) -> Result<(), Fail> {
+    let mut books = made_books(rt.alloc())?;
+    let mut keeper = empty_keeper(rt.alloc(), &[])?;
+    for case in [&SERVED, &SHOWN] {
+        let end = run_on(&rt, rt.alloc(), &[], case, &mut keeper, &mut books)?;
+        if wants_memory(&end) {
+            return Err(Fail::from(OutOfMemory));
+        }
+        ended_so(&rt, &end, case);
+    }
+    Ok(())
 }
 
 const READ_FAULT: Case = Case {

@@ -1,4 +1,4 @@
-ghost use Rattle.std.specs.Prelude.{◌≡◌, None, IfOk};
+ghost use Rattle.std.specs.Prelude.{◌≡◌, None};
 ghost use Rattle.rule_core.specs.Books.{Book};
 ghost use Rattle.desk_core.specs.declared.command.Command.TheVariants.{GetPage, GetNames};
 ghost use Rattle.desk_core.specs.declared.reply.Reply.TheVariants as reply;
@@ -10,9 +10,9 @@ use crate::look::{find, find_kept};
 use crate::page_state::PageState;
 use crate::refusal::{Needed, Refusal};
 use crate::reply::Reply;
-use judge_core::Outcomes;
-use keep_core::{Keeper, Page, SitePage};
-use snap_tree::{OutOfMemory, Text};
+use keep_core::{Keeper, SitePage};
+use kept_pages::site_page;
+use snap_tree::Text;
 use std::alloc::Global;
 
 fn answered(reply: Reply) -> Decided
@@ -69,19 +69,6 @@ pub fn get_names<K: Keeper>(
         Ok(found) => Ok(names_of(found.1)),
         Err(refusal) => Err(refusal),
     }
-}
-
-/// A page with its outcomes.
-pub fn site_page(alloc: Global, page: Page, outcomes: Outcomes) -> Result<SitePage, OutOfMemory>
-    ensures { IfOk result
-        (λ p. p ≡ record { head = page.head; address = page.tree.address; outcomes = outcomes }) }
-{
-    let address = page.tree.address().copy(alloc)?;
-    Ok(SitePage {
-        head: page.head,
-        address,
-        outcomes,
-    })
 }
 
 fn read_page<K: Keeper>(

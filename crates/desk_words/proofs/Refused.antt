@@ -6,9 +6,8 @@ use Rattle.std.proofs.lemmas.Bool.{false_from_ne_true}
 use Rattle.clap.specs.Words.{App, Row, matches_of, takes}
 use Rattle.clap.specs.declared.error.kind.ErrorKind.{ErrorKind}
 use Rattle.clap.specs.declared.error.kind.ErrorKind.TheVariants.{OutOfMemory}
-use Rattle.desk_words.specs.Words.{serve_app, serve_in, serving_of, matched}
-use Rattle.desk_words.specs.declared.command.Command.TheVariants.{Serve}
-use Rattle.desk_words.specs.declared.command.Serving.{Serving}
+use Rattle.desk_words.specs.Words.{matched}
+use Rattle.desk_words.specs.declared.command.Command.{Command}
 
 pub taken_so : (app : App) (words : List (List ℕ)) (rows : List Row) → takes app words ≡ true → rows ≡ matches_of app words → Some rows ≡ matched app words
 taken_so app words rows takes is = ap (λ r. Some r) is ∙ sym (ap (λ b. cond b (Some (matches_of app words)) None) takes)
@@ -21,6 +20,7 @@ not_taken rows app words (Ok (Some m)) kind none other passes = absurd (true≢f
 
 -- ---- the commands
 
-pub serves : (app : App) (texts words : List (List ℕ)) (rows : List Row) (serving : Serving) → app ≡ serve_app → texts ≡ words → Some rows ≡ matched app texts → serving ≡ serving_of rows → Some (Serve serving) ≡ serve_in words
-serves app texts words rows serving is same read shown =
-    ap (λ s. Some (Serve s)) shown ∙ ap (λ o. option_map (λ r. Serve (serving_of r)) o) (read ∙ (λ i. matched (is i) (same i)))
+-- the command that is made of the matches of words
+pub makes : (of : List Row → Command) (app wanted : App) (texts words : List (List ℕ)) (rows : List Row) (command : Command) → app ≡ wanted → texts ≡ words
+    → Some rows ≡ matched app texts → command ≡ of rows → Some command ≡ option_map of (matched wanted words)
+makes of app wanted texts words rows command is same read made = ap Some made ∙ ap (option_map of) (read ∙ (λ i. matched (is i) (same i)))

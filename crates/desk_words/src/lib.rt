@@ -3,5 +3,12 @@
 
 mod command;
 mod parsing;
+mod reading;
+mod rules;
+mod words;
 
-pub use command::{Command, MOST_CONNECTIONS, Serving, command_in, laws_of_limits};
+pub use command::{
+    Command, Generating, MOST_CONNECTIONS, MOST_MADE, MOST_NUMBER, Serving, Showing, SiteForm,
+    laws_of_limits,
+};
+pub use words::command_in;

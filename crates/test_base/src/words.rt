@@ -1,4 +1,4 @@
-use desk_words::{Command, Serving, command_in};
+use desk_words::{Command, Generating, Serving, Showing, command_in};
 use std::alloc::{AllocError, Global};
 use std::test::Fail;
 use texts::Text;
@@ -14,53 +14,85 @@ fn texts(alloc: Global, words: &str) -> Result<Vec<Text>, AllocError> {
     Ok(texts)
 }
 
-const SERVE: Command = Command::Serve(Serving {
-    port: 8080,
-    workers: 16,
-    connections: 1_000_000,
-});
-
-const LEAST: Command = Command::Serve(Serving {
-    port: 0,
-    workers: 1,
-    connections: 1,
-});
+// A command in one line; an empty one where there is none.
+fn line_of(alloc: Global, command: Option<Command>) -> Result<String, AllocError> {
+    match command {
+        None => Ok(String::new(alloc)),
+        Some(Command::Audit) => String::from_str(alloc, "audit"),
+        Some(Command::Serve(serving)) => {
+            let Serving {
+                port,
+                workers,
+                connections,
+            } = serving;
+            format!(in alloc; "port {port} workers {workers} connections {connections}")
+        }
+        Some(Command::Generate(Generating { number, pages })) => {
+            format!(in alloc; "number {number} pages {pages}")
+        }
+        Some(Command::Show(Showing { form, site })) => {
+            let form = form.word();
+            let site = site.as_str();
+            format!(in alloc; "{form} of {site}")
+        }
+    }
+}
 
 // Words with one space between, and the command that they are.
-static WORDS: [(&str, Option<Command>); 24] = [
-    ("", None),
-    ("audit", Some(Command::Audit)),
-    ("audit --", Some(Command::Audit)),
-    ("audit x", None),
-    ("audit --help", None),
-    ("Audit", None),
-    ("report acme", None),
-    ("serve", None),
-    ("serve --help", None),
-    ("serve --version", None),
+static WORDS: [(&str, &str); 38] = [
+    ("", ""),
+    ("audit", "audit"),
+    ("audit --", "audit"),
+    ("audit x", ""),
+    ("audit --help", ""),
+    ("Audit", ""),
+    ("serve", ""),
+    ("serve --help", ""),
+    ("serve --version", ""),
     (
         "serve --port 8080 --workers 16 --connections 1000000",
-        Some(SERVE),
+        "port 8080 workers 16 connections 1000000",
     ),
     (
         "serve --connections=1000000 --workers=16 --port=8080",
-        Some(SERVE),
+        "port 8080 workers 16 connections 1000000",
     ),
-    ("serve --port 0 --workers 1 --connections 1", Some(LEAST)),
-    ("serve --port +0 --workers 01 --connections 1", Some(LEAST)),
-    ("serve --port 65536 --workers 1 --connections 1", None),
-    ("serve --port -0 --workers 1 --connections 1", None),
-    ("serve --port 1 --workers 0 --connections 1", None),
+    (
+        "serve --port 0 --workers 1 --connections 1",
+        "port 0 workers 1 connections 1",
+    ),
+    (
+        "serve --port +0 --workers 01 --connections 1",
+        "port 0 workers 1 connections 1",
+    ),
+    ("serve --port 65536 --workers 1 --connections 1", ""),
+    ("serve --port -0 --workers 1 --connections 1", ""),
+    ("serve --port 1 --workers 0 --connections 1", ""),
     (
         "serve --port 1 --workers 18446744073709551616 --connections 1",
-        None,
+        "",
     ),
-    ("serve --port 1 --workers 1 --connections 0", None),
-    ("serve --port 1 --workers 1 --connections 1000001", None),
-    ("serve --port  --workers 1 --connections 1", None),
-    ("serve --port 1 --workers 1", None),
-    ("serve --port 1 --port 1 --workers 1 --connections 1", None),
-    ("serve --port 1 --workers 1 --connections 1 x", None),
+    ("serve --port 1 --workers 1 --connections 0", ""),
+    ("serve --port 1 --workers 1 --connections 1000001", ""),
+    ("serve --port  --workers 1 --connections 1", ""),
+    ("serve --port 1 --workers 1", ""),
+    ("serve --port 1 --port 1 --workers 1 --connections 1", ""),
+    ("serve --port 1 --workers 1 --connections 1 x", ""),
+    ("generate 1 2", "number 1 pages 2"),
+    ("generate 1000000 64", "number 1000000 pages 64"),
+    ("generate 0 +01", "number 0 pages 1"),
+    ("generate 1000001 1", ""),
+    ("generate 1 0", ""),
+    ("generate 1 65", ""),
+    ("generate 1", ""),
+    ("generate 1 2 3", ""),
+    ("report acme", "report of acme"),
+    ("earl a.b", "earl of a.b"),
+    ("csv -- --x", "csv of --x"),
+    ("csv --x", ""),
+    ("report", ""),
+    ("report acme acme", ""),
+    ("reports acme", ""),
 ];
 
 #[test]
@@ -68,7 +100,8 @@ fn each_list_of_words_is_a_command_or_none(rt: HostRuntime) -> Result<(), Fail> 
     for (words, wanted) in WORDS.as_slice() {
         let given = texts(rt.alloc(), words)?;
         let command = command_in(rt.alloc(), given.as_slice())?;
-        assert_eq!(rt; command, *wanted);
+        let line = line_of(rt.alloc(), command)?;
+        assert_eq!(rt; line.as_str(), *wanted);
     }
     Ok(())
 }

@@ -4,7 +4,7 @@ use Rattle.std.specs.Str.Parse.{ParsesUnsigned, ExplainsUnsignedError, HasUnsign
 use Rattle.clap.specs.Words.{found_of, one_text}
 use Rattle.clap.proofs.WalkLemmas.{one_text-rows}
 use Rattle.desk_words.proofs.Numbers.{number_read}
-use Rattle.desk_words.proofs.command.number.Goals as goal
+use Rattle.desk_words.proofs.reading.number.Goals as goal
 
 pub returns-in-Some : goal.returns-in-Some
 returns-in-Some c =

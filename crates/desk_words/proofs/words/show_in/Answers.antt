@@ -1,0 +1,12 @@
+use Rattle.std.proofs.Common.{◌∙◌, ℕ, List, ap, sym, map, option_map, Bor}
+use Rattle.clap.specs.Words.{found_of, rows_of}
+use Rattle.desk_words.specs.Words.{show_app, form_word, showing_of}
+use Rattle.desk_words.specs.declared.command.Command.TheVariants.{Show}
+use Rattle.desk_words.proofs.Refused.{makes}
+use Rattle.desk_words.proofs.words.show_in.Goals as goal
+
+pub returns-in-Some-clause-exact : goal.returns-in-Some-clause-exact
+returns-in-Some-clause-exact c =
+    makes (λ rows. Show (showing_of c.args.form rows)) _ (show_app (form_word c.args.form)) _ c.args.words.now (rows_of (found_of c.in-Some.matches)) _ (c.in_ok-show_command.ensures ∙ ap show_app c.word.ensures)
+    (ap (λ (l : List (Bor (List ℕ))). map (λ text. text.now) l) c.as_slice.ensures.value ∙ c.in_ok-texts.ensures)
+    (ap (λ o. option_map (λ m. rows_of (found_of m)) o) (sym c.in-Some.is) ∙ c.in_ok-matches.ensures) (ap (λ site. Show (record { form = c.args.form; site = site })) c.in_ok-site_of-in-Some.ensures)

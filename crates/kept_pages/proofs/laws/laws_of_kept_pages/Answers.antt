@@ -1,0 +1,5 @@
+use Rattle.kept_pages.proofs.Found.{all_found}
+use Rattle.kept_pages.proofs.laws.laws_of_kept_pages.Goals as goal
+
+pub returns : goal.returns
+returns c = record { all = all_found }
