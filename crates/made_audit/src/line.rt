@@ -32,7 +32,12 @@ pub fn made_line<R: Threads + Sync, B: RuleBook + Send>(
     let works = made_works(alloc, number, pages)?;
     let infos = infos_of(alloc, &books[0])?;
     let outcomes = audit_pages(rt, alloc, books, works.as_slice())?;
-    line_of(alloc, infos.as_slice(), works.as_slice(), outcomes.as_slice())
+    line_of(
+        alloc,
+        infos.as_slice(),
+        works.as_slice(),
+        outcomes.as_slice(),
+    )
 }
 
 // The line of pages with their outcomes.
