@@ -1,5 +1,7 @@
 -- Which texts are blank.
-use Rattle.std.proofs.Common.{◌≡◌, ℕ, List, [], ◌∷◌, ◌++◌, ◌&&◌, Bool, true, false, if◌then◌else◌, IsUtf8, chars, ◌∙◌, ap, arith, append_assoc}
+use Rattle.std.proofs.Common.{◌≡◌, ℕ, List, [], ◌∷◌, ◌++◌, ◌&&◌, Bool, true, false, if◌then◌else◌, IsUtf8, chars, sym, ◌∙◌, ap, arith, append_assoc}
+use Rattle.std.proofs.Math.Bool.{and-true}
+use Rattle.std.proofs.lemmas.List.{append-nil}
 use Rattle.std.proofs.lemmas.List.Folds.{list_all-append}
 use Rattle.std.proofs.lemmas.Str.{chars-append, chars-nil, chars-IsAscii, IsUtf8-from_ascii}
 use Rattle.std.proofs.lemmas.Str.Ascii.{IsAscii-nil, IsAscii-cons}
@@ -33,3 +35,10 @@ blank_placed row text rest is = by_place (stands_apart row.body)
         ap (λ bs. blank (32 ∷ bs)) (append_assoc text (32 ∷ []) rest)
         ∙ blank_space (text ++ 32 ∷ rest) ∙ blank_both text (32 ∷ rest) is ∙ ap (λ b. blank text && b) (blank_space rest)
     by_place false = blank_both text rest is
+
+-- a text placed behind another
+pub blank_behind : (row : Row) (before text : List ℕ) → IsUtf8 before → IsUtf8 text → blank (before ++ placed row text) ≡ (blank before && blank text)
+blank_behind row before text before_is text_is =
+    blank_both before (placed row text) before_is
+    ∙ ap (λ b. blank before && b)
+    (sym (ap blank (append-nil (placed row text))) ∙ blank_placed row text [] text_is ∙ ap (λ b. blank text && b) blank_nothing ∙ and-true (blank text))

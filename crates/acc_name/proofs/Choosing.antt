@@ -18,6 +18,11 @@ split_first (name ∷ names) later = by_test (blank name.text) refl (split_first
     by_test true e is = rw e is
     by_test false e is = rw e refl
 
+-- the same names before those that decide alike
+pub first_alike : (names later others : List Name) → first_said later ≡ first_said others → first_said (names ++ later) ≡ first_said (names ++ others)
+first_alike names later others alike =
+    split_first names later ∙ ap (unwrap_or (first_of names)) alike ∙ sym (split_first names others)
+
 -- a name among the first ones decides
 pub decided : (names later : List Name) (found : Option Name) → found ≡ first_of names → is_some found ≡ true → unwrap_or found no_name ≡ first_said (names ++ later)
 decided names later None is some = cc

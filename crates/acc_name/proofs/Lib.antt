@@ -1,6 +1,7 @@
 pub mod Blanks
 pub mod Choosing
 pub mod Marks
+pub mod Keeping
 pub mod Hearing
 pub mod Deciding
 pub mod Alone

@@ -1,5 +1,5 @@
 -- What is held of names in the making.
-use Rattle.std.specs.Prelude.{◌≡◌, ℕ, List, [], ◌∷◌, Bool, if◌then◌else◌, ◌||◌, Option, Some, None, option_map, String}
+use Rattle.std.specs.Prelude.{ℕ, List, [], ◌∷◌, Bool, if◌then◌else◌, ◌||◌, Option, Some, None, option_map, String}
 use Rattle.std.specs.String.{string_bytes}
 use Rattle.std.specs.declared.alloc.Global.{Global}
 use Rattle.aria_tables.specs.declared.role.Role.{Role}
@@ -7,34 +7,27 @@ use Rattle.snap_tree.specs.Trees.{Trees}
 use Rattle.snap_tree.specs.declared.row.Row.{Row}
 use Rattle.texts.specs.Words.{blank}
 use Rattle.acc_tree.specs.declared.above.Above.{Above}
-use Rattle.acc_tree.specs.Seen.{seen_row, seen}
+use Rattle.acc_tree.specs.declared.attributes.Attribute.TheVariants as attribute
+use Rattle.acc_tree.specs.Seen.{seen_row, seen, text_at}
 use Rattle.acc_tree.specs.Sights.{Sight}
 use Rattle.acc_tree.specs.Tags.{html_tag}
 use Rattle.acc_name.specs.declared.named.How.TheVariants as how
 use Rattle.acc_name.specs.declared.named.Name.{Name}
 use Rattle.acc_name.specs.declared.clauses.Said.{Said}
 use Rattle.acc_name.specs.declared.heard.Aside.{Aside}
-use Rattle.acc_name.specs.declared.heard.Caption.{Caption}
 use Rattle.acc_name.specs.declared.heard.Inner.{Inner}
 use Rattle.acc_name.specs.declared.told.Scope.{Scope}
 use Rattle.acc_name.specs.declared.told.Told.{Told}
 use Rattle.acc_name.specs.declared.told.Wanted.{Wanted}
-use Rattle.acc_name.specs.Hosts.{caption_of}
-use Rattle.acc_name.specs.Names.{Asked, Heard, is_select, stands_apart, said}
+use Rattle.acc_name.specs.declared.named.How.{How}
+use Rattle.acc_name.specs.declared.named.NameSource.TheVariants as source
+use Rattle.acc_name.specs.Captions.{caption_kept}
+use Rattle.acc_name.specs.Hosts.{host_of, host_text, caption_of}
+use Rattle.acc_name.specs.Names.{Asked, Heard, says, is_select, content_of, placeholder_of, said}
 
 -- the bytes of a string that may be there
 abbrev pub text_in : Option (String Global) → Option (List ℕ)
 text_in text = option_map string_bytes text
-
--- a caption with whether it is blank
-abbrev pub weighed : List ℕ → Caption
-weighed text = record { text = text; is_blank = blank text }
-
-abbrev pub caption_text : Caption → List ℕ
-caption_text caption = caption.text
-
-abbrev pub IsWeighed : Caption → Type 0
-IsWeighed caption = caption.is_blank ≡ blank caption.text
 
 -- what is asked of the trees below a node
 abbrev pub wanted_below : Wanted → Row → Wanted
@@ -53,10 +46,6 @@ first_of (said ∷ later) = if blank said.text then first_of later else Some sai
 abbrev pub shown : List ℕ → Option (List ℕ) → Option (List ℕ) → Heard
 shown content chosen caption = record { content = content; chosen = chosen; caption = caption }
 
--- the space beside the text of a node that stands apart
-abbrev pub gap : Row → List ℕ
-gap row = if stands_apart row.body then 32 ∷ [] else []
-
 abbrev pub asked_of : Scope → (Sight → Told) → Asked
 asked_of scope told = record { node = scope.node; hidden = scope.hidden; told = told }
 
@@ -64,15 +53,28 @@ asked_of scope told = record { node = scope.node; hidden = scope.hidden; told = 
 abbrev pub seen_at : Row → Trees → Above → Sight
 seen_at row below above = record { row = seen_row row; below = seen below; above = above }
 
--- what those below a node say, with this content
+-- what those below a node say, where this is kept of it
 abbrev pub told_within : Inner → List ℕ → Heard
-told_within inner content = shown content (text_in inner.chosen.now) (option_map caption_text inner.caption)
+told_within inner text = shown text (text_in inner.chosen.now) (caption_kept inner.caption text)
 
 -- which clause gave a name, and whether it is blank
 abbrev pub said_by : Name → Said
 said_by name = record { source = name.source; is_blank = blank name.text }
 
--- what a node says within a name, where this is said below it
+-- what a node says within a name, where this is kept of what is said below it
 abbrev pub says_within : Scope → Told → Option Role → Row → Aside → List ℕ → List ℕ
-says_within scope told role row inner content =
-    (said scope.node scope.hidden told how.Inner role row (shown content (text_in inner.chosen) (option_map caption_text inner.caption))).text
+says_within scope told role row inner text =
+    (said scope.node scope.hidden told how.Inner role row (shown text (text_in inner.chosen) (caption_kept inner.caption text))).text
+
+-- an element's clauses from the children's texts on
+abbrev pub from_content : How → Option Role → Row → List ℕ → List Name
+from_content how role row content =
+    says source.Content (content_of how role content)
+    ∷ says source.Title (text_at attribute.Title row)
+    ∷ says source.Placeholder (placeholder_of row)
+    ∷ []
+
+-- an element's clauses from the text of its kind on
+abbrev pub from_kind : How → Option Role → Row → Heard → List Name
+from_kind how role row inner =
+    says source.HostText (host_text (host_of row) row inner.caption) ∷ from_content how role row inner.content

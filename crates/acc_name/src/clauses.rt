@@ -1,16 +1,16 @@
-ghost use Rattle.std.specs.Prelude.{◌≡◌, [], ◌∷◌, ◌++◌, ◌&&◌, not, take, drop, option_map, IfOk, OnOk, IfSome, IsCharBoundary, false, unwrap_or};
+ghost use Rattle.std.specs.Prelude.{◌≡◌, [], ◌∷◌, ◌++◌, ◌&&◌, not, take, drop, IfOk, OnOk, IfSome, IsCharBoundary, false, unwrap_or};
 ghost use Rattle.std.specs.String.{string_bytes};
 ghost use Rattle.aria_tables.specs.declared.attr.AriaAttr.TheVariants as aria;
 ghost use Rattle.texts.specs.Words.{blank};
 ghost use Rattle.acc_tree.specs.declared.attributes.Attribute.TheVariants as attribute;
 ghost use Rattle.acc_tree.specs.Seen.{seen_row, text_at};
 ghost use Rattle.acc_name.specs.declared.named.NameSource.TheVariants as source;
-ghost use Rattle.acc_name.specs.Hosts.{host_of, host_text};
-ghost use Rattle.acc_name.specs.Names.{no_name, says, is_inner, is_shown, is_silent, placeholder_of, value_of, by_clauses, said};
-ghost use Rattle.acc_name.specs.Voices.{text_in, caption_text, told_within, IsWeighed, first_of, said_by};
+ghost use Rattle.acc_name.specs.Names.{no_name, says, first_said, is_inner, is_shown, is_silent, placeholder_of, value_of, by_clauses, said};
+ghost use Rattle.acc_name.specs.Voices.{text_in, told_within, first_of, said_by, from_content, from_kind};
 
-use crate::heard::{Caption, Inner};
-use crate::hosts::{Host, host_of};
+use crate::captions::is_captioned;
+use crate::heard::Inner;
+use crate::hosts::host_of;
 use crate::named::{How, Name, NameSource};
 use crate::told::{Scope, Told};
 use crate::values::{asks_content, copied_at, native_text, placeholder_of, value_of};
@@ -65,46 +65,11 @@ fn by_hints(alloc: Global, row: &Row) -> Result<Option<Name>, OutOfMemory>
     Ok(unless_blank(NameSource::Placeholder, placeholder))
 }
 
-// The text of the element's kind.
-#[tactic(auto, using(crate::proofs::Blanks::blank_nothing))]
-fn by_kind(
-    alloc: Global,
-    host: Host,
-    row: &Row,
-    caption: Option<Caption>,
-) -> Result<Option<Name>, OutOfMemory>
-    requires { IfSome caption IsWeighed }
-    ensures { IfOk result (λ name. name ≡ first_of (says source.HostText (host_text host (seen_row row.now) (option_map caption_text caption)) ∷ [])) }
-{
-    let Host::Captioned(_) = host else {
-        return Ok(unless_blank(NameSource::HostText, native_text(alloc, host, row)?));
-    };
-    match caption {
-        Some(Caption { text, is_blank }) => {
-            if is_blank {
-                return Ok(None);
-            }
-            Ok(Some(Name {
-                text,
-                source: NameSource::HostText,
-            }))
-        }
-        None => Ok(None),
-    }
-}
-
-// The attribute aria-label, the labels, and then the text of the element's kind.
-fn by_label(
-    alloc: Global,
-    labels: Text,
-    row: &Row,
-    caption: Option<Caption>,
-) -> Result<Option<Name>, OutOfMemory>
-    requires { IfSome caption IsWeighed }
+// The attribute aria-label, and then the labels.
+fn by_label(alloc: Global, labels: Text, row: &Row) -> Result<Option<Name>, OutOfMemory>
     ensures { IfOk result (λ name. name ≡ first_of (
         says source.AriaLabel (text_at (attribute.Aria aria.Label) (seen_row row.now))
         ∷ says source.HostLabel labels
-        ∷ says source.HostText (host_text (host_of (seen_row row.now)) (seen_row row.now) (option_map caption_text caption))
         ∷ [])) }
 {
     let label = copied_at(alloc, row, Attribute::Aria(AriaAttr::Label))?;
@@ -114,32 +79,23 @@ fn by_label(
             source: NameSource::AriaLabel,
         }));
     }
-    if !blank(&labels) {
-        return Ok(Some(Name {
-            text: labels,
-            source: NameSource::HostLabel,
-        }));
-    }
-    by_kind(alloc, host_of(row), row, caption)
+    Ok(unless_blank(NameSource::HostLabel, labels))
 }
 
-// The clauses that come before the children's texts.
-fn before_content(
+// The clauses that come before the text of the element's kind.
+fn before_kind(
     alloc: Global,
     told: Told,
     how: How,
     role: Option<Role>,
     row: &Row,
     chosen: &Option<String>,
-    caption: Option<Caption>,
 ) -> Result<Option<Name>, OutOfMemory>
-    requires { IfSome caption IsWeighed }
     ensures { IfOk result (λ name. name ≡ first_of (
         says source.LabelledBy told.labelled_by
         ∷ says source.HostText (value_of how role (seen_row row.now) (text_in chosen.now))
         ∷ says source.AriaLabel (text_at (attribute.Aria aria.Label) (seen_row row.now))
         ∷ says source.HostLabel told.labels
-        ∷ says source.HostText (host_text (host_of (seen_row row.now)) (seen_row row.now) (option_map caption_text caption))
         ∷ [])) }
 {
     let Told {
@@ -159,7 +115,7 @@ fn before_content(
             source: NameSource::HostText,
         }));
     }
-    by_label(alloc, labels, row, caption)
+    by_label(alloc, labels, row)
 }
 
 // Puts a text in the place of what the children say.
@@ -194,6 +150,67 @@ fn replaced_by(content: &mut String, mark: usize, name: Option<Name>) -> Result<
     }
 }
 
+// The children's texts, and then the title and the placeholder.
+fn by_content(
+    alloc: Global,
+    how: How,
+    role: Option<Role>,
+    row: &Row,
+    is_blank: bool,
+    mark: usize,
+    content: &mut String,
+) -> Result<Said, OutOfMemory>
+    requires boundary { IsCharBoundary (string_bytes content.old) mark }
+    requires blank { is_blank ≡ blank (drop mark (string_bytes content.old)) }
+    ensures text { OnOk result (string_bytes content.new ≡ take mark (string_bytes content.old) ++ (first_said (from_content how role (seen_row row.now) (drop mark (string_bytes content.old)))).text) }
+    ensures decides { IfOk result (λ s. s ≡ said_by (first_said (from_content how role (seen_row row.now) (drop mark (string_bytes content.old))))) }
+{
+    let counts = asks_content(how, role) & !is_blank;
+    if counts {
+        return Ok(Said {
+            source: NameSource::Content,
+            is_blank,
+        });
+    }
+    let hint = by_hints(alloc, row)?;
+    replaced_by(content, mark, hint)
+}
+
+// The text of the element's kind, and then the clauses after it. A caption stands in its place already.
+fn by_kind(
+    alloc: Global,
+    how: How,
+    role: Option<Role>,
+    row: &Row,
+    inner: Inner<'_>,
+    mark: usize,
+    content: &mut String,
+) -> Result<Said, OutOfMemory>
+    requires boundary { IsCharBoundary (string_bytes content.old) mark }
+    requires blank { inner.is_blank ≡ blank (drop mark (string_bytes content.old)) }
+    ensures text { OnOk result (string_bytes content.new ≡ take mark (string_bytes content.old) ++ (first_said (from_kind how role (seen_row row.now) (told_within inner.entry (drop mark (string_bytes content.old))))).text) }
+    ensures decides { IfOk result (λ s. s ≡ said_by (first_said (from_kind how role (seen_row row.now) (told_within inner.entry (drop mark (string_bytes content.old)))))) }
+{
+    let Inner {
+        caption,
+        is_blank,
+        ..
+    } = inner;
+    let host = host_of(row);
+    if is_captioned(host, caption, is_blank) {
+        return Ok(Said {
+            source: NameSource::HostText,
+            is_blank,
+        });
+    }
+    let text = native_text(alloc, host, row)?;
+    let native = unless_blank(NameSource::HostText, text);
+    if native.is_some() {
+        return replaced_by(content, mark, native);
+    }
+    by_content(alloc, how, role, row, is_blank, mark, content)
+}
+
 fn by_clauses(
     alloc: Global,
     told: Told,
@@ -205,29 +222,15 @@ fn by_clauses(
     content: &mut String,
 ) -> Result<Said, OutOfMemory>
     requires boundary { IsCharBoundary (string_bytes content.old) mark }
-    requires weighed { IfSome inner.caption IsWeighed }
     requires blank { inner.is_blank ≡ blank (drop mark (string_bytes content.old)) }
     ensures text { OnOk result (string_bytes content.new ≡ take mark (string_bytes content.old) ++ (by_clauses told how role (seen_row row.now) (told_within inner.entry (drop mark (string_bytes content.old)))).text) }
     ensures decides { IfOk result (λ s. s ≡ said_by (by_clauses told how role (seen_row row.now) (told_within inner.entry (drop mark (string_bytes content.old))))) }
 {
-    let Inner {
-        chosen,
-        caption,
-        is_blank,
-    } = inner;
-    let earlier = before_content(alloc, told, how, role, row, chosen, caption)?;
+    let earlier = before_kind(alloc, told, how, role, row, inner.chosen)?;
     if earlier.is_some() {
         return replaced_by(content, mark, earlier);
     }
-    let counts = asks_content(how, role) & !is_blank;
-    if counts {
-        return Ok(Said {
-            source: NameSource::Content,
-            is_blank,
-        });
-    }
-    let hint = by_hints(alloc, row)?;
-    replaced_by(content, mark, hint)
+    by_kind(alloc, how, role, row, inner, mark, content)
 }
 
 fn is_inner(how: How) -> bool
@@ -251,8 +254,8 @@ fn is_silent(node: NodeId, hidden: bool, how: How, row: &Row) -> bool
     is_inner(how) & (row.id.0 == node.0) | !hidden & !is_shown(row)
 }
 
-/// Makes what a node says of what those below it say, which stands from the mark on, given what references
-/// say of the node and its role.
+/// Makes what a node says of what is kept of those below it, which stands from the mark on, given what
+/// references say of the node and its role.
 pub(crate) fn say(
     alloc: Global,
     scope: Scope,
@@ -265,7 +268,6 @@ pub(crate) fn say(
     content: &mut String,
 ) -> Result<Said, OutOfMemory>
     requires boundary { IsCharBoundary (string_bytes content.old) mark }
-    requires weighed { IfSome inner.caption IsWeighed }
     requires blank { inner.is_blank ≡ blank (drop mark (string_bytes content.old)) }
     ensures text { OnOk result (string_bytes content.new ≡ take mark (string_bytes content.old) ++ (said scope.node scope.hidden told how role (seen_row row.now) (told_within inner.entry (drop mark (string_bytes content.old)))).text) }
     ensures decides { IfOk result (λ s. s ≡ said_by (said scope.node scope.hidden told how role (seen_row row.now) (told_within inner.entry (drop mark (string_bytes content.old))))) }

@@ -5,6 +5,7 @@
 //! standard's step beside each; [`laws_of_names`] says each clause in the standard's own shape.
 #![tactic(auto)]
 
+mod captions;
 mod clauses;
 mod following;
 mod heard;
@@ -12,6 +13,7 @@ mod hosts;
 mod laws;
 mod named;
 mod naming;
+mod placing;
 mod references;
 mod room;
 mod tags;

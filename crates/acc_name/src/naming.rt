@@ -5,6 +5,7 @@ ghost use Rattle.acc_name.specs.declared.named.How.TheVariants as how;
 ghost use Rattle.acc_name.specs.Hosts.{caption_of};
 ghost use Rattle.acc_name.specs.Names.{asks_content, nothing_heard, said, told_of, own_text, named, name_of};
 
+use crate::captions::Caption;
 use crate::clauses::{no_name, say};
 use crate::following::{OnPage, told_of};
 use crate::heard::Inner;
@@ -69,7 +70,7 @@ fn alone(
     let mut content = String::new(alloc);
     let nothing = Inner {
         chosen: &None,
-        caption: None,
+        caption: Caption::Absent,
         is_blank: true,
     };
     let said = say(

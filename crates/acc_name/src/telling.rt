@@ -1,17 +1,19 @@
-ghost use Rattle.std.specs.Prelude.{◌≡◌, ◌++◌, ◌&&◌, take, drop, option_map, Some, None, if◌then◌else◌, IfOk, OnOk, IfSome, IsUtf8, IsCharBoundary};
-ghost use Rattle.std.specs.Option.{option_or};
+ghost use Rattle.std.specs.Prelude.{◌≡◌, ◌++◌, ◌&&◌, ◌≤◌, take, drop, Some, None, if◌then◌else◌, IfOk, OnOk, IsUtf8, IsCharBoundary};
 ghost use Rattle.std.specs.String.{string_bytes};
 ghost use Rattle.texts.specs.Words.{blank};
 ghost use Rattle.acc_tree.specs.Seen.{seen_row, seen};
 ghost use Rattle.acc_tree.specs.Sights.{seen_sight};
 ghost use Rattle.acc_name.specs.declared.named.How.TheVariants as how;
+ghost use Rattle.acc_name.specs.Captions.{captioning, weighed, caption_or, kept};
 ghost use Rattle.acc_name.specs.Hosts.{is_captioning};
 ghost use Rattle.acc_name.specs.Names.{heard, spoken, joined, is_chosen};
-ghost use Rattle.acc_name.specs.Voices.{asked_of, text_in, weighed, asked_for, gap, IsWeighed, says_within};
+ghost use Rattle.acc_name.specs.Placing.{settled};
+ghost use Rattle.acc_name.specs.Voices.{asked_of, text_in, asked_for, says_within};
 
 use crate::clauses::say;
-use crate::heard::{Aside, Inner, part};
+use crate::heard::{Aside, Inner};
 use crate::named::{How, Name};
+use crate::placing::{Stand, keep, part_before, place_of};
 use crate::references::References;
 use crate::room::Room;
 use crate::tags::is_select;
@@ -21,8 +23,8 @@ use aria_tables::Role;
 use snap_tree::{Branches, OutOfMemory, Row, Text};
 use std::alloc::Global;
 
-// Makes what a root says of what stands from the mark on, which those below it say, and puts it with what
-// was said before it.
+// Makes what a root says of what stands from the mark on, which is kept of those below it, and puts it with
+// what was said before it.
 fn settle(
     alloc: Global,
     scope: Scope,
@@ -32,17 +34,18 @@ fn settle(
     row: &Row,
     inner: Aside,
     so_far: Aside,
-    mark: usize,
+    stand: Stand,
     content: &mut String,
 ) -> Result<Aside, OutOfMemory>
-    requires boundary { IsCharBoundary (string_bytes content.old) mark }
-    requires weighed { IfSome inner.caption IsWeighed }
-    requires blank { inner.is_blank ≡ blank (drop mark (string_bytes content.old)) }
-    ensures content { OnOk result (string_bytes content.new ≡ take mark (string_bytes content.old) ++ says_within scope told role (seen_row row.now) inner (drop mark (string_bytes content.old)) ++ gap (seen_row row.now)) }
-    ensures utf8 { OnOk result (IsUtf8 (says_within scope told role (seen_row row.now) inner (drop mark (string_bytes content.old)))) }
-    ensures chosen { IfOk result (λ aside. text_in aside.chosen ≡ asked_for wanted.chosen (joined (text_in so_far.chosen) (joined (if is_chosen (seen_row row.now) then Some (says_within scope told role (seen_row row.now) inner (drop mark (string_bytes content.old))) else None) (text_in inner.chosen)))) }
-    ensures caption { IfOk result (λ aside. aside.caption ≡ option_or so_far.caption (option_map weighed (if is_captioning wanted.caption (seen_row row.now) then Some (says_within scope told role (seen_row row.now) inner (drop mark (string_bytes content.old))) else None))) }
-    ensures blank { IfOk result (λ aside. aside.is_blank ≡ (so_far.is_blank && blank (says_within scope told role (seen_row row.now) inner (drop mark (string_bytes content.old))))) }
+    requires start { IsCharBoundary (string_bytes content.old) stand.start }
+    requires mark { IsCharBoundary (string_bytes content.old) stand.mark }
+    requires order { stand.start ≤ stand.mark }
+    requires blank { inner.is_blank ≡ blank (drop stand.mark (string_bytes content.old)) }
+    ensures content { OnOk result (string_bytes content.new ≡ settled stand.place stand.start (seen_row row.now) (take stand.mark (string_bytes content.old)) (says_within scope told role (seen_row row.now) inner (drop stand.mark (string_bytes content.old)))) }
+    ensures utf8 { OnOk result (IsUtf8 (says_within scope told role (seen_row row.now) inner (drop stand.mark (string_bytes content.old)))) }
+    ensures chosen { IfOk result (λ aside. text_in aside.chosen ≡ asked_for wanted.chosen (joined (text_in so_far.chosen) (joined (if is_chosen (seen_row row.now) then Some (says_within scope told role (seen_row row.now) inner (drop stand.mark (string_bytes content.old))) else None) (text_in inner.chosen)))) }
+    ensures caption { IfOk result (λ aside. aside.caption ≡ caption_or so_far.caption (captioning (is_captioning wanted.caption (seen_row row.now)) (blank (says_within scope told role (seen_row row.now) inner (drop stand.mark (string_bytes content.old)))))) }
+    ensures blank { IfOk result (λ aside. aside.is_blank ≡ (so_far.is_blank && blank (says_within scope told role (seen_row row.now) inner (drop stand.mark (string_bytes content.old))))) }
 {
     let Aside {
         chosen,
@@ -54,6 +57,7 @@ fn settle(
         caption,
         is_blank,
     };
+    let mark = stand.mark;
     let said = say(
         alloc,
         scope,
@@ -67,21 +71,22 @@ fn settle(
     )?;
     let (_, text) = content.as_str().split_at(mark);
     let aside = so_far.and_then(alloc, wanted, row, text, said.is_blank, chosen)?;
-    part(content, row)?;
+    keep(content, stand, row, said.is_blank)?;
     Ok(aside)
 }
 
 // Counts what the chosen options say below a `select` that stands within another.
 fn nest(room: &mut Room, wanted: Wanted, row: &Row, inner: &Aside) -> Result<(), OutOfMemory> {
     if wanted.chosen & is_select(html_tag(row)) {
-        room.nest(inner.chosen_len())
+        room.nest(inner.len())
     } else {
         Ok(())
     }
 }
 
-// Writes what trees say within a name, given what is above them, and answers what they say beside it.
-// Each subtree is heard once, and what it says is written once.
+// Writes what is kept of what trees say within a name, given what is above them, and answers what they say
+// beside it. Each subtree is heard once, and what it says is written once: a caption that names the node
+// above stands where the content of that node begins, and the rest of the content is dropped.
 fn hear<'a, R: References>(
     alloc: Global,
     references: &R,
@@ -92,11 +97,12 @@ fn hear<'a, R: References>(
     trees: Branches<'a>,
     content: &mut String,
 ) -> Result<Aside, OutOfMemory>
-    ensures content { OnOk result (string_bytes content.new ≡ string_bytes content.old ++ (heard (asked_of scope (R.tells references.now)) above.now wanted.caption (seen trees.entry)).content) }
+    ensures content { OnOk result (string_bytes content.new ≡ string_bytes content.old ++ kept (heard (asked_of scope (R.tells references.now)) above.now wanted.caption (seen trees.entry))) }
     ensures chosen { IfOk result (λ aside. text_in aside.chosen ≡ asked_for wanted.chosen (heard (asked_of scope (R.tells references.now)) above.now wanted.caption (seen trees.entry)).chosen) }
-    ensures caption { IfOk result (λ aside. aside.caption ≡ option_map weighed (heard (asked_of scope (R.tells references.now)) above.now wanted.caption (seen trees.entry)).caption) }
-    ensures blank { IfOk result (λ aside. aside.is_blank ≡ blank (heard (asked_of scope (R.tells references.now)) above.now wanted.caption (seen trees.entry)).content) }
+    ensures caption { IfOk result (λ aside. aside.caption ≡ weighed (heard (asked_of scope (R.tells references.now)) above.now wanted.caption (seen trees.entry)).caption) }
+    ensures blank { IfOk result (λ aside. aside.is_blank ≡ blank (kept (heard (asked_of scope (R.tells references.now)) above.now wanted.caption (seen trees.entry)))) }
 {
+    let start = content.as_str().len();
     let mut so_far = Aside::nothing();
     let mut rest = trees;
     while let Some(branch) = rest.first() {
@@ -105,8 +111,10 @@ fn hear<'a, R: References>(
         room.hold(before)?;
         let told = references.told(alloc, room, row, &branch.kids, above)?;
         room.release(before);
-        part(content, row)?;
+        let place = place_of(so_far.caption, wanted.caption, row);
+        part_before(content, place, row)?;
         let mark = content.as_str().len();
+        let stand = Stand { place, start, mark };
         let beneath = under(above, row);
         let held = so_far.len().saturating_add(told.len());
         room.hold(held)?;
@@ -125,7 +133,7 @@ fn hear<'a, R: References>(
         nest(room, wanted, row, &inner)?;
         let role = role_at(above, row);
         so_far = settle(
-            alloc, scope, wanted, told, role, row, inner, so_far, mark, content,
+            alloc, scope, wanted, told, role, row, inner, so_far, stand, content,
         )?;
         rest = branch.after;
     }
