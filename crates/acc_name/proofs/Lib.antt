@@ -7,3 +7,6 @@ pub mod Deciding
 pub mod Alone
 pub mod Plain
 pub mod Trimmed
+pub mod SaidAgain
+pub mod ToldAgain
+pub mod NamedAgain

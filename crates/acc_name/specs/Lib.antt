@@ -4,3 +4,4 @@ pub mod Captions
 pub mod Placing
 pub mod Voices
 pub mod NameLaws
+pub mod Local

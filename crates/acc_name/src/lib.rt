@@ -11,6 +11,7 @@ mod following;
 mod heard;
 mod hosts;
 mod laws;
+mod local;
 mod named;
 mod naming;
 mod placing;
@@ -23,6 +24,7 @@ mod told;
 mod values;
 
 pub use laws::laws_of_names;
+pub use local::law_of_locality;
 pub use named::{Name, NameSource};
 pub use naming::name;
 pub use room::{MOST_NAME_BYTES, MOST_NESTED_BYTES};
