@@ -91,3 +91,8 @@ pub queried_stays : (sql : List ℕ) (params : Row) (old new : State) {X : Type 
     → IfErr r (λ e. FailsToQuery sql params old new e ⊎ IsTooLate sql params old new e) → StaysInside old new r
 queried_stays sql params old new view (Ok x) shown failed inside = (shown_keeps sql params old new (view x) inside shown, shown_inside sql params old new (view x) inside shown)
 queried_stays sql params old new view (Err e) shown failed inside = (late_keeps sql params old new e failed, tt)
+
+-- what a statement makes, unless it fails
+pub if_executed : (sql : List ℕ) (params : Row) (old new : State) (r : Result ℕ Error) (P : Type 0) → ((count : ℕ) → ExecutesInside 0 sql params old new (Ok count) → P) → ExecutesInside 0 sql params old new r → OnOk r P
+if_executed sql params old new (Ok count) P makes h = makes count h
+if_executed sql params old new (Err e) P makes h = tt

@@ -1,0 +1,20 @@
+//! The six tables of the store, and a function for each of the texts that read and write them, in a transaction.
+//!
+//! A contract says of a text in the words of `specs/Stored.antt` and `specs/Changes.antt`, the rows that the tables
+//! hold without their rowids, what it shows or makes. Each leaves the last commit as it was, and keeps the
+//! transaction open unless it fails. Start with [`put_page`] and [`page_row`].
+#![tactic(auto)]
+
+mod editions;
+mod judgements;
+mod members;
+mod outcomes;
+mod pages;
+mod sites;
+
+pub use editions::{add_edition, edition_rows};
+pub use judgements::{JudgementRow, add_judgement, drop_judgements, page_judgements};
+pub use members::{add_member, drop_members, site_members};
+pub use outcomes::{OutcomeRow, add_outcome, drop_outcomes, page_outcomes};
+pub use pages::{drop_page, heads, page_row, put_page};
+pub use sites::{put_site, site_row};
