@@ -174,15 +174,7 @@ fn run_on<R: Threads + Sync, B: RuleBook + Send>(
     let (mut out, mut err) = sinks(alloc, case)?;
     let mut door = door(alloc, case)?;
     let status = run(
-        rt,
-        alloc,
-        &words,
-        &mut input,
-        &mut out,
-        &mut err,
-        keeper,
-        &mut door,
-        books,
+        rt, alloc, &words, &mut input, &mut out, &mut err, keeper, &mut door, books,
     );
     Ok(Ended {
         status,

@@ -25,7 +25,10 @@ static CASES: [(&str, &str); 65] = [
     ("GET /sites/a/report", "site report a"),
     ("GET /sites/a/earl", "site earl a"),
     ("GET /sites/a/csv", "site csv a"),
-    ("GET /sites/report/pages/names/earl?", "get earl report names"),
+    (
+        "GET /sites/report/pages/names/earl?",
+        "get earl report names",
+    ),
     ("GET /sites/csv/csv?/csv", "site csv csv"),
     ("PUT /sites/earl", "put site earl"),
     (

@@ -75,7 +75,8 @@ criterion 4.1.2 A inapplicable
 total pages 1 passed 2 failed 0 cantTell 0 inapplicable 0
 ";
 
-const EARL: &str = r#"{"@context":{"earl":"http://www.w3.org/ns/earl#"},"@graph":[{"@type":"earl:Assertion","earl:assertedBy":{"@id":"urn:act-desk:software","@type":"earl:Software"},"earl:mode":{"@id":"earl:automatic"},"earl:result":{"@type":"earl:TestResult","earl:info":"ok","earl:outcome":{"@id":"earl:passed"},"earl:pointer":"node 1"},"earl:subject":{"@id":"https://example.org/","@type":"earl:TestSubject"},"earl:test":{"@id":"urn:act-rule:2779a5","@type":"earl:TestCase"}},{"@type":"earl:Assertion","earl:assertedBy":{"@id":"urn:act-desk:software","@type":"earl:Software"},"earl:mode":{"@id":"earl:automatic"},"earl:result":{"@type":"earl:TestResult","earl:info":"ok","earl:outcome":{"@id":"earl:passed"},"earl:pointer":"node 1"},"earl:subject":{"@id":"https://example.org/","@type":"earl:TestSubject"},"earl:test":{"@id":"urn:act-rule:b5c3f8","@type":"earl:TestCase"}}]}"#;
+const EARL: &str =
+    r#"{"@context":{"earl":"http://www.w3.org/ns/earl#"},"@graph":[{"@type":"earl:Assertion","earl:assertedBy":{"@id":"urn:act-desk:software","@type":"earl:Software"},"earl:mode":{"@id":"earl:automatic"},"earl:result":{"@type":"earl:TestResult","earl:info":"ok","earl:outcome":{"@id":"earl:passed"},"earl:pointer":"node 1"},"earl:subject":{"@id":"https://example.org/","@type":"earl:TestSubject"},"earl:test":{"@id":"urn:act-rule:2779a5","@type":"earl:TestCase"}},{"@type":"earl:Assertion","earl:assertedBy":{"@id":"urn:act-desk:software","@type":"earl:Software"},"earl:mode":{"@id":"earl:automatic"},"earl:result":{"@type":"earl:TestResult","earl:info":"ok","earl:outcome":{"@id":"earl:passed"},"earl:pointer":"node 1"},"earl:subject":{"@id":"https://example.org/","@type":"earl:TestSubject"},"earl:test":{"@id":"urn:act-rule:b5c3f8","@type":"earl:TestCase"}}]}"#;
 
 const CSV: &str = "site,page,rev,node,rule,outcome,automatic,reason,judge
 acme,home,1,1,2779a5,passed,passed,ok,
@@ -92,7 +93,12 @@ fn a_page_is_reported(rt: HostRuntime) -> Result<(), Fail> {
     let alloc = rt.alloc();
     let plain = "text/plain; charset=utf-8";
     shown(alloc, Reply::Report(home(alloc)?), plain, REPORT)?;
-    shown(alloc, Reply::Earl(home(alloc)?), "application/ld+json", EARL)
+    shown(
+        alloc,
+        Reply::Earl(home(alloc)?),
+        "application/ld+json",
+        EARL,
+    )
 }
 
 #[test]
@@ -135,7 +141,13 @@ fn names_are_listed(rt: HostRuntime) -> Result<(), Fail> {
         let Ok(tree) = read_snapshot(alloc, snapshot.as_bytes()) else {
             return Err(Fail::from(*snapshot));
         };
-        is_printed(alloc, Answer::Replied(Reply::Names(tree)), false, "200 OK", names)?;
+        is_printed(
+            alloc,
+            Answer::Replied(Reply::Names(tree)),
+            false,
+            "200 OK",
+            names,
+        )?;
     }
     Ok(())
 }
