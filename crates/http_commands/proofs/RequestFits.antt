@@ -67,6 +67,12 @@ fits_command book h body (route.Judge site page) caller orderly names is =
     after (FitsBook book.infos) P (opinion_in book.infos d) _ (opinion_fits book.infos d orderly) (λ o fit.
     λ web. record { caller = is; site = names.0; parts = record { named = names.1; atomic = fit.atomic; short = fit.short } }))
 fits_command book h body (route.GetOutcomes site page) caller orderly names is = λ web. record { caller = is; site = names.0; parts = names.1 }
+fits_command book h body (route.GetReport site page) caller orderly names is = λ web. record { caller = is; site = names.0; parts = names.1 }
+fits_command book h body (route.GetEarl site page) caller orderly names is = λ web. record { caller = is; site = names.0; parts = names.1 }
+fits_command book h body (route.GetNames site page) caller orderly names is = λ web. record { caller = is; site = names.0; parts = names.1 }
+fits_command book h body (route.SiteReport site) caller orderly names is = λ web. record { caller = is; site = names; parts = tt }
+fits_command book h body (route.SiteEarl site) caller orderly names is = λ web. record { caller = is; site = names; parts = tt }
+fits_command book h body (route.SiteCsv site) caller orderly names is = λ web. record { caller = is; site = names; parts = tt }
 
 -- what is asked fits
 abbrev FitsAsked : Book → Asked → Type 0

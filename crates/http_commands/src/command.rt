@@ -38,6 +38,12 @@ pub(crate) fn command_of<B: RuleBook>(
         Route::EditPage { site, page } => edit_page(alloc, head, body, site, page),
         Route::Judge { site, page } => judge(alloc, book, body, site, page),
         Route::GetOutcomes { site, page } => Ok(Command::GetOutcomes { site, page }),
+        Route::GetReport { site, page } => Ok(Command::GetReport { site, page }),
+        Route::GetEarl { site, page } => Ok(Command::GetEarl { site, page }),
+        Route::GetNames { site, page } => Ok(Command::GetNames { site, page }),
+        Route::SiteReport { site } => Ok(Command::SiteReport { site }),
+        Route::SiteEarl { site } => Ok(Command::SiteEarl { site }),
+        Route::SiteCsv { site } => Ok(Command::SiteCsv { site }),
     }
 }
 

@@ -3,6 +3,8 @@ use Rattle.std.proofs.Common.{◌≡◌, List, [], ◌∷◌, map, filter, false
 use Rattle.serde_json.specs.Data.{string, array, object}
 use Rattle.serde_json.specs.View.{items_of}
 use Rattle.serde_json.specs.Written.{has_float, items_have_float}
+use Rattle.snap_tree.specs.declared.row.Row.{Row}
+use Rattle.snap_tree.specs.Trees.{Trees, rows_of}
 use Rattle.rule_core.specs.declared.info.RuleInfo.{RuleInfo}
 use Rattle.judge_core.specs.declared.outcomes.OutRow.{OutRow}
 use Rattle.keep_core.specs.declared.page.SitePage.{SitePage}
@@ -15,6 +17,7 @@ use Rattle.http_messages.specs.declared.fault.HeadFault.{HeadFault}
 use Rattle.http_routes.specs.declared.fault.RequestFault.{RequestFault}
 use Rattle.http_routes.specs.declared.fault.RequestFault.TheVariants as request
 use Rattle.http_replies.specs.Refusals.{members, edit_members, plain, refusal_data, head_data, request_members, request_data}
+use Rattle.http_replies.specs.NameList.{is_listed, name_data, names_data}
 use Rattle.http_replies.specs.Shown.{row_data, outcomes_data}
 
 of_members : (r : Refusal) → has_float (object (members r)) ≡ false
@@ -65,6 +68,15 @@ request_has_no_float f = of_request f
 ids : (infos : List RuleInfo) → items_have_float (items_of (map (λ info. string info.id) infos)) ≡ false
 ids [] = refl
 ids (info ∷ infos) = ids infos
+
+names : (trees : Trees) (listed : List Row) → items_have_float (items_of (map (λ row. name_data trees row.id) listed)) ≡ false
+unfolding name_data
+names trees [] = refl
+names trees (row ∷ listed) = names trees listed
+
+pub names_have_no_float : (trees : Trees) → has_float (names_data trees) ≡ false
+unfolding names_data
+names_have_no_float trees = rw (names trees (filter (λ row. is_listed trees row.id) (rows_of trees))) refl
 
 rows : (infos : List RuleInfo) (outcomes : List OutRow) → items_have_float (items_of (map (row_data infos) outcomes)) ≡ false
 unfolding row_data

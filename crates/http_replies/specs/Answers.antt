@@ -1,7 +1,10 @@
 -- What is sent back for one thing that came over a connection.
-use Rattle.std.specs.Prelude.{ℕ, ◌≤◌, List, length, Bool, false}
+use Rattle.std.specs.Prelude.{ℕ, ◌≤◌, List, [], ◌∷◌, length, Bool, false}
 use Rattle.serde_json.specs.Written.{compact_text}
 use Rattle.rule_core.specs.declared.info.RuleInfo.{RuleInfo}
+use Rattle.reports.specs.Earl.{earl}
+use Rattle.reports.specs.SiteReport.{site_report}
+use Rattle.reports.specs.Table.{csv_rows}
 use Rattle.reports.specs.TextReport.{text_report}
 use Rattle.desk_core.specs.declared.refusal.Refusal.TheVariants as refusal
 use Rattle.desk_core.specs.declared.reply.Reply.{Reply}
@@ -17,9 +20,10 @@ use Rattle.http_replies.specs.Refusals as refused
 use Rattle.http_replies.specs.Refusals.{refusal_data, head_data, request_data}
 use Rattle.http_replies.specs.Made.{site_text, member_text, stored_text, dropped_text, imported_text, judged_text, is_made}
 use Rattle.http_replies.specs.declared.made.TheConstants.{MOST_BODY}
+use Rattle.http_replies.specs.NameList.{names_data}
 use Rattle.http_replies.specs.Shown.{page_text, outcomes_data}
 
--- The status code of a reply: 201 where a site was made. No route leads to the replies of the last five lines yet.
+-- the status code of a reply: 201 where a site was made
 abbrev pub reply_status : Reply → ℕ
 reply_status (reply.Site site) = 201
 reply_status (reply.Member user held) = 200
@@ -30,21 +34,25 @@ reply_status (reply.Imported pages) = 200
 reply_status (reply.Judged rule node outcome) = 200
 reply_status (reply.Outcomes p) = 200
 reply_status (reply.Report p) = 200
+reply_status (reply.Earl p) = 200
+reply_status (reply.Names t) = 200
+reply_status (reply.SiteReport s) = 200
+reply_status (reply.SiteEarl s) = 200
+reply_status (reply.SiteCsv s) = 200
 reply_status (reply.Refused r) = refused.status r
-reply_status (reply.Earl p) = 507
-reply_status (reply.Names t) = 507
-reply_status (reply.SiteReport s) = 507
-reply_status (reply.SiteEarl s) = 507
-reply_status (reply.SiteCsv s) = 507
 
 abbrev pub status : Answer → ℕ
 status (Misread fault) = head.status fault
 status (Misasked fault) = request.status fault
 status (Replied r) = reply_status r
 
--- what the body of a reply is: a text where it is a report
+-- what the body of a reply is: reports have their own forms
 abbrev pub reply_kind : Reply → Kind
 reply_kind (reply.Report p) = kind.Text
+reply_kind (reply.SiteReport s) = kind.Text
+reply_kind (reply.Earl p) = kind.JsonLd
+reply_kind (reply.SiteEarl s) = kind.JsonLd
+reply_kind (reply.SiteCsv s) = kind.Csv
 reply_kind (reply.Site site) = kind.Json
 reply_kind (reply.Member user held) = kind.Json
 reply_kind (reply.Stored s) = kind.Json
@@ -53,12 +61,8 @@ reply_kind (reply.Dropped page) = kind.Json
 reply_kind (reply.Imported pages) = kind.Json
 reply_kind (reply.Judged rule node outcome) = kind.Json
 reply_kind (reply.Outcomes p) = kind.Json
-reply_kind (reply.Refused r) = kind.Json
-reply_kind (reply.Earl p) = kind.Json
 reply_kind (reply.Names t) = kind.Json
-reply_kind (reply.SiteReport s) = kind.Json
-reply_kind (reply.SiteEarl s) = kind.Json
-reply_kind (reply.SiteCsv s) = kind.Json
+reply_kind (reply.Refused r) = kind.Json
 
 abbrev pub kind_of : Answer → Kind
 kind_of (Misread fault) = kind.Json
@@ -75,12 +79,12 @@ reply_body infos (reply.Imported pages) = imported_text pages
 reply_body infos (reply.Judged rule node outcome) = judged_text infos rule node outcome
 reply_body infos (reply.Outcomes p) = compact_text (outcomes_data infos p)
 reply_body infos (reply.Report p) = text_report p.address infos p.outcomes.rows
+reply_body infos (reply.Earl p) = earl infos (p ∷ [])
+reply_body infos (reply.Names t) = compact_text (names_data t.trees)
+reply_body infos (reply.SiteReport s) = site_report s.site infos s.pages
+reply_body infos (reply.SiteEarl s) = earl infos s.pages
+reply_body infos (reply.SiteCsv s) = csv_rows s.site infos s.pages
 reply_body infos (reply.Refused r) = compact_text (refusal_data r)
-reply_body infos (reply.Earl p) = compact_text (refusal_data refusal.OutOfMemory)
-reply_body infos (reply.Names t) = compact_text (refusal_data refusal.OutOfMemory)
-reply_body infos (reply.SiteReport s) = compact_text (refusal_data refusal.OutOfMemory)
-reply_body infos (reply.SiteEarl s) = compact_text (refusal_data refusal.OutOfMemory)
-reply_body infos (reply.SiteCsv s) = compact_text (refusal_data refusal.OutOfMemory)
 
 abbrev pub body : List RuleInfo → Answer → List ℕ
 body infos (Misread fault) = compact_text (head_data fault)

@@ -2,4 +2,5 @@ pub mod Words
 pub mod Refusals
 pub mod Made
 pub mod Shown
+pub mod NameList
 pub mod Answers

@@ -1,8 +1,6 @@
 -- The words of replies.
 use Rattle.std.specs.Prelude.{ℕ, List, [], codes, Option, Some, None}
 use Rattle.std.specs.Option.{option_map_or}
-use Rattle.std.specs.List.{All}
-use Rattle.std.specs.Str.{IsUtf8}
 use Rattle.serde_json.specs.Data.{Data, number, unsigned}
 use Rattle.rule_core.specs.declared.info.RuleNo.{RuleNo}
 use Rattle.rule_core.specs.declared.info.RuleInfo.{RuleInfo}
@@ -48,7 +46,3 @@ head_word head.BodyTooLarge = codes "BodyTooLarge"
 -- the id of a rule; none for a rule that the book hasn't
 abbrev pub id_of : List RuleInfo → RuleNo → List ℕ
 id_of infos rule = option_map_or (λ info. info.id) (info_of infos rule.0) []
-
--- the ids are texts, as those of an orderly book are
-abbrev pub HaveTexts : List RuleInfo → Type 0
-HaveTexts infos = All (λ info. IsUtf8 info.id) infos

@@ -56,7 +56,9 @@ fn reply_kind(reply: &Reply) -> Kind
     ensures { result ≡ reply_kind reply.now }
 {
     match reply {
-        Reply::Report(_) => Kind::Text,
+        Reply::Report(_) | Reply::SiteReport(_) => Kind::Text,
+        Reply::Earl(_) | Reply::SiteEarl(_) => Kind::JsonLd,
+        Reply::SiteCsv(_) => Kind::Csv,
         Reply::Site { .. }
         | Reply::Member { .. }
         | Reply::Stored(_)
@@ -65,11 +67,7 @@ fn reply_kind(reply: &Reply) -> Kind
         | Reply::Imported { .. }
         | Reply::Judged { .. }
         | Reply::Outcomes(_)
-        | Reply::Earl(_)
         | Reply::Names(_)
-        | Reply::SiteReport(_)
-        | Reply::SiteEarl(_)
-        | Reply::SiteCsv(_)
         | Reply::Refused(_) => Kind::Json,
     }
 }
@@ -80,11 +78,6 @@ fn reply_status(reply: &Reply) -> u16
     match reply {
         Reply::Site { .. } => 201,
         Reply::Refused(refusal) => refusal_status(refusal),
-        Reply::Earl(_)
-        | Reply::Names(_)
-        | Reply::SiteReport(_)
-        | Reply::SiteEarl(_)
-        | Reply::SiteCsv(_) => 507,
         Reply::Member { .. }
         | Reply::Stored(_)
         | Reply::Page(_)
@@ -92,7 +85,12 @@ fn reply_status(reply: &Reply) -> u16
         | Reply::Imported { .. }
         | Reply::Judged { .. }
         | Reply::Outcomes(_)
-        | Reply::Report(_) => 200,
+        | Reply::Report(_)
+        | Reply::Earl(_)
+        | Reply::Names(_)
+        | Reply::SiteReport(_)
+        | Reply::SiteEarl(_)
+        | Reply::SiteCsv(_) => 200,
     }
 }
 

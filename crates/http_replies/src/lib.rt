@@ -7,6 +7,7 @@ mod answer;
 mod constant;
 mod made;
 mod members;
+mod names;
 mod outcomes;
 mod page;
 mod printing;

@@ -3,8 +3,9 @@ ghost use Rattle.std.specs.Str.{IsUtf8};
 ghost use Rattle.serde_json.specs.Data.{string, put as with_member};
 ghost use Rattle.serde_json.specs.View.{view, members_view};
 ghost use Rattle.serde_json.specs.Written.{compact_text};
+ghost use Rattle.reports.specs.Ids.{HaveTexts};
 ghost use Rattle.reports.specs.TextReport.{is_inapplicable, is_known};
-ghost use Rattle.http_replies.specs.Words.{id_of, HaveTexts};
+ghost use Rattle.http_replies.specs.Words.{id_of};
 ghost use Rattle.http_replies.specs.Shown.{row_data, inapplicable_ids, known_rows, outcomes_data};
 
 use crate::members::{Members, put_number, put_word};

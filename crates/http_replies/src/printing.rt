@@ -1,21 +1,22 @@
 ghost use Rattle.std.specs.Prelude.{◌≡◌, ◌<◌, [], true, IsTrue, IfOk, OnErr};
 ghost use Rattle.std.specs.Vec.{vec_capacity};
 ghost use Rattle.rule_core.specs.Infos.{is_orderly};
-ghost use Rattle.http_replies.specs.Words.{HaveTexts};
 ghost use Rattle.http_replies.specs.Made.{is_made};
 ghost use Rattle.http_replies.specs.Answers.{reply_body, body, answer_bytes, is_made_answer, HasRoom};
 
 use crate::answer::Answer;
 use crate::made::{MOST_BODY, is_made, push_made};
+use crate::names::names_body;
 use crate::outcomes::outcomes_body;
 use crate::page::page_body;
 use crate::refusals::{head_body, refusal_body, request_body};
-use desk_core::{Refusal, Reply};
+use desk_core::Reply;
 use reply_frames::{MOST_HEAD, frame};
-use reports::text_report;
+use reports::{csv_rows, earl, site_report, text_report};
 use rule_core::RuleInfo;
 use snap_tree::OutOfMemory;
 use std::alloc::Global;
+use std::slice::from_ref;
 
 /// The room that is taken before a change is made: the reply to a change fits into it.
 pub const MOST_REPLY: usize = 32_768;
@@ -30,9 +31,8 @@ pub fn laws_of_limits()
 
 /// Prints an answer, by the infos of the book. The reply to a change is printed into `room`, without taking
 /// memory where this has 32,768 bytes; so printing it never fails then. All else takes memory of its own,
-/// and fails for want of it. No route leads to EARL, to names and to the reports of a site yet: their
-/// replies are printed as want of memory.
-#[tactic(auto, using(crate::proofs::Ids::have_texts), unfolding(crate::specs::Answers::answer_bytes))]
+/// and fails for want of it.
+#[tactic(auto, unfolding(crate::specs::Answers::answer_bytes))]
 pub fn print(
     alloc: Global,
     room: Vec<u8>,
@@ -58,7 +58,7 @@ fn body(
     answer: &Answer,
 ) -> Result<Vec<u8>, OutOfMemory>
     requires empty { room.items ≡ [] }
-    requires texts { HaveTexts infos.now }
+    requires orderly { IsTrue (is_orderly infos.now) }
     ensures body { IfOk result (λ bytes. bytes.items ≡ body infos.now answer.now) }
     ensures room { IfOk result (λ bytes. is_made_answer answer.now ≡ true → HasRoom (vec_capacity room) bytes.items (vec_capacity bytes)) }
     ensures full { OnErr result (is_made_answer answer.now ≡ true → vec_capacity room < MOST_BODY) }
@@ -77,7 +77,7 @@ fn reply_body(
     reply: &Reply,
 ) -> Result<Vec<u8>, OutOfMemory>
     requires empty { room.items ≡ [] }
-    requires texts { HaveTexts infos.now }
+    requires orderly { IsTrue (is_orderly infos.now) }
     ensures body { IfOk result (λ bytes. bytes.items ≡ reply_body infos.now reply.now) }
     ensures room { IfOk result (λ bytes. is_made reply.now ≡ true → HasRoom (vec_capacity room) bytes.items (vec_capacity bytes)) }
     ensures full { OnErr result (is_made reply.now ≡ true → vec_capacity room < MOST_BODY) }
@@ -103,20 +103,21 @@ fn made_body(mut room: Vec<u8>, infos: &[RuleInfo], reply: &Reply) -> Result<Vec
 }
 
 // The body of another reply. One to a change that is too long is none.
+#[tactic(auto, using(reports::proofs::Ids::have_texts))]
 fn other_body(alloc: Global, infos: &[RuleInfo], reply: &Reply) -> Result<Vec<u8>, OutOfMemory>
-    requires { HaveTexts infos.now }
+    requires { IsTrue (is_orderly infos.now) }
     ensures { IfOk result (λ bytes. bytes.items ≡ reply_body infos.now reply.now) }
 {
     match reply {
         Reply::Page(page) => page_body(alloc, page),
         Reply::Outcomes(page) => outcomes_body(alloc, infos, page),
         Reply::Report(page) => text_report(alloc, &page.address, infos, &page.outcomes),
+        Reply::Earl(page) => earl(alloc, infos, from_ref(page)),
+        Reply::Names(tree) => names_body(alloc, tree),
+        Reply::SiteReport(sheet) => site_report(alloc, &sheet.site, infos, sheet.pages.as_slice()),
+        Reply::SiteEarl(sheet) => earl(alloc, infos, sheet.pages.as_slice()),
+        Reply::SiteCsv(sheet) => csv_rows(alloc, &sheet.site, infos, sheet.pages.as_slice()),
         Reply::Refused(refusal) => refusal_body(alloc, refusal),
-        Reply::Earl(_)
-        | Reply::Names(_)
-        | Reply::SiteReport(_)
-        | Reply::SiteEarl(_)
-        | Reply::SiteCsv(_) => refusal_body(alloc, &Refusal::OutOfMemory),
         Reply::Site { .. }
         | Reply::Member { .. }
         | Reply::Stored(_)

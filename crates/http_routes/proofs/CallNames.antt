@@ -8,7 +8,7 @@ use Rattle.http_messages.specs.declared.head.Field.{Field}
 use Rattle.http_messages.specs.declared.head.Head.{Head}
 use Rattle.http_messages.specs.Framing.{only_named}
 use Rattle.http_routes.specs.declared.place.Place.{Place}
-use Rattle.http_routes.specs.declared.place.Place.TheVariants.{Site, Import, Member, Page, Edits, Judgements, Outcomes}
+use Rattle.http_routes.specs.declared.place.Place.TheVariants.{Site, SiteReport, SiteEarl, SiteCsv, Import, Member, Page, PageReport, PageEarl, PageNames, Edits, Judgements, Outcomes}
 use Rattle.http_routes.specs.declared.names.Names.{Names}
 use Rattle.http_routes.specs.declared.names.Names.TheVariants.{One, Two}
 use Rattle.http_routes.specs.declared.call.Method.{Method}
@@ -57,6 +57,12 @@ names_of_route Page (Two site page) Delete are = are
 names_of_route Edits (Two site page) Post are = are
 names_of_route Judgements (Two site page) Post are = are
 names_of_route Outcomes (Two site page) Get are = are
+names_of_route PageReport (Two site page) Get are = are
+names_of_route PageEarl (Two site page) Get are = are
+names_of_route PageNames (Two site page) Get are = are
+names_of_route SiteReport (One site) Get are = are
+names_of_route SiteEarl (One site) Get are = are
+names_of_route SiteCsv (One site) Get are = are
 names_of_route _ _ _ are = tt
 
 name_of_field : (f : Option Field) → IfSome (named f) (λ caller. IsTrue (is_name caller))

@@ -5,7 +5,7 @@ use Rattle.matchit.specs.Router.{RouteOf}
 use Rattle.segment_routes.specs.Pieces.{Piece, Word, Name, Pieces}
 use Rattle.segment_routes.specs.Spelling.{rows_of}
 use Rattle.http_routes.specs.declared.place.Place.{Place}
-use Rattle.http_routes.specs.declared.place.Place.TheVariants.{Site, Import, Member, Page, Edits, Judgements, Outcomes}
+use Rattle.http_routes.specs.declared.place.Place.TheVariants.{Site, SiteReport, SiteEarl, SiteCsv, Import, Member, Page, PageReport, PageEarl, PageNames, Edits, Judgements, Outcomes}
 
 abbrev pub site : Piece
 site = Name (codes "site")
@@ -28,12 +28,18 @@ in_page pieces = in_site (Word (codes "pages") ∷ page ∷ pieces)
 -- a name, and a longer path before the one that it begins with.
 abbrev pub table : List (Pieces × Place)
 table =
-    (in_site (Word (codes "import") ∷ []), Import)
+    (in_site (Word (codes "csv") ∷ []), SiteCsv)
+    ∷ (in_site (Word (codes "earl") ∷ []), SiteEarl)
+    ∷ (in_site (Word (codes "import") ∷ []), Import)
     ∷ (in_site (Word (codes "members") ∷ user ∷ []), Member)
+    ∷ (in_page (Word (codes "earl") ∷ []), PageEarl)
     ∷ (in_page (Word (codes "edits") ∷ []), Edits)
     ∷ (in_page (Word (codes "judgements") ∷ []), Judgements)
+    ∷ (in_page (Word (codes "names") ∷ []), PageNames)
     ∷ (in_page (Word (codes "outcomes") ∷ []), Outcomes)
+    ∷ (in_page (Word (codes "report") ∷ []), PageReport)
     ∷ (in_page [], Page)
+    ∷ (in_site (Word (codes "report") ∷ []), SiteReport)
     ∷ (in_site [], Site)
     ∷ []
 

@@ -40,6 +40,18 @@ pub enum Route {
     Judge { site: Text, page: Text },
     /// `GET /sites/{site}/pages/{page}/outcomes`
     GetOutcomes { site: Text, page: Text },
+    /// `GET /sites/{site}/pages/{page}/report`
+    GetReport { site: Text, page: Text },
+    /// `GET /sites/{site}/pages/{page}/earl`
+    GetEarl { site: Text, page: Text },
+    /// `GET /sites/{site}/pages/{page}/names`
+    GetNames { site: Text, page: Text },
+    /// `GET /sites/{site}/report`
+    SiteReport { site: Text },
+    /// `GET /sites/{site}/earl`
+    SiteEarl { site: Text },
+    /// `GET /sites/{site}/csv`
+    SiteCsv { site: Text },
 }
 
 /// A request by its head: what is asked, and who asks.
@@ -121,6 +133,9 @@ fn of_site(place: Place, site: Text, method: Method) -> Option<Route>
     match (place, method) {
         (Place::Site, Method::Put) => Some(Route::PutSite { site }),
         (Place::Import, Method::Post) => Some(Route::Import { site }),
+        (Place::SiteReport, Method::Get) => Some(Route::SiteReport { site }),
+        (Place::SiteEarl, Method::Get) => Some(Route::SiteEarl { site }),
+        (Place::SiteCsv, Method::Get) => Some(Route::SiteCsv { site }),
         _ => None,
     }
 }
@@ -137,6 +152,9 @@ fn below_site(place: Place, site: Text, other: Text, method: Method) -> Option<R
         (Place::Edits, Method::Post) => Some(Route::EditPage { site, page: other }),
         (Place::Judgements, Method::Post) => Some(Route::Judge { site, page: other }),
         (Place::Outcomes, Method::Get) => Some(Route::GetOutcomes { site, page: other }),
+        (Place::PageReport, Method::Get) => Some(Route::GetReport { site, page: other }),
+        (Place::PageEarl, Method::Get) => Some(Route::GetEarl { site, page: other }),
+        (Place::PageNames, Method::Get) => Some(Route::GetNames { site, page: other }),
         _ => None,
     }
 }

@@ -15,9 +15,15 @@ use texts::OutOfMemory;
 #[derive(Clone, Copy, Debug, PartialEq, Eq)]
 pub(crate) enum Place {
     Site,
+    SiteReport,
+    SiteEarl,
+    SiteCsv,
     Import,
     Member,
     Page,
+    PageReport,
+    PageEarl,
+    PageNames,
     Edits,
     Judgements,
     Outcomes,
@@ -78,9 +84,15 @@ fn router(alloc: Global) -> Result<Router<Place>, InsertError>
 {
     let mut router = Router::new(alloc);
     router.insert("/sites/{site}", Place::Site)?;
+    router.insert("/sites/{site}/report", Place::SiteReport)?;
+    router.insert("/sites/{site}/earl", Place::SiteEarl)?;
+    router.insert("/sites/{site}/csv", Place::SiteCsv)?;
     router.insert("/sites/{site}/import", Place::Import)?;
     router.insert("/sites/{site}/members/{user}", Place::Member)?;
     router.insert("/sites/{site}/pages/{page}", Place::Page)?;
+    router.insert("/sites/{site}/pages/{page}/report", Place::PageReport)?;
+    router.insert("/sites/{site}/pages/{page}/earl", Place::PageEarl)?;
+    router.insert("/sites/{site}/pages/{page}/names", Place::PageNames)?;
     router.insert("/sites/{site}/pages/{page}/edits", Place::Edits)?;
     router.insert("/sites/{site}/pages/{page}/judgements", Place::Judgements)?;
     router.insert("/sites/{site}/pages/{page}/outcomes", Place::Outcomes)?;

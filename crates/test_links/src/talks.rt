@@ -10,7 +10,7 @@ use std::thread::Threads;
 use texts::OutOfMemory;
 
 // What is asked in turn, and what is answered.
-static STORY: [(&str, &str, &str); 10] = [
+static STORY: [(&str, &str, &str); 13] = [
     (
         "a site is made",
         "PUT /sites/acme HTTP/1.1\r\nx-caller: ann\r\ncontent-length: 0\r\n\r\n",
@@ -35,6 +35,21 @@ static STORY: [(&str, &str, &str); 10] = [
         "it is as it was edited",
         "GET /sites/acme/pages/home HTTP/1.1\r\nx-caller: ann\r\n\r\n",
         "HTTP/1.1 200 OK\r\ncontent-type: application/json\r\ncontent-length: 358\r\n\r\n{\"rev\":2,\"snapshot\":{\"nodes\":[{\"attrs\":[[\"lang\",\"en\"]],\"f\":\"rv\",\"n\":1,\"ns\":\"html\",\"p\":null,\"tag\":\"html\"},{\"attrs\":[[\"class\",\"x\"]],\"f\":\"\",\"n\":2,\"ns\":\"html\",\"p\":1,\"tag\":\"head\"},{\"attrs\":[],\"f\":\"\",\"n\":3,\"ns\":\"html\",\"p\":2,\"tag\":\"title\"},{\"f\":\"\",\"n\":4,\"p\":3,\"text\":\"Home\"},{\"attrs\":[],\"f\":\"rv\",\"n\":5,\"ns\":\"html\",\"p\":1,\"tag\":\"body\"}],\"url\":\"https://example.org/\"}}",
+    ),
+    (
+        "its names are listed",
+        "GET /sites/acme/pages/home/names HTTP/1.1\r\nx-caller: ann\r\n\r\n",
+        "HTTP/1.1 200 OK\r\ncontent-type: application/json\r\ncontent-length: 69\r\n\r\n{\"names\":[{\"name\":\"\",\"node\":1,\"role\":\"document\",\"source\":\"Nothing\"}]}",
+    ),
+    (
+        "its site is reported",
+        "GET /sites/acme/report HTTP/1.1\r\nx-caller: ann\r\n\r\n",
+        "HTTP/1.1 200 OK\r\ncontent-type: text/plain; charset=utf-8\r\ncontent-length: 504\r\n\r\nsite acme\npage home rev 2 passed 3 failed 0 cantTell 1 inapplicable 26\ncriterion 1.1.1 A inapplicable\ncriterion 1.3.1 A inapplicable\ncriterion 1.3.5 AA inapplicable\ncriterion 1.4.4 AA inapplicable\ncriterion 2.2.1 A inapplicable\ncriterion 2.4.1 A inapplicable\ncriterion 2.4.2 A cantTell\ncriterion 2.4.4 A inapplicable\ncriterion 2.4.6 AA inapplicable\ncriterion 3.1.1 A noFailureFound\ncriterion 3.1.2 AA inapplicable\ncriterion 4.1.2 A inapplicable\ntotal pages 1 passed 3 failed 0 cantTell 1 inapplicable 26\n",
+    ),
+    (
+        "and is told as CSV",
+        "GET /sites/acme/csv HTTP/1.1\r\nx-caller: ann\r\n\r\n",
+        "HTTP/1.1 200 OK\r\ncontent-type: text/csv\r\ncontent-length: 224\r\n\r\nsite,page,rev,node,rule,outcome,automatic,reason,judge\nacme,home,2,1,2779a5,passed,passed,ok,\nacme,home,2,1,c4a8a4,cantTell,cantTell,judge-title,\nacme,home,2,1,b5c3f8,passed,passed,ok,\nacme,home,2,1,bf051a,passed,passed,ok,\n",
     ),
     (
         "the site is made again",
@@ -218,7 +233,7 @@ fn both(alloc: Global, a: &str, b: &str) -> Result<Vec<u8>, OutOfMemory> {
 
 #[test]
 fn a_link_fails_at_each_call(rt: HostRuntime) -> Result<(), Fail> {
-    let (alloc, made, again) = (rt.alloc(), STORY[0], STORY[5]);
+    let (alloc, made, again) = (rt.alloc(), STORY[0], STORY[8]);
     let asked = both(alloc, made.1, again.1)?;
     let told = both(alloc, made.2, again.2)?;
     for (call, bytes, due) in FAILING.as_slice() {

@@ -4,7 +4,7 @@ use std::alloc::Global;
 use std::test::Fail;
 
 // Requests by their first line, fields and body, and what they ask; or the refusal, with the field and the place.
-static CASES: [Case; 49] = [
+static CASES: [Case; 55] = [
     ("PUT /sites/a", "", r#"no JSON"#, "ann: put site a"),
     ("GET /sites/a/pages/b", "", r#""#, "ann: get page a b"),
     (
@@ -13,6 +13,27 @@ static CASES: [Case; 49] = [
         r#""#,
         "ann: get outcomes a b",
     ),
+    (
+        "GET /sites/a/pages/b/report",
+        "",
+        r#"no JSON"#,
+        "ann: get report a b",
+    ),
+    (
+        "GET /sites/a/pages/b/earl",
+        "x-rev: none\r\n",
+        r#""#,
+        "ann: get earl a b",
+    ),
+    (
+        "GET /sites/a/pages/b/names",
+        "",
+        r#""#,
+        "ann: get names a b",
+    ),
+    ("GET /sites/a/report", "", r#""#, "ann: site report a"),
+    ("GET /sites/a/earl", "", r#"no JSON"#, "ann: site earl a"),
+    ("GET /sites/a/csv", "", r#""#, "ann: site csv a"),
     ("GET /sites/a", "", r#""#, "WrongMethod"),
     (
         "PUT /sites/a/members/b",

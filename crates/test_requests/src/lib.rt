@@ -17,4 +17,6 @@ mod replies;
 #[cfg(test)]
 mod routes;
 #[cfg(test)]
+mod shown;
+#[cfg(test)]
 mod told;

@@ -5,7 +5,7 @@ use std::alloc::Global;
 use std::test::Fail;
 
 // Heads up to their fields, and the route with the names in its path; or the refusal.
-static CASES: [(&str, &str); 48] = [
+static CASES: [(&str, &str); 65] = [
     ("PUT /sites/a", "put site a"),
     ("PUT /sites/a?b/c", "put site a"),
     ("PUT /sites/a/members/b", "put member a b"),
@@ -19,6 +19,18 @@ static CASES: [(&str, &str); 48] = [
         "GET /sites/a.b_c-9/pages/pages/outcomes",
         "get outcomes a.b_c-9 pages",
     ),
+    ("GET /sites/a/pages/b/report", "get report a b"),
+    ("GET /sites/a/pages/b/earl", "get earl a b"),
+    ("GET /sites/a/pages/b/names", "get names a b"),
+    ("GET /sites/a/report", "site report a"),
+    ("GET /sites/a/earl", "site earl a"),
+    ("GET /sites/a/csv", "site csv a"),
+    (
+        "GET /sites/report/pages/names/earl?",
+        "get earl report names",
+    ),
+    ("GET /sites/csv/csv?/csv", "site csv csv"),
+    ("PUT /sites/earl", "put site earl"),
     (
         "PUT /sites/aaaaaaaaaaaaaaaaaaaaaaaaaaaaaaaaaaaaaaaaaaaaaaaaaaaaaaaaaaaa0._-",
         "put site aaaaaaaaaaaaaaaaaaaaaaaaaaaaaaaaaaaaaaaaaaaaaaaaaaaaaaaaaaaa0._-",
@@ -55,17 +67,25 @@ static CASES: [(&str, &str); 48] = [
     ("POST /sites/a/pages//edits", "NoRoute"),
     ("PUT /sites/a/page/b", "NoRoute"),
     ("GET /sites/a/pages/b!", "NoRoute"),
-    ("GET /sites/a/pages/b/names", "NoRoute"),
+    ("GET /sites/a/pages/b/csv", "NoRoute"),
+    ("GET /sites/a/pages/b/earls", "NoRoute"),
+    ("GET /sites/a/pages/report/", "NoRoute"),
     ("GET /sites/a/pages/b/outcomes/", "NoRoute"),
     ("POST /sites/a/import/", "NoRoute"),
     ("POST /sites/a/import/b", "NoRoute"),
-    ("GET /sites/a/report", "NoRoute"),
+    ("GET /sites/a/names", "NoRoute"),
+    ("GET /sites/a/report/", "NoRoute"),
+    ("GET /sites/a/ear", "NoRoute"),
+    ("GET /sites/A/csv", "NoRoute"),
     ("GET /sites/a", "WrongMethod"),
     ("HEAD /sites/a/pages/b", "WrongMethod"),
     ("get /sites/a/pages/b", "WrongMethod"),
     ("POST /sites/a/pages/b", "WrongMethod"),
     ("PUT /sites/a/import", "WrongMethod"),
     ("DELETE /sites/a/pages/b/outcomes", "WrongMethod"),
+    ("HEAD /sites/a/pages/b/report", "WrongMethod"),
+    ("POST /sites/a/pages/b/names", "WrongMethod"),
+    ("PUT /sites/a/csv", "WrongMethod"),
 ];
 
 // The fields of a head, and whether they name a caller.
@@ -114,6 +134,12 @@ fn write_route(out: &mut Vec<u8>, route: &Route) -> Result<(), OutOfMemory> {
         Route::EditPage { site, page } => write_names(out, "edit page ", site, Some(page)),
         Route::Judge { site, page } => write_names(out, "judge ", site, Some(page)),
         Route::GetOutcomes { site, page } => write_names(out, "get outcomes ", site, Some(page)),
+        Route::GetReport { site, page } => write_names(out, "get report ", site, Some(page)),
+        Route::GetEarl { site, page } => write_names(out, "get earl ", site, Some(page)),
+        Route::GetNames { site, page } => write_names(out, "get names ", site, Some(page)),
+        Route::SiteReport { site } => write_names(out, "site report ", site, None),
+        Route::SiteEarl { site } => write_names(out, "site earl ", site, None),
+        Route::SiteCsv { site } => write_names(out, "site csv ", site, None),
     }
 }
 

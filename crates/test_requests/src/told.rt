@@ -149,6 +149,12 @@ fn add_command(out: &mut String, command: &Command) -> Result<(), Fail> {
         }
         Command::GetPage { site, page } => Ok(add_names(out, "get page ", site, page)?),
         Command::GetOutcomes { site, page } => Ok(add_names(out, "get outcomes ", site, page)?),
+        Command::GetReport { site, page } => Ok(add_names(out, "get report ", site, page)?),
+        Command::GetEarl { site, page } => Ok(add_names(out, "get earl ", site, page)?),
+        Command::GetNames { site, page } => Ok(add_names(out, "get names ", site, page)?),
+        Command::SiteReport { site } => Ok(add(out, "site report ", site.as_str())?),
+        Command::SiteEarl { site } => Ok(add(out, "site earl ", site.as_str())?),
+        Command::SiteCsv { site } => Ok(add(out, "site csv ", site.as_str())?),
         Command::Import { site, entries } => {
             add(out, "import ", site.as_str())?;
             add_entries(out, entries.as_slice())

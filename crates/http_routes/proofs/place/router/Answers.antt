@@ -11,4 +11,10 @@ returns c =
     let r5 = rw r4.1 at c.in_ok-insert-5.ensures in
     let r6 = rw r5.1 at c.in_ok-insert-6.ensures in
     let r7 = rw r6.1 at c.in_ok-insert-7.ensures in
-    r7.1
+    let r8 = rw r7.1 at c.in_ok-insert-8.ensures in
+    let r9 = rw r8.1 at c.in_ok-insert-9.ensures in
+    let r10 = rw r9.1 at c.in_ok-insert-10.ensures in
+    let r11 = rw r10.1 at c.in_ok-insert-11.ensures in
+    let r12 = rw r11.1 at c.in_ok-insert-12.ensures in
+    let r13 = rw r12.1 at c.in_ok-insert-13.ensures in
+    r13.1
