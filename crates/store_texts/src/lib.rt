@@ -10,6 +10,7 @@ mod judgements;
 mod making;
 mod members;
 mod opening;
+mod ours;
 mod outcomes;
 mod pages;
 mod sites;
@@ -21,6 +22,7 @@ pub use making::{
 };
 pub use members::{add_member, drop_members, site_members};
 pub use opening::reopen;
+pub use ours::is_ours;
 pub use outcomes::{OutcomeRow, add_outcome, drop_outcomes, page_outcomes};
 pub use pages::{drop_page, heads, page_row, put_page};
 pub use sites::{put_site, site_row};
