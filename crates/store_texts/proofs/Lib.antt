@@ -5,3 +5,4 @@ pub mod PageTexts
 pub mod JudgementTexts
 pub mod OutcomeTexts
 pub mod EditionTexts
+pub mod MakeTexts

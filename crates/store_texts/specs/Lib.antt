@@ -1,3 +1,4 @@
 pub mod Schema
 pub mod Stored
 pub mod Changes
+pub mod Making

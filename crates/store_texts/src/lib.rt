@@ -7,14 +7,22 @@
 
 mod editions;
 mod judgements;
+mod making;
 mod members;
+mod opening;
+mod ours;
 mod outcomes;
 mod pages;
 mod sites;
 
 pub use editions::{add_edition, edition_rows};
 pub use judgements::{JudgementRow, add_judgement, drop_judgements, page_judgements};
+pub use making::{
+    make_edition, make_judgements, make_members, make_outcomes, make_pages, make_sites, make_tables,
+};
 pub use members::{add_member, drop_members, site_members};
+pub use opening::reopen;
+pub use ours::is_ours;
 pub use outcomes::{OutcomeRow, add_outcome, drop_outcomes, page_outcomes};
 pub use pages::{drop_page, heads, page_row, put_page};
 pub use sites::{put_site, site_row};

@@ -1,0 +1,5 @@
+//! Tests of the store's texts, each once over files in memory. There is no call of its own.
+#![tactic(auto)]
+
+#[cfg(test)]
+mod tables;
