@@ -65,12 +65,15 @@ def reply_in(connection):
     head, _, body = got.partition(b"\r\n\r\n")
     length = re.search(rb"\r\ncontent-length: (\d+)", head)
     wanted = int(length.group(1)) if length else 0
-    while len(body) < wanted:
-        more = connection.recv(65_536)
+    reply = bytearray(head + b"\r\n\r\n" + body)
+    left = wanted - len(body)
+    while left > 0:
+        more = connection.recv(1 << 20)
         if not more:
             break
-        body += more
-    return head + b"\r\n\r\n" + body
+        reply += more
+        left -= len(more)
+    return bytes(reply)
 
 
 def request(line, caller="ann", body=b"", rev=None, fields=()):

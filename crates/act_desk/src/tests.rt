@@ -491,9 +491,9 @@ static SHOWN: Case = Case {
 
 #[test]
 fn a_site_that_is_kept_is_written(rt: HostRuntime) -> Result<(), Fail> {
-    let mut books = made_books(rt.alloc())?;
     let mut keeper = empty_keeper(rt.alloc(), &[])?;
     for case in [&SERVED, &SHOWN] {
+        let mut books = made_books(rt.alloc())?;
         let end = run_on(&rt, rt.alloc(), &[], case, &mut keeper, &mut books)?;
         if wants_memory(&end) {
             return Err(Fail::from(OutOfMemory));
