@@ -8,21 +8,51 @@ use std::test::Fail;
 // A page, and pages that one edit makes of it.
 type Edited = (&'static str, &'static [&'static str]);
 
-static EDITED: [Edited; 3] = [
+// The pages of the edits' tests that one edit was accepted on, with each of those edits, and two more.
+static EDITED: [Edited; 5] = [
+    (
+        "1 0 html;2 1 body",
+        &["1 0 html;2 1 body;60 2 #x", "1 0 html;2 1 body;60 2 #"],
+    ),
     (
         "1 0 html;2 1 body;5 2 h2;6 5 #A;7 2 div;8 7 h2;9 8 #B",
         &[
+            "1 0 html;2 1 body;5 2 h2;6 5 #A;7 2 div;8 7 h2;9 8 #B",
             "1 0 html;2 1 body;60 2 p;61 60 #x;5 2 h2;6 5 #A;7 2 div;8 7 h2;9 8 #B",
+            "1 0 html;2 1 body;5 2 h2;6 5 #A;60 2 p;61 60 #x;7 2 div;8 7 h2;9 8 #B",
+            "1 0 html;2 1 body;5 2 h2;6 5 #A;7 2 div;8 7 h2;9 8 #B;60 2 p;61 60 #x",
             "1 0 html;2 1 body;5 2 h2;6 5 #A;3 5 b id=q;7 2 div;8 7 h2;9 8 #B",
             "1 0 html;60 1 p;2 1 body;5 2 h2;6 5 #A;7 2 div;8 7 h2;9 8 #B",
             "1 0 html;2 1 body;5 2 h2;6 5 #A;7 2 div;60 7 p;61 60 p;62 60 p;8 7 h2;9 8 #B",
             "1 0 html;2 1 body;5 2 h2;6 5 #A",
+            "1 0 html;2 1 body;7 2 div;8 7 h2;9 8 #B",
             "1 0 html;2 1 body;5 2 h2;7 2 div;8 7 h2;9 8 #B",
             "1 0 html",
             "1 0 html;2 1 body;7 2 div;8 7 h2;9 8 #B;5 7 h2;6 5 #A",
+            "1 0 html;2 1 body;7 2 div;5 7 h2;6 5 #A;8 7 h2;9 8 #B",
             "1 0 html;2 1 body;8 2 h2;9 8 #B;5 2 h2;6 5 #A;7 2 div",
+            "1 0 html;2 1 body;5 2 h2;6 5 #A;8 2 h2;9 8 #B;7 2 div",
+            "1 0 html;2 1 body;7 2 div;8 7 h2;9 8 #B;5 2 h2;6 5 #A",
             "1 0 html;2 1 body;5 2 h2;7 2 div;8 7 h2;9 8 #B;6 8 #A",
             "1 0 html;2 1 body;5 2 h2;6 5 #A;7 1 div;8 7 h2;9 8 #B",
+        ],
+    ),
+    (
+        "1 0 form;2 1 input CLASS=a id=b;3 1 #Go~on",
+        &[
+            "1 0 form;2 1 input CLASS=a id=b;3 1 #Go~on",
+            "1 0 form;2 1 input CLASS=x id=b;3 1 #Go~on",
+            "1 0 form;2 1 input CLASS=a id=x~y;3 1 #Go~on",
+            "1 0 form;2 1 input CLASS=a id=b Name=x;3 1 #Go~on",
+            "1 0 form;2 1 input CLASS=a id=b \u{131}d=x;3 1 #Go~on",
+            "1 0 form;2 1 input CLASS=a id=;3 1 #Go~on",
+            "1 0 form id=b;2 1 input CLASS=a id=b;3 1 #Go~on",
+            "1 0 form;2 1 input id=b;3 1 #Go~on",
+            "1 0 form;2 1 input CLASS=a;3 1 #Go~on",
+            "1 0 form;2 1 input CLASS=a id=b;3 1 #Stop",
+            "1 0 form;2 1 input CLASS=a id=b;3 1 #",
+            "1 0 form;2 1 input CLASS=a id=b !ft;3 1 #Go~on",
+            "1 0 form;2 1 input CLASS=a id=b;3 1 #Go~on !",
         ],
     ),
     (
