@@ -1,5 +1,5 @@
 use crate::reach::{Part, Place, add_class};
-use crate::values::{Key, value};
+use crate::values::{Key, add_part, value};
 use rule_core::{Auto, Rule, Verdict};
 use rules_names::{
     ButtonHasName, FormFieldHasName, HeadingHasName, HeadingIsDescriptive, IframeHasName,
@@ -20,14 +20,9 @@ fn auto_word(auto: Auto) -> &'static str {
 fn shown(alloc: Global, verdict: &Option<Verdict>) -> Result<String, Fail> {
     let mut text = String::new(alloc);
     if let Some(verdict) = verdict {
-        for word in [
-            auto_word(verdict.auto),
-            verdict.reason.word(),
-            verdict.evidence.as_str(),
-        ] {
-            text.push('|')?;
-            text.push_str(word)?;
-        }
+        add_part(&mut text, auto_word(verdict.auto))?;
+        add_part(&mut text, verdict.reason.word())?;
+        add_part(&mut text, verdict.evidence.as_str())?;
     }
     Ok(text)
 }

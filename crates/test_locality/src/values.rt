@@ -85,6 +85,12 @@ fn space_of(body: &Body) -> &'static str {
     }
 }
 
+/// Adds a part of a text, behind the mark between parts.
+pub(crate) fn add_part(text: &mut String, part: &str) -> Result<(), AllocError> {
+    text.push('|')?;
+    text.push_str(part)
+}
+
 fn add_frame(alloc: Global, text: &mut String, tree: &Tree, row: &Row) -> Result<(), AllocError> {
     if let Some(parent) = row.parent {
         add_number(alloc, text, parent)?;
@@ -93,18 +99,12 @@ fn add_frame(alloc: Global, text: &mut String, tree: &Tree, row: &Row) -> Result
         Some(role) => role.word(),
         None => "-",
     };
-    for word in [
-        space_of(&row.body),
-        tag_of(&row.body),
-        role,
-        value_of(row, Attribute::Aria(AriaAttr::Hidden)),
-        value_of(row, Attribute::Lang),
-        value_of(row, Attribute::Disabled),
-    ] {
-        text.push('|')?;
-        text.push_str(word)?;
-    }
-    Ok(())
+    add_part(text, space_of(&row.body))?;
+    add_part(text, tag_of(&row.body))?;
+    add_part(text, role)?;
+    add_part(text, value_of(row, Attribute::Aria(AriaAttr::Hidden)))?;
+    add_part(text, value_of(row, Attribute::Lang))?;
+    add_part(text, value_of(row, Attribute::Disabled))
 }
 
 fn add_facts(text: &mut String, facts: Facts) -> Result<(), AllocError> {
@@ -121,8 +121,7 @@ fn add_facts(text: &mut String, facts: Facts) -> Result<(), AllocError> {
 
 fn add_attr(text: &mut String, attr: &Attr) -> Result<(), AllocError> {
     if is_looked_at(attr.name.as_str()) {
-        text.push('|')?;
-        text.push_str(attr.name.as_str())?;
+        add_part(text, attr.name.as_str())?;
         text.push('=')?;
         text.push_str(attr.value.as_str())?;
     }
