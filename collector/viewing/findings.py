@@ -89,7 +89,7 @@ class Findings:
 
 
 def bring_together(report: Report, page: Page, table: RuleTable, picture: Picture | None) -> Findings:
-    """The findings of a report on this page, or a Stop where it is of another page."""
+    """The findings of a report on this page; a Stop with the status INPUT where it is of another page."""
     check_page(report, page)
     makers = TargetMaker(page, picture)
     sections = {outcome: parts_of(report.findings, outcome, table, makers) for outcome in OUTCOMES}
@@ -100,13 +100,14 @@ def bring_together(report: Report, page: Page, table: RuleTable, picture: Pictur
     lines, quiet = criterion_lines(sections, table)
     totals = Counter(finding.outcome for finding in report.findings)
     return Findings(
-        report.address or page.address, report.revision, page.title, page.state, len(page.nodes), {outcome: totals[outcome] for outcome in OUTCOMES}, sections, lines, quiet,
+        report.address or page.address, report.revision, page.title, page.state, len(page.nodes),
+        {outcome: totals[outcome] for outcome in OUTCOMES}, sections, lines, quiet,
         tuple(table.rule(identity) for identity in report.inapplicable),
         tuple((table.rule(identity), counts) for identity, counts in by_rule.items()), picture is not None)
 
 
 def check_page(report: Report, page: Page) -> None:
-    """A Stop where the report is of another page, or of another revision, as far as can be told."""
+    """A Stop with the status INPUT where the report is of another page or another revision, as far as can be told."""
     if report.address is not None and PLAIN.fullmatch(page.address) and page.address != report.address:
         raise Stop(End.INPUT, f"the report is of {report.address}, the snapshot of {page.address}")
     if None not in (report.revision, page.revision) and report.revision != page.revision:
@@ -157,13 +158,17 @@ def parts_of(findings: tuple[Finding, ...], outcome: str, table: RuleTable, make
             reasons = grouped.setdefault(finding.rule, {})
             reasons.setdefault((finding.reason, finding.judge, finding.automatic), []).append(makers.found(finding))
     parts = []
-    # Of what a person judged, the advice is on what the rule alone left open.
     for identity, reasons in grouped.items():
         rule = table.rule(identity)
         parts.append(RulePart(rule, outcome, tuple(
-            ReasonPart(reason, judge, automatic, rule.advice_for(reason, outcome) or rule.advice_for(reason, automatic), tuple(targets))
+            ReasonPart(reason, judge, automatic, advice_on(rule, reason, outcome, automatic), tuple(targets))
             for (reason, judge, automatic), targets in reasons.items())))
     return tuple(parts)
+
+
+def advice_on(rule: Rule, reason: str, outcome: str, automatic: str) -> Advice | None:
+    """What is said of a reason with its final outcome, or else with the rule's own, which a person judged; None where nothing is."""
+    return rule.advice_for(reason, outcome) or rule.advice_for(reason, automatic)
 
 
 def criterion_lines(sections: dict[str, tuple[RulePart, ...]], table: RuleTable) -> tuple[tuple[CriterionLine, ...], tuple[Criterion, ...]]:
