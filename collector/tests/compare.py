@@ -20,6 +20,8 @@ NEW_FAILURE = 1
 # Any rule does: what is compared are outcomes.
 RULE = "c487ae"
 REASONS = {"passed": "ok", "failed": "no-name", "cantTell": "judge-title"}
+# The SHA-256 of the empty text (FIPS 180-4).
+NO_BYTES = "e3b0c44298fc1c149afbf4c8996fb92427ae41e4649b934ca495991b7852b855"
 
 
 class Part(NamedTuple):
@@ -50,9 +52,9 @@ def report_of(parts: tuple[Part, ...]) -> str:
 
 
 def reply_of(parts: tuple[Part, ...]) -> str:
-    """The reply to `outcomes`, with what is read of it."""
-    outcomes = [{"rule": RULE, "node": 2 * place + 3, "outcome": part.outcome, "reason": REASONS[part.outcome], "by": ""}
-                for place, part in enumerate(parts)]
+    """The reply to `outcomes`; no evidence is compared."""
+    outcomes = [{"automatic": part.outcome, "by": "", "digest": NO_BYTES, "evidence": "", "node": 2 * place + 3,
+                 "outcome": part.outcome, "reason": REASONS[part.outcome], "rule": RULE} for place, part in enumerate(parts)]
     return json.dumps({"inapplicable": [], "outcomes": outcomes, "rev": 1})
 
 
@@ -182,7 +184,7 @@ def test_compare_refusals() -> None:
                 ("a folder without a report", End.INPUT, "no report", (folder, f"{folder}/empty")),
                 ("a file that isn't there", End.INPUT, "can't be read", (one, f"{folder}/none")),
                 ("no report", End.INPUT, "no report", (one, COMPARE)),
-                ("no reply", End.INPUT, "neither", (one, f"{folder}/list.json")),
+                ("no reply", End.INPUT, "no reply of the desk to outcomes", (one, f"{folder}/list.json")),
                 ("no snapshot", End.INPUT, "no snapshot", (one, two, "--old-snapshot", one, "--new-snapshot", two)),
                 ("another page's snapshot", End.INPUT, "another page",
                  (one, one, "--old-snapshot", f"{folder}/a.json", "--new-snapshot", f"{folder}/b.json")),

@@ -90,9 +90,15 @@ class opened:
 
 
 def accessible(browser: Any) -> list[tuple[str, str]]:
-    """The roles and names that the browser gives to assistive technology, in order."""
+    """The roles and names that the browser gives to assistive technology, in the order in which it reads them."""
     nodes = browser.execute_cdp_cmd("Accessibility.getFullAXTree", {})["nodes"]
-    return [(node["role"]["value"], node.get("name", {}).get("value", "").strip()) for node in nodes
+    by_id = {node["nodeId"]: node for node in nodes}
+    in_order, waiting = [], [nodes[0]]
+    while waiting:
+        node = waiting.pop()
+        in_order.append(node)
+        waiting.extend(by_id[kid] for kid in reversed(node.get("childIds", [])) if kid in by_id)
+    return [(node["role"]["value"], node.get("name", {}).get("value", "").strip()) for node in in_order
             if not node.get("ignored") and "role" in node]
 
 

@@ -8,9 +8,10 @@ from typing import NoReturn, Sequence
 from collecting.ends import End, Stop, run_command, write_out
 
 from .findings import bring_together
+from .outcomes import is_object, read_outcomes
 from .page import read_page
 from .pictures import read_picture
-from .report import read_report
+from .report import Report, read_report
 from .rules import read_rules
 
 USAGE = "view SNAPSHOT REPORT [--shot PICTURE]"
@@ -30,9 +31,10 @@ class Parser(argparse.ArgumentParser):
 def read_words(words: Sequence[str]) -> argparse.Namespace:
     """The words of the command."""
     made = Parser(prog="view", allow_abbrev=False, usage=USAGE,
-                  description="Writes the findings of a report as one HTML file. docs/collecting.md says more.")
-    made.add_argument("snapshot", metavar="SNAPSHOT", help="the page's snapshot")
-    made.add_argument("report", metavar="REPORT", help="the desk's text report of it; - is standard input")
+                  description="Writes the findings of a report, or of a reply to outcomes, as one HTML file. "
+                              "docs/collecting.md says more.")
+    made.add_argument("snapshot", metavar="SNAPSHOT", help="the page's snapshot, or the desk's reply to the page")
+    made.add_argument("report", metavar="REPORT", help="the desk's text report of it, or its reply to outcomes; - is standard input")
     made.add_argument("--shot", metavar="PICTURE", help="the picture that collect --shot wrote with the snapshot")
     return made.parse_args(words)
 
@@ -50,12 +52,21 @@ def read(path: str) -> bytes:
         raise Stop(End.INPUT, f"{path} can't be read: {error.strerror}") from None
 
 
+def read_findings(path: str) -> Report:
+    """What the desk found, by its text report or its reply to `outcomes`, in a file or standard input.
+
+    Which of the two it is, its content says. Where it is neither, that is a Stop with the status INPUT.
+    """
+    data = read(path)
+    return read_outcomes(data, path) if is_object(data) else read_report(data, path)
+
+
 def write(words: Sequence[str]) -> int:
     """Writes the view that the words ask for."""
     given = read_words(words)
     snapshot = read(given.snapshot)
     page = read_page(snapshot, given.snapshot)
-    report = read_report(read(given.report), given.report)
+    report = read_findings(given.report)
     picture = read_picture(given.shot, snapshot) if given.shot is not None else None
     findings = bring_together(report, page, read_rules(), picture)
     from .writing import write_view  # only here Jinja2 is needed

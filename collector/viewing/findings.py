@@ -3,7 +3,7 @@ from __future__ import annotations
 
 import re
 from collections import Counter
-from dataclasses import dataclass
+from dataclasses import dataclass, replace
 
 from collecting.ends import End, Stop
 
@@ -33,14 +33,17 @@ class Target:
     heading: Quote
     heading_tag: str
     crop: Crop | None
+    # What the rule rests on there; None where the report doesn't say.
+    evidence: Quote | None = None
 
 
 @dataclass(frozen=True)
 class ReasonPart:
-    """The targets of one rule that have one outcome for one reason."""
+    """The targets of one rule that have one outcome for one reason, by one judge, where the rule alone had one outcome."""
 
     reason: str
     judge: str
+    automatic: str
     advice: Advice | None
     targets: tuple[Target, ...]
 
@@ -72,6 +75,7 @@ class Findings:
     """All that the view shows."""
 
     address: str
+    revision: int | None
     title: Quote
     state: str
     nodes: int
@@ -85,12 +89,8 @@ class Findings:
 
 
 def bring_together(report: Report, page: Page, table: RuleTable, picture: Picture | None) -> Findings:
-    """The findings of a report on this page."""
-    if PLAIN.fullmatch(page.address) and page.address != report.address:
-        raise Stop(End.INPUT, f"the report is of {report.address}, the snapshot of {page.address}")
-    strange = next((finding for finding in report.findings if finding.node not in page.nodes), None)
-    if strange is not None:
-        raise Stop(End.INPUT, f"the report speaks of node {strange.node}, which the snapshot doesn't hold: it is of another page")
+    """The findings of a report on this page; a Stop with the status INPUT where it is of another page."""
+    check_page(report, page)
     makers = TargetMaker(page, picture)
     sections = {outcome: parts_of(report.findings, outcome, table, makers) for outcome in OUTCOMES}
     by_rule: dict[str, dict[str, int]] = {}
@@ -100,9 +100,21 @@ def bring_together(report: Report, page: Page, table: RuleTable, picture: Pictur
     lines, quiet = criterion_lines(sections, table)
     totals = Counter(finding.outcome for finding in report.findings)
     return Findings(
-        report.address, page.title, page.state, len(page.nodes), {outcome: totals[outcome] for outcome in OUTCOMES}, sections, lines, quiet,
+        report.address or page.address, report.revision, page.title, page.state, len(page.nodes),
+        {outcome: totals[outcome] for outcome in OUTCOMES}, sections, lines, quiet,
         tuple(table.rule(identity) for identity in report.inapplicable),
         tuple((table.rule(identity), counts) for identity, counts in by_rule.items()), picture is not None)
+
+
+def check_page(report: Report, page: Page) -> None:
+    """A Stop with the status INPUT where the report is of another page or another revision, as far as can be told."""
+    if report.address is not None and PLAIN.fullmatch(page.address) and page.address != report.address:
+        raise Stop(End.INPUT, f"the report is of {report.address}, the snapshot of {page.address}")
+    if None not in (report.revision, page.revision) and report.revision != page.revision:
+        raise Stop(End.INPUT, f"the outcomes are of revision {report.revision}, the page is of revision {page.revision}")
+    strange = next((finding for finding in report.findings if finding.node not in page.nodes), None)
+    if strange is not None:
+        raise Stop(End.INPUT, f"the report speaks of node {strange.node}, which the snapshot doesn't hold: it is of another page")
 
 
 class TargetMaker:
@@ -112,6 +124,13 @@ class TargetMaker:
         self.page = page
         self.picture = picture
         self.made: dict[int, Target] = {}
+
+    def found(self, finding: Finding) -> Target:
+        """What is said of the node of a finding, with the evidence where the finding has it."""
+        target = self.target(finding.node)
+        if finding.evidence is None:
+            return target
+        return replace(target, evidence=Quote(finding.evidence, self.page.languages[finding.node]))
 
     def target(self, number: int) -> Target:
         """What is said of the node with this number."""
@@ -133,18 +152,23 @@ class TargetMaker:
 
 def parts_of(findings: tuple[Finding, ...], outcome: str, table: RuleTable, makers: TargetMaker) -> tuple[RulePart, ...]:
     """The rules with findings of this outcome, in the report's order."""
-    grouped: dict[str, dict[tuple[str, str], list[Target]]] = {}
+    grouped: dict[str, dict[tuple[str, str, str], list[Target]]] = {}
     for finding in findings:
         if finding.outcome == outcome:
             reasons = grouped.setdefault(finding.rule, {})
-            reasons.setdefault((finding.reason, finding.judge), []).append(makers.target(finding.node))
+            reasons.setdefault((finding.reason, finding.judge, finding.automatic), []).append(makers.found(finding))
     parts = []
     for identity, reasons in grouped.items():
         rule = table.rule(identity)
         parts.append(RulePart(rule, outcome, tuple(
-            ReasonPart(reason, judge, rule.advice_for(reason, outcome), tuple(targets))
-            for (reason, judge), targets in reasons.items())))
+            ReasonPart(reason, judge, automatic, advice_on(rule, reason, outcome, automatic), tuple(targets))
+            for (reason, judge, automatic), targets in reasons.items())))
     return tuple(parts)
+
+
+def advice_on(rule: Rule, reason: str, outcome: str, automatic: str) -> Advice | None:
+    """What is said of a reason with its final outcome, or else with the rule's own, which a person judged; None where nothing is."""
+    return rule.advice_for(reason, outcome) or rule.advice_for(reason, automatic)
 
 
 def criterion_lines(sections: dict[str, tuple[RulePart, ...]], table: RuleTable) -> tuple[tuple[CriterionLine, ...], tuple[Criterion, ...]]:

@@ -5,7 +5,7 @@ import re
 from collections import Counter
 from dataclasses import dataclass, field
 from functools import cached_property
-from typing import Iterator, NamedTuple
+from typing import Any, Iterator, NamedTuple
 
 import check_form
 from collecting.ends import End, Stop
@@ -114,11 +114,12 @@ class Quote(NamedTuple):
 
 @dataclass(frozen=True)
 class Page:
-    """An address and nodes by their numbers, in document order."""
+    """An address and nodes by their numbers, in document order; the revision where the desk sent the page."""
 
     address: str
     nodes: dict[int, Node]
     state: str = ""
+    revision: int | None = None
 
     @cached_property
     def root(self) -> Node:
@@ -164,9 +165,9 @@ class Page:
 
 
 def read_page(data: bytes, path: str) -> Page:
-    """The page that the bytes of a snapshot hold, or a Stop."""
+    """The page that the bytes of a snapshot hold, or of the desk's reply to the page, or a Stop."""
     try:
-        top = check_form.read_top(data)
+        top, revision = snapshot_in(check_form.read_top(data))
         address, rows = check_form.read(top)
         check_form.check_tree(rows)
     except check_form.Fault as fault:
@@ -180,7 +181,15 @@ def read_page(data: bytes, path: str) -> Page:
         if parent is not None:
             parent.kids.append(node)
     state = top.get("state")
-    return Page(address, nodes, state if isinstance(state, str) else "")
+    return Page(address, nodes, state if isinstance(state, str) else "", revision)
+
+
+def snapshot_in(top: dict[str, Any]) -> tuple[dict[str, Any], int | None]:
+    """The snapshot that an object is; or that it holds as the desk's reply to a page, and the page's revision."""
+    if not isinstance(top.get("snapshot"), dict):
+        return top, None
+    revision = top.get("rev")
+    return top["snapshot"], revision if type(revision) is int else None
 
 
 def tree_of(given: dict[str, object]) -> int:

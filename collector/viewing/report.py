@@ -15,22 +15,32 @@ LAST = re.compile(r"passed ([0-9]+) failed ([0-9]+) cantTell ([0-9]+) inapplicab
 
 @dataclass(frozen=True)
 class Finding:
-    """The outcome of one rule on one node, with its reason, or the name of who judged it."""
+    """The final outcome of one rule on one node, with its reason, and the name of who judged it.
+
+    A text report has one of the two, and the other is empty. Only the reply to `outcomes` has both, and with them the
+    automatic outcome, which is empty else, and the evidence, which is None else.
+    """
 
     rule: str
     node: int
     outcome: str
     reason: str
     judge: str
+    automatic: str = ""
+    evidence: str | None = None
 
 
 @dataclass(frozen=True)
 class Report:
-    """A page's address, its findings in order, and the rules without a target."""
+    """A page's findings in order and the rules without a target.
 
-    address: str
+    A text report has the page's address, the reply to `outcomes` its revision; each is None in the other.
+    """
+
+    address: str | None
     findings: tuple[Finding, ...]
     inapplicable: tuple[str, ...]
+    revision: int | None = None
 
 
 def read_report(data: bytes, path: str) -> Report:
