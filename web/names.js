@@ -11,7 +11,7 @@ const SOURCES = {
   LabelledBy: 'from what aria-labelledby refers to',
   AriaLabel: 'from aria-label',
   HostLabel: 'from its label',
-  HostText: 'from its own text of HTML or SVG, such as alt, value, legend or caption',
+  HostText: 'from its alt, value, legend, caption or the like',
   Content: 'from its content',
   Title: 'from its title attribute',
   Placeholder: 'from its placeholder',
@@ -32,19 +32,18 @@ async function loadNames(app, site, page, current) {
   throw new desk.Refusal(409, { refused: 'EvidenceMoved' });
 }
 
-/** A link to the findings of a node; null where there are none. */
-function found(app, { site, page }, node, outcomes = []) {
+/** A link to the findings of a node. */
+function found(app, { site, page }, node, outcomes) {
   const failed = outcomes.filter((one) => one.outcome === 'failed').length;
-  return outcomes.length ? app.link({ site, page, node: String(node) },
-    `${counted(outcomes.length, 'finding', 'findings')} on node ${node}${failed ? `, ${failed} failed` : ''}`) : null;
+  return app.link({ site, page, node: String(node) }, `${counted(outcomes.length, 'finding', 'findings')} on node ${node}${failed ? `, ${failed} failed` : ''}`);
 }
 
 /** Role and name of an element, where the name comes from, and its findings. */
 function entry(app, { name, node, role, source, place }, outcomes) {
-  const said = name ? ['“', el('bdi', {}, name), '”'] : [el('strong', {}, 'no name')];
+  const said = name ? ['“', el('bdi', {}, name), '”'] : [el('em', { class: 'quiet' }, 'no name')];
   const facts = [`node ${node}`, name ? SOURCES[source] ?? `from ${source}` : null].filter(Boolean).join(', ');
-  return el('li', { value: String(place) }, el('p', {}, el('span', { class: 'role' }, role), ' ', said),
-    el('p', { class: 'quiet' }, facts), outcomes ? el('p', {}, found(app, app.words, node, outcomes)) : null);
+  return el('li', { value: String(place) }, el('div', {}, el('p', {}, el('span', { class: 'role' }, role), ' ', said),
+    el('p', { class: 'quiet' }, facts), outcomes ? el('p', {}, found(app, app.words, node, outcomes)) : null));
 }
 
 /** The choice of a role among those of the page. */

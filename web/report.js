@@ -28,8 +28,8 @@ export function readReport(text) {
 
 /** The results of a criterion in words, and what each means. No word says that a criterion is met. */
 export const RESULTS = {
-  failed: ['Failed', 'Something on these pages fails a rule under this criterion: by the rule itself, or as a person judged.'],
+  failed: ['Failed', 'Something on the pages fails a rule under this criterion: by the rule itself, or as a person judged.'],
   cantTell: ['For a person to judge', 'Nothing failed, and something waits for a person to say whether it passes.'],
   noFailureFound: ['No failure found', 'All that the rules under this criterion looked at passed. They look at a part of it.'],
-  inapplicable: ['Nothing to look at', 'These pages have nothing that the rules under this criterion look at.'],
+  inapplicable: ['Nothing to look at', 'The pages have nothing that the rules under this criterion look at.'],
 };

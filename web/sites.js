@@ -50,7 +50,7 @@ const criterionRow = (app, { number, level, result }) => [
 /** The criteria with their results, and what the results mean. */
 function criteriaPart(app, criteria) {
   return el('section', { 'aria-labelledby': 'criteria' }, el('h2', { id: 'criteria' }, 'Success criteria'),
-    table('Success criteria with their results', ['WCAG 2.2 criterion', 'Level', 'On these pages'], criteria.map((one) => criterionRow(app, one))),
+    table('Success criteria with their results', ['WCAG 2.2 criterion', 'Level', 'Result'], criteria.map((one) => criterionRow(app, one))),
     el('dl', { class: 'advice results' }, Object.values(RESULTS).map(([word, means]) => el('div', {}, el('dt', {}, word), el('dd', {}, means)))),
     el('p', { class: 'quiet' }, 'No result says that a criterion is met: these rules look at a part of each.'));
 }
@@ -60,6 +60,6 @@ export async function showSite(app, site, current) {
   const { pages, criteria, total } = readReport(await desk.siteReport(site));
   if (!current()) return;
   app.put(`Site ${site}`,
-    el('p', {}, `${counted(pages.length, 'page', 'pages')}: ${total.failed} failed, ${total.cantTell} to judge, ${total.passed} passed.`),
+    el('p', {}, `${counted(pages.length, 'page', 'pages')}. Findings: ${total.failed} failed, ${total.cantTell} to judge, ${total.passed} passed.`),
     pages.length ? criteriaPart(app, criteria) : null, pagesPart(app, site, pages), filesPart(site));
 }

@@ -73,7 +73,7 @@ NAMES = [
     [2, "heading “Ask us”", "node 6, from its content", "2 findings on node 6"],
     [3, "textbox “Question”", "node 10, from its label", "1 finding on node 10"],
     [4, "button no name", "node 11", "1 finding on node 11, 1 failed"],
-    [5, "img “Bird”", "node 12, from its own text of HTML or SVG, such as alt, value, legend or caption", "1 finding on node 12"],
+    [5, "img “Bird”", "node 12, from its alt, value, legend, caption or the like", "1 finding on node 12"],
     [6, "link “Home”", "node 13, from aria-label", "3 findings on node 13"],
     [7, "button “Save file”", "node 15, from what aria-labelledby refers to", "3 findings on node 15"],
     [8, "navigation “Pages”", "node 18, from its title attribute"],
@@ -95,7 +95,7 @@ import('./report.js').then(({ readReport }) => {
 }).catch((error) => done(`${error}`));
 """
 ROWS = "return [...document.querySelectorAll(`section[aria-labelledby=${arguments[0]}] tbody tr`)].map((row) => [...row.cells].map((cell) => cell.innerText))"
-SAID = "return [...document.querySelectorAll('.said > li')].map((one) => [one.value, ...[...one.children].map((part) => part.innerText)])"
+SAID = "return [...document.querySelectorAll('.said > li')].map((one) => [one.value, ...[...one.firstElementChild.children].map((part) => part.innerText)])"
 TARGETS = "return [...document.querySelectorAll('.target h4')].map((one) => one.innerText)"
 
 
@@ -127,7 +127,7 @@ def shows_criteria(reader: Reader) -> None:
     reader.open("?site=town")
     same("the criteria", reader.browser.execute_script(ROWS, "criteria"), CRITERIA)
     same("the pages", reader.browser.execute_script(ROWS, "pages"), PAGES)
-    expect("the sums", "2 pages: 2 failed, 2 to judge, 17 passed." in reader.text("main"), reader.text("main"))
+    expect("the sums", "2 pages. Findings: 2 failed, 2 to judge, 17 passed." in reader.text("main"), reader.text("main"))
     checked(reader, "a site's criteria", "criteria")
     follow(reader, "1 failed on home", "Page home of town")
     same("what failed on home", reader.browser.execute_script(TARGETS), ["The page as a whole, node 1"])
@@ -171,7 +171,7 @@ def saves_files(reader: Reader) -> None:
         same("the focus stays", reader.browser.execute_script("return document.activeElement.innerText"), "Save as CSV")
         checked(reader, "a file that is saved")
         same("the CSV", saved(folder, "town.csv").decode(), CSV)
-        saves(reader, "Save as EARL")
+        is_on_its_way(reader)
         earl = saved(folder, "town.jsonld")
         same("the EARL is the desk's", earl, ask(reader.proxy, "GET /sites/town/earl", None, BOB).body)
         same("its assertions", len(json.loads(earl or b'{"@graph":[]}')["@graph"]), ASSERTIONS)
@@ -185,6 +185,39 @@ def saves_files(reader: Reader) -> None:
         expect("a stranger gets no file", "it takes a reader" in reader.text(".told"), reader.text("main"))
         same("files in all", sorted(path.name for path in pathlib.Path(folder).iterdir()), ["town.csv", "town.jsonld"])
     reader.sign_in("bob")
+
+
+def slow(reader: Reader, latency: int, bytes_a_second: int) -> None:
+    """Makes the network slow: so many milliseconds for each request, and so many bytes a second; 0 and -1 are as fast as it is."""
+    reader.browser.execute_cdp_cmd("Network.emulateNetworkConditions",
+                                   {"offline": False, "latency": latency, "downloadThroughput": bytes_a_second, "uploadThroughput": -1})
+
+
+def is_on_its_way(reader: Reader) -> None:
+    """A long file says how far it has come, and is asked for once however often its button is pressed."""
+    from selenium.webdriver.common.keys import Keys
+    size = len(ask(reader.proxy, "GET /sites/town/earl", None, BOB).body)
+    slow(reader, 0, 1_000)
+    reader.tab_to("the button", "at.innerText === 'Save as EARL'")
+    reader.keys(Keys.ENTER)
+    bar = reader.wait("how far it has come", "const bar = document.querySelector('progress'); return bar && [bar.max, 0 < bar.value && bar.value < bar.max]")
+    same("how far it has come", bar, [size, True])
+    checked(reader, "a file on its way")
+    reader.keys(Keys.ENTER)
+    slow(reader, 0, -1)
+    reader.wait("its end", "return document.querySelector('.fetched').innerText === 'The browser has town.jsonld.'")
+    same("then nothing is on its way", reader.browser.execute_script("return document.querySelector('progress')"), None)
+
+
+def are_asked_for(reader: Reader) -> None:
+    """While the names of a page are asked for, the page says how far that has come."""
+    reader.open("?site=town&page=ask")
+    slow(reader, 5_000, -1)
+    reader.browser.execute_script("[...document.querySelectorAll('a')].find((one) => one.innerText.startsWith('Names')).click()")
+    reader.wait("how far it has come", "return document.querySelector('progress')?.value === 1")
+    checked(reader, "names that are asked for")
+    slow(reader, 0, -1)
+    reader.wait("the names", "return document.querySelector('.said')")
 
 
 def shows_names(reader: Reader) -> None:
@@ -298,7 +331,7 @@ def test_views() -> None:
             fill(proxy)
             reader = Reader(browser, proxy)
             reader.sign_in("bob")
-            for part in (shows_criteria, saves_files, shows_names, keeps_a_note, refuses, moves_on):
+            for part in (shows_criteria, saves_files, shows_names, are_asked_for, keeps_a_note, refuses, moves_on):
                 part(reader)
             desk_is_away(reader, desk)
     finally:
