@@ -6,6 +6,7 @@ import { loadRules } from './rules.js';
 import { showStart, showSite } from './sites.js';
 import { showPage } from './findings.js';
 import { showJudging } from './judging.js';
+import { showNames } from './names.js';
 
 const byId = (id) => document.getElementById(id);
 
@@ -16,7 +17,7 @@ class App {
     this.shown = 0;
   }
 
-  /** The words of the address: site, page, judge, and the filters. */
+  /** The words of the address: site, page, judge, show, and the filters. */
   get words() { return Object.fromEntries(new URLSearchParams(location.search)); }
 
   /** The address of other words. */
@@ -62,7 +63,7 @@ class App {
   async show() {
     this.shown += 1;
     const mine = this.shown;
-    const { site, page, judge } = this.words;
+    const { site, page, judge, show } = this.words;
     this.trail(site, page);
     this.say('Asking the desk…');
     try {
@@ -70,6 +71,7 @@ class App {
       if (!site) showStart(this);
       else if (!page) await showSite(this, site, current);
       else if (judge) await showJudging(this, site, page, judge, current);
+      else if (show === 'names') await showNames(this, site, page, current);
       else await showPage(this, site, page, current);
       if (current()) this.say('');
     } catch (error) {

@@ -17,38 +17,48 @@ const readable = (text) => {
   try { return JSON.parse(text); } catch { return {}; }
 };
 
-/** The text of an accepted reply; a Refusal otherwise. */
-async function ask(method, path, body) {
-  let reply;
-  let text;
-  try {
-    const sent = body === undefined ? {} : { body: JSON.stringify(body) };
-    reply = await fetch(path, { method, ...sent, cache: 'no-store', redirect: 'error', signal: AbortSignal.timeout(PATIENCE) });
-    text = await reply.text();
-  } catch {
-    throw new Refusal(0, { refused: 'DeskAway' });
-  }
-  if (reply.ok) return text;
-  const refused = readable(text);
+/** What a promise gives; where it fails, the refusal that the desk is away. */
+const reached = (promise) => promise.catch(() => { throw new Refusal(0, { refused: 'DeskAway' }); });
+
+/** An accepted reply, whose body is yet to be read; a Refusal otherwise. */
+async function accepted(method, path, body) {
+  const sent = body === undefined ? {} : { body: JSON.stringify(body) };
+  const reply = await reached(fetch(path, { method, ...sent, cache: 'no-store', redirect: 'error', signal: AbortSignal.timeout(PATIENCE) }));
+  if (reply.ok) return reply;
+  const refused = readable(await reached(reply.text()));
   throw new Refusal(reply.status, refused.refused ? refused : { refused: reply.status === 401 ? 'NoCaller' : 'DeskAway' });
 }
 
-const pagePath = (site, page) => `/sites/${encodeURIComponent(site)}/pages/${encodeURIComponent(page)}`;
+/** The text of an accepted reply; a Refusal otherwise. */
+const ask = async (method, path, body) => reached((await accepted(method, path, body)).text());
+
+const sitePath = (site) => `/sites/${encodeURIComponent(site)}`;
+const pagePath = (site, page) => `${sitePath(site)}/pages/${encodeURIComponent(page)}`;
 
 export const outcomes = async (site, page) => JSON.parse(await ask('GET', `${pagePath(site, page)}/outcomes`));
 export const snapshot = async (site, page) => JSON.parse(await ask('GET', pagePath(site, page)));
 export const names = async (site, page) => JSON.parse(await ask('GET', `${pagePath(site, page)}/names`)).names;
-export const siteReport = (site) => ask('GET', `/sites/${encodeURIComponent(site)}/report`);
+export const siteReport = (site) => ask('GET', `${sitePath(site)}/report`);
 export const judge = async (site, page, judgement) => JSON.parse(await ask('POST', `${pagePath(site, page)}/judgements`, judgement));
 
-/** The reply, or null where this desk has no such route yet. */
-export async function whereThere(asked) {
-  try {
-    return await asked;
-  } catch (error) {
-    if (error instanceof Refusal && error.name === 'NoRoute') return null;
-    throw error;
+/**
+ * A site's outcomes as a file: `csv` or `earl`. A Refusal where the desk refuses, or the connection ends before the file.
+ * @param {string} site
+ * @param {string} form
+ * @param {(bytes: number, all: number) => void} came is told how many bytes came, of how many; 0 where that isn't known
+ */
+export async function siteFile(site, form, came) {
+  const reply = await accepted('GET', `${sitePath(site)}/${form}`);
+  const all = Number(reply.headers.get('content-length'));
+  const reader = reply.body.getReader();
+  const parts = [];
+  let bytes = 0;
+  for (let part = await reached(reader.read()); !part.done; part = await reached(reader.read())) {
+    parts.push(part.value);
+    bytes += part.value.length;
+    came(bytes, all);
   }
+  return new Blob(parts, { type: reply.headers.get('content-type') });
 }
 
 const ROLES = { judge: 'a judge', reader: 'a reader', editor: 'an editor', owner: 'an owner' };
@@ -58,6 +68,7 @@ const SENTENCES = {
   SameHand: () => 'You sent this revision of the page yourself, so somebody else has to judge it.',
   NotAllowed: ({ needed }) => `You are not allowed to do this on this site: it takes ${ROLES[needed] ?? needed}.`,
   NoCaller: () => 'You are not signed in, or under a name that the desk does not take. Sign in again, in another tab, and try once more.',
+  NoRoute: () => 'The desk does not know what was asked: a name is not of the form that it takes, or the desk is older than this page.',
   NoSite: () => 'There is no such site.',
   NoPage: () => 'There is no such page.',
   NoTarget: () => 'The page has changed: the rule has nothing to say of this element any more.',

@@ -1,8 +1,8 @@
 /** A page's findings by outcome, criterion and rule. */
 
+import { choices, filter } from './choosing.js';
 import * as desk from './desk.js';
 import { counted, el, grouped } from './dom.js';
-import * as kept from './kept.js';
 import { Nodes } from './nodes.js';
 import { HEADINGS, OUTCOMES } from './rules.js';
 import { adviceOf, facts, isForPeople, isOpen, placeOf, ruleMeta } from './targets.js';
@@ -12,34 +12,24 @@ export async function loadPage(site, page) {
   for (let tries = 0; tries < 3; tries += 1) {
     const [reply, shown] = await Promise.all([desk.outcomes(site, page), desk.snapshot(site, page)]);
     if (reply.rev === shown.rev) {
-      kept.keepPage(site, page);
       return { outcomes: reply.outcomes, inapplicable: reply.inapplicable, rev: reply.rev, nodes: new Nodes(shown.snapshot), address: shown.snapshot.url };
     }
   }
   throw new desk.Refusal(409, { refused: 'EvidenceMoved' });
 }
 
-/** A choice among values, the first of which is all of them. */
-function filter(app, name, label, all, options) {
-  const chosen = app.words[name] ?? '';
-  return el('div', {}, el('label', { for: name }, label), el('select', { id: name, name },
-    el('option', { value: '' }, all), options.map(([value, text]) => el('option', { value, selected: value === chosen }, text))));
-}
-
-/** The choices, which count when they are sent: a list that moved on at each arrow key couldn't be walked by keyboard. */
+/** The choices among the outcomes, criteria and rules of a page. */
 function filters(app, outcomes) {
   const ids = [...new Set(outcomes.map((one) => one.rule))];
   const used = new Set(ids.flatMap((id) => app.rules.rule(id).criteria));
-  const choose = (event) => { event.preventDefault(); app.go({ ...app.words, ...Object.fromEntries(new FormData(event.target)) }); };
-  return el('form', { class: 'choose', 'aria-label': 'What to show', onsubmit: choose },
+  return choices(app,
     filter(app, 'outcome', 'Outcome', 'All outcomes', OUTCOMES.map((one) => [one, HEADINGS[one]])),
     filter(app, 'criterion', 'Criterion', 'All criteria', app.rules.criteria.filter((one) => used.has(one.number)).map((one) => [one.number, `${one.number} ${one.name}`])),
-    filter(app, 'rule', 'Rule', 'All rules', ids.map((id) => [id, app.rules.rule(id).name])),
-    el('div', {}, el('button', { type: 'submit', class: 'second' }, 'Show these')));
+    filter(app, 'rule', 'Rule', 'All rules', ids.map((id) => [id, app.rules.rule(id).name])));
 }
 
 /** Whether the filters let an outcome through. */
-const isShown = (app, { outcome, criterion, rule }) => (one) => (!outcome || one.outcome === outcome)
+const isShown = (app, { outcome, criterion, rule, node }) => (one) => (!outcome || one.outcome === outcome) && (!node || String(one.node) === node)
   && (!criterion || app.rules.rule(one.rule).criteria.includes(criterion)) && (!rule || one.rule === rule);
 
 function target(app, page, outcome) {
@@ -65,26 +55,31 @@ function section(app, page, outcome, outcomes) {
     [...byRule].map(([id, some]) => rulePart(app, page, id, some)));
 }
 
-/** The page as a screen reader would say it, where the desk gives names. */
-function saidPart(said) {
-  const lines = said && said.map(({ name, role }) => el('li', {}, el('bdi', {}, name || 'no name'), `, ${role}`));
-  return el('section', { 'aria-labelledby': 'said' }, el('h2', { id: 'said' }, 'As a screen reader says it'),
-    lines ? el('ol', { class: 'said' }, lines) : el('p', { class: 'quiet' }, 'This desk does not give the names of a page yet.'));
+/** Says that one node's findings alone are shown; null where no node is chosen. */
+function nodePart(app, page) {
+  const { node, ...others } = app.words;
+  if (!node) return null;
+  const about = page.nodes.rows.has(Number(node)) ? `${page.nodes.kind(Number(node))}, node ${node}` : `node ${node}`;
+  return el('p', {}, `Only the findings on ${about}. `, app.link(others, 'Show those on all nodes'));
+}
+
+/** Links to judge what is open, and to the names of the page. */
+function waysOn(app, site, name, outcomes) {
+  const open = outcomes.filter(isOpen);
+  return el('p', { class: 'buttons' },
+    open.length ? app.link({ site, page: name, judge: placeOf(open[0]) }, `Judge ${counted(open.length, 'finding', 'findings')}, one after another`, { class: 'button' }) : null,
+    app.link({ site, page: name, show: 'names' }, 'Names as a screen reader says them', { class: 'button second' }));
 }
 
 /** Shows a page's findings. */
 export async function showPage(app, site, name, current) {
   const page = await loadPage(site, name);
-  const said = await desk.whereThere(desk.names(site, name));
   if (!current()) return;
   const shown = page.outcomes.filter(isShown(app, app.words));
-  const open = page.outcomes.find(isOpen);
   const sections = OUTCOMES.map((outcome) => [outcome, shown.filter((one) => one.outcome === outcome)]).filter(([, some]) => some.length);
   app.put(`Page ${name} of ${site}`,
     el('p', { class: 'address' }, el('a', { href: page.address, rel: 'noreferrer' }, page.address), ` revision ${page.rev}`),
-    open ? el('p', { class: 'buttons' }, app.link({ site, page: name, judge: placeOf(open) }, `Judge ${counted(page.outcomes.filter(isOpen).length, 'finding', 'findings')}, one after another`, { class: 'button' })) : null,
-    filters(app, page.outcomes),
+    waysOn(app, site, name, page.outcomes), filters(app, page.outcomes), nodePart(app, page),
     sections.length ? sections.map(([outcome, some]) => section(app, page, outcome, some)) : el('p', {}, 'Nothing here is as you chose.'),
-    el('p', { class: 'quiet' }, `${counted(page.inapplicable.length, 'rule', 'rules')} found nothing on this page to judge.`),
-    saidPart(said));
+    el('p', { class: 'quiet' }, `${counted(page.inapplicable.length, 'rule', 'rules')} found nothing on this page to judge.`));
 }

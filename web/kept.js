@@ -1,4 +1,4 @@
-/** What this browser keeps: notes that were typed and not yet taken by the desk, and the pages of a site that were opened. */
+/** What this browser keeps: notes that were typed and not yet taken by the desk. */
 
 const memory = new Map();
 
@@ -22,8 +22,3 @@ const draftKey = (place) => `draft:${place.site}/${place.page}/${place.rule}/${p
 export const draft = (place) => JSON.parse(read(draftKey(place)) ?? '{"note":"","verdict":""}');
 export const keepDraft = (place, begun) => write(draftKey(place), JSON.stringify(begun));
 export const dropDraft = (place) => write(draftKey(place), null);
-
-/** The names of a site's pages that were opened here. */
-export const openedPages = (site) => JSON.parse(read(`pages:${site}`) ?? '[]');
-export const keepPage = (site, page) => write(`pages:${site}`, JSON.stringify([...new Set([...openedPages(site), page])].sort()));
-export const forgetPage = (site, page) => write(`pages:${site}`, JSON.stringify(openedPages(site).filter((one) => one !== page)));

@@ -1,49 +1,35 @@
-/** A site's pages and criteria with their counts: from the desk's site report, or from each page's outcomes. */
+/** A site's report: its pages with their counts, and its success criteria with their results. */
 
-import { OUTCOMES } from './rules.js';
-
-const NONE = { passed: 0, failed: 0, cantTell: 0, inapplicable: 0 };
 const COUNTS = 'passed (\\d+) failed (\\d+) cantTell (\\d+) inapplicable (\\d+)';
+const SITE = /^site \S+$/;
 const PAGE = new RegExp(`^page (\\S+) rev (\\d+) ${COUNTS}$`);
-const CRITERION = /^criterion (\S+) A+ (\S+)$/;
+const CRITERION = /^criterion (\S+) (A+) (\S+)$/;
+const TOTAL = new RegExp(`^total pages (\\d+) ${COUNTS}$`);
 
-/** The site report's text as pages and results by criterion. */
+const countsOf = ([passed, failed, cantTell, inapplicable]) => ({ passed: Number(passed), failed: Number(failed), cantTell: Number(cantTell), inapplicable: Number(inapplicable) });
+
+/** The text of a site's report as pages, criteria and the sums over all pages; an Error where it isn't one. */
 export function readReport(text) {
+  const [first, ...lines] = text.split('\n');
+  const end = lines.pop();
+  const total = TOTAL.exec(lines.pop());
+  if (!SITE.test(first) || !total || end !== '') throw new Error('what the desk sent is no report of a site.');
   const pages = [];
-  const results = new Map();
-  for (const line of text.split('\n')) {
-    const page = PAGE.exec(line);
-    const criterion = CRITERION.exec(line);
-    if (page) {
-      const [name, rev, ...counts] = page.slice(1);
-      const [passed, failed, cantTell, inapplicable] = counts.map(Number);
-      pages.push({ name, rev: Number(rev), counts: { passed, failed, cantTell, inapplicable } });
-    } else if (criterion) {
-      results.set(criterion[1], criterion[2]);
-    }
+  const criteria = [];
+  for (const line of lines) {
+    const [, name, rev, ...counts] = PAGE.exec(line) ?? [];
+    const [, number, level, result] = CRITERION.exec(line) ?? [];
+    if (name) pages.push({ name, rev: Number(rev), counts: countsOf(counts) });
+    else if (number) criteria.push({ number, level, result });
+    else throw new Error(`a line of the site's report can't be read: ${line}`);
   }
-  return { pages, results };
+  return { pages, criteria, total: countsOf(total.slice(2)) };
 }
 
-/** How many outcomes of a page are of each kind. */
-export function countsOf(reply) {
-  const counts = { ...NONE, inapplicable: reply.inapplicable.length };
-  for (const one of reply.outcomes) counts[one.outcome] += 1;
-  return counts;
-}
-
-/** The results by criterion of pages' outcomes, as the site report would have them. */
-export function resultsOf(replies, rules) {
-  const results = new Map();
-  for (const { number } of rules.criteria) {
-    const found = new Set(replies.flatMap((reply) => reply.outcomes)
-      .filter((one) => rules.rule(one.rule).criteria.includes(number)).map((one) => one.outcome));
-    results.set(number, OUTCOMES.find((outcome) => found.has(outcome)) ?? 'inapplicable');
-  }
-  return results;
-}
-
-const WORDS = { failed: 'failed', cantTell: 'to judge', passed: 'no failure found', noFailureFound: 'no failure found', inapplicable: 'nothing to judge' };
-
-/** A criterion's result in words. No word says that a criterion is met. */
-export const resultWord = (result) => WORDS[result] ?? result;
+/** The results of a criterion in words, and what each means. No word says that a criterion is met. */
+export const RESULTS = {
+  failed: ['Failed', 'Something on the pages fails a rule under this criterion: by the rule itself, or as a person judged.'],
+  cantTell: ['For a person to judge', 'Nothing failed, and something waits for a person to say whether it passes.'],
+  noFailureFound: ['No failure found', 'All that the rules under this criterion looked at passed. They look at a part of it.'],
+  inapplicable: ['Nothing to look at', 'The pages have nothing that the rules under this criterion look at.'],
+};

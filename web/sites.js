@@ -1,9 +1,9 @@
-/** The start, and a site: its criteria and its pages with their counts. */
+/** The start, and a site: its success criteria, its pages with their counts, and its files. */
 
 import * as desk from './desk.js';
-import { el, table } from './dom.js';
-import * as kept from './kept.js';
-import { countsOf, readReport, resultsOf, resultWord } from './report.js';
+import { counted, el, table } from './dom.js';
+import { filesPart } from './files.js';
+import { readReport, RESULTS } from './report.js';
 
 const NAME = '[a-z0-9._\\-]{1,64}';
 
@@ -21,49 +21,45 @@ export function showStart(app) {
   app.put('Choose a site', nameForm('site', 'Site', 'Show the site', (site) => app.go({ site })));
 }
 
-/** The site's pages and results, from the report or page by page; the pages that are gone are passed over. */
-async function gather(app, site, current) {
-  const report = await desk.whereThere(desk.siteReport(site));
-  if (report !== null) return readReport(report);
-  const pages = [];
-  const replies = [];
-  const names = kept.openedPages(site);
-  for (const [place, name] of names.entries()) {
-    if (!current()) return { pages, results: new Map() };
-    app.progress(`Asking for page ${place + 1} of ${names.length}`, place, names.length);
-    try {
-      const reply = await desk.outcomes(site, name);
-      replies.push(reply);
-      pages.push({ name, rev: reply.rev, counts: countsOf(reply) });
-    } catch (error) {
-      if (error.name !== 'NoPage') throw error;
-      kept.forgetPage(site, name);
-    }
-  }
-  return { pages, results: resultsOf(replies, app.rules), byHand: true };
-}
+/** A count, which leads to the findings of this outcome where there are some. */
+const counting = (app, site, page, outcome, count, text) => (count ? app.link({ site, page, outcome }, text) : '0');
 
 const pageRow = (app, site, { name, rev, counts }) => [
-  app.link({ site, page: name }, name), String(rev), String(counts.failed),
-  counts.cantTell ? app.link({ site, page: name, outcome: 'cantTell' }, `${counts.cantTell} to judge on ${name}`) : '0',
+  app.link({ site, page: name }, name), String(rev),
+  counting(app, site, name, 'failed', counts.failed, `${counts.failed} failed on ${name}`),
+  counting(app, site, name, 'cantTell', counts.cantTell, `${counts.cantTell} to judge on ${name}`),
   String(counts.passed), String(counts.inapplicable)];
 
-const criterionRow = (app, results, criterion) => [
-  el('a', { href: app.rules.criterionLink(criterion), rel: 'noreferrer' }, `${criterion.number} ${criterion.name}`),
-  criterion.level, resultWord(results.get(criterion.number))];
+/** The site's pages, each with its counts and links to its findings. */
+function pagesPart(app, site, pages) {
+  return el('section', { 'aria-labelledby': 'pages' }, el('h2', { id: 'pages' }, 'Pages'),
+    pages.length ? table('Pages with their outcomes', ['Page', 'Revision', 'Failed', 'To judge', 'Passed', 'Rules without a target'], pages.map((page) => pageRow(app, site, page)))
+      : el('p', {}, 'This site has no page.'),
+    nameForm('page', 'Page by name', 'Show the page', (page) => app.go({ site, page })));
+}
 
-/** Shows a site. */
+/** A criterion's name as a link to its text, where the table of rules has it. */
+function criterionCell(app, number) {
+  const known = app.rules.criteria.find((one) => one.number === number);
+  return known ? el('a', { href: app.rules.criterionLink(known), rel: 'noreferrer' }, `${number} ${known.name}`) : number;
+}
+
+const criterionRow = (app, { number, level, result }) => [
+  criterionCell(app, number), level, el('span', { class: `result ${result}` }, RESULTS[result]?.[0] ?? result)];
+
+/** The criteria with their results, and what the results mean. */
+function criteriaPart(app, criteria) {
+  return el('section', { 'aria-labelledby': 'criteria' }, el('h2', { id: 'criteria' }, 'Success criteria'),
+    table('Success criteria with their results', ['WCAG 2.2 criterion', 'Level', 'Result'], criteria.map((one) => criterionRow(app, one))),
+    el('dl', { class: 'advice results' }, Object.values(RESULTS).map(([word, means]) => el('div', {}, el('dt', {}, word), el('dd', {}, means)))),
+    el('p', { class: 'quiet' }, 'No result says that a criterion is met: these rules look at a part of each.'));
+}
+
+/** Shows a site, all of it from one report. */
 export async function showSite(app, site, current) {
-  const { pages, results, byHand } = await gather(app, site, current);
+  const { pages, criteria, total } = readReport(await desk.siteReport(site));
   if (!current()) return;
   app.put(`Site ${site}`,
-    el('section', { 'aria-labelledby': 'pages' }, el('h2', { id: 'pages' }, 'Pages'),
-      pages.length ? table('Pages with their outcomes', ['Page', 'Revision', 'Failed', 'To judge', 'Passed', 'Rules without a target'], pages.map((page) => pageRow(app, site, page)))
-        : el('p', {}, 'No page was opened here yet.'),
-      byHand ? el('p', { class: 'quiet' }, 'This desk has no list of its pages yet: here are those that you opened in this browser.') : null,
-      nameForm('page', 'Another page', 'Show the page', (page) => app.go({ site, page }))),
-    pages.length ? el('section', { 'aria-labelledby': 'criteria' }, el('h2', { id: 'criteria' }, 'Criteria'),
-      table('Criteria with their results', ['WCAG 2.2 criterion', 'Level', 'On these pages'], app.rules.criteria.map((criterion) => criterionRow(app, results, criterion))),
-      byHand ? el('p', { class: 'quiet' }, 'This desk has no report on a whole site yet: these are the results of the pages above alone.') : null,
-      el('p', { class: 'quiet' }, 'No result says that a criterion is met: these rules look at a part of each.')) : null);
+    el('p', {}, `${counted(pages.length, 'page', 'pages')}. Findings: ${total.failed} failed, ${total.cantTell} to judge, ${total.passed} passed.`),
+    pages.length ? criteriaPart(app, criteria) : null, pagesPart(app, site, pages), filesPart(site));
 }

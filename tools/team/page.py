@@ -1,111 +1,26 @@
 """The page to judge on, in a real browser, before the real desk behind the real proxy."""
 from __future__ import annotations
 
-import base64
 import json
-import os
 import pathlib
-import subprocess
-import time
 from typing import Any, Callable
 
 from collecting.browser import start_browser
-from collecting.taking import take
-from serving import HOST, PROGRAM, ROOT, Serving
+from serving import ROOT, Serving
 from tests.support import SITE, expect, same
-from tests.view import CONTRAST
 
 from .asking import ask
 from .proxies import Proxy
+from .reader import PATIENCE, Reader, checked, signed_in
 
-PATIENCE = 60
-PICTURES = pathlib.Path(ROOT, "docs", "pictures")
 PAGES = ("home", "search", "hours")
 MEMBERS = {"bob": "judge", "cid": "judge", "rea": "reader"}
 NOTE = "It says what stands below it. Ünïcode, and a second\nline."
-# A site's report, in the form that the desk will give it.
-REPORT = """site library
-page home rev 3 passed 26 failed 3 cantTell 11 inapplicable 13
-page hours rev 12 passed 0 failed 0 cantTell 0 inapplicable 30
-criterion 1.1.1 A failed
-criterion 1.4.4 AA noFailureFound
-total pages 2 passed 26 failed 3 cantTell 11 inapplicable 43
-"""
-READ = """
-const [text, done] = arguments;
-import('./report.js').then(({ readReport }) => {
-  const { pages, results } = readReport(text);
-  done([pages.map(({ name, rev, counts }) => [name, rev, counts.passed, counts.failed, counts.cantTell, counts.inapplicable]), [...results]]);
-}, (error) => done(String(error)));
-"""
 # Begins a note.
 KEEP = """
 const [place, note, done] = arguments;
 import('./kept.js').then((kept) => { kept.keepDraft(place, { note, verdict: '' }); done(); });
 """
-# The texts that were said, one after another, from when this runs.
-LISTEN = """
-window.said = [];
-new MutationObserver(() => window.said.push(document.getElementById('status').textContent))
-  .observe(document.getElementById('status'), { childList: true, characterData: true, subtree: true });
-"""
-
-
-def signed_in(name: str | None) -> dict[str, str]:
-    """The field by which the single-sign-on proxy tells a person."""
-    return {"x-forwarded-user": f"{name}@example.org"} if name else {}
-
-
-class Reader:
-    """A person at the page, who has a keyboard and no mouse."""
-
-    def __init__(self, browser: Any, proxy: Proxy) -> None:
-        self.browser, self.proxy = browser, proxy
-        browser.execute_cdp_cmd("Network.enable", {})
-
-    def sign_in(self, name: str | None) -> None:
-        """Sends this person's name from now on."""
-        self.browser.execute_cdp_cmd("Network.setExtraHTTPHeaders", {"headers": signed_in(name)})
-
-    def open(self, address: str) -> None:
-        """Opens an address of the page, and waits until it shows something."""
-        self.browser.get(f"http://{HOST}:{self.proxy.port}/{address}")
-        self.wait("the page is there", "return document.documentElement.dataset.ready === 'true'")
-        self.settle()
-
-    def wait(self, what: str, script: str) -> Any:
-        """What a script gives, as soon as that is something."""
-        end = time.monotonic() + PATIENCE
-        while time.monotonic() < end:
-            if found := self.browser.execute_script(script):
-                return found
-            time.sleep(0.1)
-        raise TimeoutError(f"{what}: {self.browser.execute_script('return document.body.innerText')[:600]}")
-
-    def settle(self) -> None:
-        """Waits until the desk isn't asked any more."""
-        self.wait("the desk has answered", "return !/^(Asking|Sending)/.test(document.getElementById('status').textContent)")
-
-    def keys(self, *keys: str) -> None:
-        """Presses keys."""
-        from selenium.webdriver.common.action_chains import ActionChains
-        for key in keys:
-            ActionChains(self.browser).send_keys(key).perform()
-
-    def tab_to(self, what: str, script: str) -> None:
-        """Presses Tab until a script says that the focus is there."""
-        from selenium.webdriver.common.keys import Keys
-        for _ in range(80):
-            if self.browser.execute_script(f"const at = document.activeElement; return Boolean({script})"):
-                return
-            self.keys(Keys.TAB)
-        raise AssertionError(f"no way by Tab to {what}")
-
-    def text(self, part: str = "body") -> str:
-        return self.browser.execute_script("return document.querySelector(arguments[0])?.innerText ?? ''", part)
-
-    def title(self) -> str:
-        return self.text("#title")
 
 
 def fill(proxy: Proxy) -> None:
@@ -123,45 +38,8 @@ def outcomes(proxy: Proxy, page: str = "home") -> list[dict[str, Any]]:
     return json.loads(ask(proxy, f"GET /sites/library/pages/{page}/outcomes", None, signed_in("ann")).body)["outcomes"]
 
 
-def has_route(proxy: Proxy, path: str) -> bool:
-    """Whether the desk has a route for this path, which a later desk may have."""
-    return b"NoRoute" not in ask(proxy, f"GET {path}", None, signed_in("ann")).body
-
-
-def checked(reader: Reader, what: str, picture: str | None = None) -> None:
-    """Expects a state of the page to be accessible: by the desk's own audit, narrow, in dark, in high contrast and still."""
-    browser = reader.browser
-    snapshot = take(browser, "https://desk.example/").text.encode("utf-8")
-    done = subprocess.run([PROGRAM, "-", "audit"], input=snapshot, capture_output=True, check=False)
-    failed = [line for line in done.stdout.decode("utf-8").splitlines() if " node " in line and line.split()[3] == "failed"]
-    same(f"{what}: the desk's own audit", (done.returncode, failed), (0, []))
-    for features in ([("prefers-color-scheme", "light")], [("prefers-color-scheme", "dark")]):
-        browser.execute_cdp_cmd("Emulation.setEmulatedMedia", {"features": [{"name": name, "value": value} for name, value in features]})
-        same(f"{what}: texts without enough contrast, {features[0][1]}", browser.execute_script(CONTRAST), [])
-    browser.execute_cdp_cmd("Emulation.setEmulatedMedia", {"features": [{"name": "forced-colors", "value": "active"}, {"name": "prefers-reduced-motion", "value": "reduce"}]})
-    same(f"{what}: high contrast, and no motion", browser.execute_script("""
-        return [matchMedia('(forced-colors: active)').matches, getComputedStyle(document.documentElement).scrollBehavior,
-                document.getAnimations().length]"""), [True, "auto", 0])
-    browser.execute_cdp_cmd("Emulation.setEmulatedMedia", {"features": []})
-    size(browser, 320, 640)
-    same(f"{what}: on 320 pixels nothing scrolls sideways", browser.execute_script("return document.documentElement.scrollWidth"), 320)
-    small = browser.execute_script("""return [...document.querySelectorAll('button, input[type=text], select, .button')]
-        .map((one) => one.getBoundingClientRect().height).filter((height) => height < 24)""")
-    same(f"{what}: what is too small to hit", small, [])
-    size(browser, 1280, 900)
-    if picture and os.environ.get("PICTURES"):
-        PICTURES.mkdir(exist_ok=True)
-        shot = browser.execute_cdp_cmd("Page.captureScreenshot", {"format": "png"})["data"]
-        (PICTURES / f"{picture}.png").write_bytes(base64.b64decode(shot))
-
-
-def size(browser: Any, width: int, height: int) -> None:
-    """Gives the page this size in CSS pixels; 320 is 1,280 at 400 %."""
-    browser.execute_cdp_cmd("Emulation.setDeviceMetricsOverride", {"width": width, "height": height, "deviceScaleFactor": 1, "mobile": False})
-
-
 def looks_around(reader: Reader) -> None:
-    """From the start to a site and a page, by the keyboard; counts, filters, and progress on several pages."""
+    """From the start to a site and a page, by the keyboard, with their counts."""
     from selenium.webdriver.common.keys import Keys
     reader.sign_in("bob")
     reader.open("")
@@ -174,27 +52,20 @@ def looks_around(reader: Reader) -> None:
     reader.wait("the site", "return document.getElementById('title').innerText === 'Site library'")
     reader.settle()
     same("the focus goes along", reader.browser.execute_script("return document.activeElement.id"), "title")
-    checked(reader, "a site of which no page was opened")
-    for page in PAGES:
-        reader.open("?site=library")
-        reader.tab_to("the page's name", "at.id === 'page'")
-        reader.keys(page, Keys.ENTER)
-        reader.wait(page, f"return document.getElementById('title').innerText === 'Page {page} of library'")
-    reader.browser.execute_script(LISTEN)
+    rows = reader.browser.execute_script("return [...document.querySelectorAll('section[aria-labelledby=pages] tbody tr')].map((row) => [...row.cells].map((cell) => cell.innerText))")
+    same("a site's pages", [row[0] for row in rows], sorted(PAGES))
+    final = [one["outcome"] for one in outcomes(reader.proxy)]
+    same("a page's counts", rows[0][:5], ["home", "1", f"{final.count('failed')} failed on home", f"{final.count('cantTell')} to judge on home", str(final.count("passed"))])
+    same("a criterion's result", reader.browser.execute_script("""return [...document.querySelectorAll('section[aria-labelledby=criteria] tbody tr')]
+        .map((row) => row.innerText.split('\\t')).find(([name]) => name.startsWith('4.1.2'))[2]"""), "Failed")
+    checked(reader, "a site", "site")
+    reader.tab_to("a page's name", "at.id === 'page'")
+    reader.keys("hours", Keys.ENTER)
+    reader.wait("the page", "return document.getElementById('title').innerText === 'Page hours of library'")
+    reader.settle()
     reader.tab_to("the site", "at.closest('#trail') && at.textContent === 'library'")
     reader.keys(Keys.ENTER)
-    reader.wait("the site's table", "return document.querySelectorAll('section[aria-labelledby=pages] tbody tr').length === 3")
-    if not has_route(reader.proxy, "/sites/library/report"):
-        expect("progress is said", "Asking for page 3 of 3" in reader.browser.execute_script("return window.said"))
-        expect("a desk without a list of its pages says so", "no list of its pages yet" in reader.text("main"))
-    row = reader.browser.execute_script("return [...document.querySelector('tbody tr').cells].map((cell) => cell.innerText)")
-    final = [one["outcome"] for one in outcomes(reader.proxy)]
-    same("a page's counts", row[:5], ["home", "1", str(final.count("failed")), f"{final.count('cantTell')} to judge on home", str(final.count("passed"))])
-    same("a criterion's result", reader.browser.execute_script("""return [...document.querySelectorAll('section[aria-labelledby=criteria] tbody tr')]
-        .map((row) => row.innerText.split('\\t')).find(([name]) => name.startsWith('4.1.2'))[2]"""), "failed")
-    checked(reader, "a site", "site")
-    same("a site's report, where the desk has one", reader.browser.execute_async_script(READ, REPORT),
-         [[["home", 3, 26, 3, 11, 13], ["hours", 12, 0, 0, 0, 30]], [["1.1.1", "failed"], ["1.4.4", "noFailureFound"]]])
+    reader.wait("the site again", "return document.getElementById('title').innerText === 'Site library'")
 
 
 def reads_findings(reader: Reader) -> None:
@@ -216,11 +87,6 @@ def reads_findings(reader: Reader) -> None:
     reader.wait("the filtered page", "return location.search.includes('outcome=failed')")
     reader.wait("what failed", f"return document.querySelectorAll('.target').length === {final.count('failed')}")
     reader.settle()
-    said = reader.browser.execute_script("return document.querySelectorAll('.said li').length")
-    if has_route(reader.proxy, "/sites/library/pages/home/names"):
-        expect("the names are listed", said > 0, said)
-    else:
-        expect("a desk without names says so", said == 0 and "does not give the names" in reader.text("main"))
     checked(reader, "a filtered page")
     reader.open("?site=library&page=home&outcome=failed&criterion=2.4.2")
     expect("choices that nothing meets", "Nothing here is as you chose" in reader.text("main"), reader.text("main"))
