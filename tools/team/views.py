@@ -210,14 +210,21 @@ def is_on_its_way(reader: Reader) -> None:
 
 
 def are_asked_for(reader: Reader) -> None:
-    """While the names of a page are asked for, the page says how far that has come."""
+    """While the names of a page are asked for, the page says how far that has come; where it is edited meanwhile, they are asked for anew."""
     reader.open("?site=town&page=ask")
+    reader.browser.execute_script(LISTEN)
     slow(reader, 5_000, -1)
     reader.browser.execute_script("[...document.querySelectorAll('a')].find((one) => one.innerText.startsWith('Names')).click()")
     reader.wait("how far it has come", "return document.querySelector('progress')?.value === 1")
+    edits = {"edits": [{"op": "setAttr", "node": 12, "name": "alt", "value": "Owl"}]}
+    same("the edit", ask(reader.proxy, "POST /sites/town/pages/ask/edits", edits, {**ANN, "x-rev": "2"}).status, 200)
     checked(reader, "names that are asked for")
     slow(reader, 0, -1)
     reader.wait("the names", "return document.querySelector('.said')")
+    said = reader.browser.execute_script("return window.said")
+    same("how often they are asked for", said.count("Asking for the names of ask, 2 of 3"), 2)
+    same("the new name", reader.browser.execute_script(SAID)[4][0], "img “Owl”")
+    expect("and revision", "revision 3" in reader.text(".address"), reader.text(".address"))
 
 
 def shows_names(reader: Reader) -> None:
