@@ -38,11 +38,11 @@ function found(app, { site, page }, node, outcomes) {
   return app.link({ site, page, node: String(node) }, `${counted(outcomes.length, 'finding', 'findings')} on node ${node}${failed ? `, ${failed} failed` : ''}`);
 }
 
-/** Role and name of an element, where the name comes from, and its findings. */
-function entry(app, { name, node, role, source, place }, outcomes) {
+/** Role and name of an element, where the name comes from, and its findings. It has no `value`: with one each, a browser takes minutes to number thousands. */
+function entry(app, { name, node, role, source }, outcomes) {
   const said = name ? ['“', el('bdi', {}, name), '”'] : [el('em', { class: 'quiet' }, 'no name')];
   const facts = [`node ${node}`, name ? SOURCES[source] ?? `from ${source}` : null].filter(Boolean).join(', ');
-  return el('li', { value: String(place) }, el('div', {}, el('p', {}, el('span', { class: 'role' }, role), ' ', said),
+  return el('li', {}, el('div', {}, el('p', {}, el('span', { class: 'role' }, role), ' ', said),
     el('p', { class: 'quiet' }, facts), outcomes ? el('p', {}, found(app, app.words, node, outcomes)) : null));
 }
 
@@ -57,8 +57,7 @@ export async function showNames(app, site, page, current) {
   const { names, outcomes, rev, address } = await loadNames(app, site, page, current);
   if (!current()) return;
   const { role } = app.words;
-  const numbered = names.map((one, at) => ({ ...one, place: at + 1 }));
-  const shown = numbered.filter((one) => !role || one.role === role);
+  const shown = names.filter((one) => !role || one.role === role);
   const byNode = grouped(outcomes, (one) => one.node);
   const nameless = shown.filter((one) => !one.name).length;
   app.put(`Names on page ${page} of ${site}`,

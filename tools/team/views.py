@@ -67,17 +67,17 @@ town,home,1,3,b49b2e,passed,cantTell,judge-heading,bob
 """
 # How many assertions the EARL has: the records above, and 18 and 25 rules without a target.
 ASSERTIONS = 21 + 18 + 25
-# What the page says of each element: the place in the list, role and name, where it comes from, and its findings.
+# What the page says of each element: role and name, where it comes from, and its findings.
 NAMES = [
-    [1, "document no name", "node 1", "4 findings on node 1"],
-    [2, "heading “Ask us”", "node 6, from its content", "2 findings on node 6"],
-    [3, "textbox “Question”", "node 10, from its label", "1 finding on node 10"],
-    [4, "button no name", "node 11", "1 finding on node 11, 1 failed"],
-    [5, "img “Bird”", "node 12, from its alt, value, legend, caption or the like", "1 finding on node 12"],
-    [6, "link “Home”", "node 13, from aria-label", "3 findings on node 13"],
-    [7, "button “Save file”", "node 15, from what aria-labelledby refers to", "3 findings on node 15"],
-    [8, "navigation “Pages”", "node 18, from its title attribute"],
-    [9, "textbox “Town”", "node 19, from its placeholder", "1 finding on node 19"]]
+    ["document no name", "node 1", "4 findings on node 1"],
+    ["heading “Ask us”", "node 6, from its content", "2 findings on node 6"],
+    ["textbox “Question”", "node 10, from its label", "1 finding on node 10"],
+    ["button no name", "node 11", "1 finding on node 11, 1 failed"],
+    ["img “Bird”", "node 12, from its alt, value, legend, caption or the like", "1 finding on node 12"],
+    ["link “Home”", "node 13, from aria-label", "3 findings on node 13"],
+    ["button “Save file”", "node 15, from what aria-labelledby refers to", "3 findings on node 15"],
+    ["navigation “Pages”", "node 18, from its title attribute"],
+    ["textbox “Town”", "node 19, from its placeholder", "1 finding on node 19"]]
 # A report in its form, and texts that are none: one that was cut, one with a line of no form, and none at all.
 REPORT = """site library
 page home rev 3 passed 26 failed 3 cantTell 11 inapplicable 13
@@ -95,7 +95,7 @@ import('./report.js').then(({ readReport }) => {
 }).catch((error) => done(`${error}`));
 """
 ROWS = "return [...document.querySelectorAll(`section[aria-labelledby=${arguments[0]}] tbody tr`)].map((row) => [...row.cells].map((cell) => cell.innerText))"
-SAID = "return [...document.querySelectorAll('.said > li')].map((one) => [one.value, ...[...one.firstElementChild.children].map((part) => part.innerText)])"
+SAID = "return [...document.querySelectorAll('.said > li')].map((one) => [...one.firstElementChild.children].map((part) => part.innerText))"
 TARGETS = "return [...document.querySelectorAll('.target h4')].map((one) => one.innerText)"
 
 
@@ -128,7 +128,7 @@ def shows_criteria(reader: Reader) -> None:
     same("the criteria", reader.browser.execute_script(ROWS, "criteria"), CRITERIA)
     same("the pages", reader.browser.execute_script(ROWS, "pages"), PAGES)
     expect("the sums", "2 pages. Findings: 2 failed, 2 to judge, 17 passed." in reader.text("main"), reader.text("main"))
-    checked(reader, "a site's criteria", "criteria")
+    checked(reader, "a site's criteria")
     follow(reader, "1 failed on home", "Page home of town")
     same("what failed on home", reader.browser.execute_script(TARGETS), ["The page as a whole, node 1"])
     follow(reader, "town", "Site town")
@@ -210,14 +210,21 @@ def is_on_its_way(reader: Reader) -> None:
 
 
 def are_asked_for(reader: Reader) -> None:
-    """While the names of a page are asked for, the page says how far that has come."""
+    """While the names of a page are asked for, the page says how far that has come; where it is edited meanwhile, they are asked for anew."""
     reader.open("?site=town&page=ask")
+    reader.browser.execute_script(LISTEN)
     slow(reader, 5_000, -1)
     reader.browser.execute_script("[...document.querySelectorAll('a')].find((one) => one.innerText.startsWith('Names')).click()")
     reader.wait("how far it has come", "return document.querySelector('progress')?.value === 1")
+    edits = {"edits": [{"op": "setAttr", "node": 12, "name": "alt", "value": "Owl"}]}
+    same("the edit", ask(reader.proxy, "POST /sites/town/pages/ask/edits", edits, {**ANN, "x-rev": "2"}).status, 200)
     checked(reader, "names that are asked for")
     slow(reader, 0, -1)
     reader.wait("the names", "return document.querySelector('.said')")
+    said = reader.browser.execute_script("return window.said")
+    same("how often they are asked for", said.count("Asking for the names of ask, 2 of 3"), 2)
+    same("the new name", reader.browser.execute_script(SAID)[4][0], "img “Owl”")
+    expect("and revision", "revision 3" in reader.text(".address"), reader.text(".address"))
 
 
 def shows_names(reader: Reader) -> None:
@@ -304,7 +311,7 @@ def moves_on(reader: Reader) -> None:
     reader.sign_in("bob")
     reader.open("?site=town&page=home&show=names")
     same("the names of home", reader.browser.execute_script(SAID), [
-        [1, "document no name", "node 1", "3 findings on node 1, 1 failed"], [2, "heading “Hours”", "node 3, from its content", "2 findings on node 3"]])
+        ["document no name", "node 1", "3 findings on node 1, 1 failed"], ["heading “Hours”", "node 3, from its content", "2 findings on node 3"]])
     same("home is deleted", ask(reader.proxy, "DELETE /sites/town/pages/home", None, {**ANN, "x-rev": "1"}).status, 200)
     reader.tab_to("the button", "at.innerText === 'Show these'")
     reader.keys(Keys.ENTER)
