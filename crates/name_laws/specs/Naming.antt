@@ -56,7 +56,8 @@ kept_by_name class sub rests old new n versions k =
     λ i. rests (name i).text (sight i)
 
 -- the law, where a row and what is above it tell the targets
-pub named_local : (info : RuleInfo) → info.applies ≡ SelfOnly → info.expects ≡ Sub → (rests : Rests) (target : Above → Row → Bool) → ((page : Document) (n : NodeId) → JudgesRows (by_name rests) target page n) → IsLocal info (by_name rests)
+pub named_local : (info : RuleInfo) → info.applies ≡ SelfOnly → info.expects ≡ Sub → (rests : Rests) (target : Above → Row → Bool)
+    → ((page : Document) (n : NodeId) → JudgesRows (by_name rests) target page n) → IsLocal info (by_name rests)
 named_local info self sub rests target is_target = by_target info (by_name rests) self target is_target (kept_by_name info.expects sub rests)
 
 -- the law, where the name tells them too
