@@ -94,6 +94,12 @@ import('./report.js').then(({ readReport }) => {
   done([pages.map(({ name, rev, counts }) => [name, rev, ...four(counts)]), criteria.map(({ number, level, result }) => [number, level, result]), four(total)]);
 }).catch((error) => done(`${error}`));
 """
+# The addresses that the page asks for, one after another, from when this runs.
+COUNT = """
+window.asked = [];
+const fetched = window.fetch;
+window.fetch = (...given) => { window.asked.push(given[0]); return fetched(...given); };
+"""
 ROWS = "return [...document.querySelectorAll(`section[aria-labelledby=${arguments[0]}] tbody tr`)].map((row) => [...row.cells].map((cell) => cell.innerText))"
 SAID = "return [...document.querySelectorAll('.said > li')].map((one) => [...one.firstElementChild.children].map((part) => part.innerText))"
 TARGETS = "return [...document.querySelectorAll('.target h4')].map((one) => one.innerText)"
@@ -198,6 +204,7 @@ def is_on_its_way(reader: Reader) -> None:
     from selenium.webdriver.common.keys import Keys
     size = len(ask(reader.proxy, "GET /sites/town/earl", None, BOB).body)
     slow(reader, 0, 1_000)
+    reader.browser.execute_script(COUNT)
     reader.tab_to("the button", "at.innerText === 'Save as EARL'")
     reader.keys(Keys.ENTER)
     bar = reader.wait("how far it has come", "const bar = document.querySelector('progress'); return bar && [bar.max, 0 < bar.value && bar.value < bar.max]")
@@ -206,6 +213,7 @@ def is_on_its_way(reader: Reader) -> None:
     reader.keys(Keys.ENTER)
     slow(reader, 0, -1)
     reader.wait("its end", "return document.querySelector('.fetched').innerText === 'The browser has town.jsonld.'")
+    same("it is asked for once", reader.browser.execute_script("return window.asked"), ["/sites/town/earl"])
     same("then nothing is on its way", reader.browser.execute_script("return document.querySelector('progress')"), None)
 
 
