@@ -40,12 +40,16 @@ fn printed(alloc: Global, answer: &Answer, closes: bool) -> Result<Vec<u8>, OutO
     print(alloc, room, &infos, answer, closes)
 }
 
+// Whether that is a reply with this body, of this media type.
 fn is_equal(
     alloc: Global,
     answer: &Answer,
     closes: bool,
-    wanted: &str,
+    status: &str,
+    media: &str,
+    body: &str,
 ) -> Result<bool, OutOfMemory> {
+    let wanted = reply(alloc, status, media, body, closes)?;
     Ok(printed(alloc, answer, closes)?.as_slice() == wanted.as_bytes())
 }
 
@@ -57,8 +61,7 @@ pub fn is_printed(
     status: &str,
     body: &str,
 ) -> Result<(), Fail> {
-    let wanted = json(alloc, status, body, closes)?;
-    if is_equal(alloc, &answer, closes, wanted.as_str())? {
+    if is_equal(alloc, &answer, closes, status, "application/json", body)? {
         Ok(())
     } else {
         Err(Fail::from(body))
@@ -67,8 +70,7 @@ pub fn is_printed(
 
 /// Fails with the body unless an answer is printed with it as a body of this media type, after `200 OK`.
 pub fn is_printed_as(alloc: Global, answer: Answer, media: &str, body: &str) -> Result<(), Fail> {
-    let wanted = reply(alloc, "200 OK", media, body, false)?;
-    if is_equal(alloc, &answer, false, wanted.as_str())? {
+    if is_equal(alloc, &answer, false, "200 OK", media, body)? {
         Ok(())
     } else {
         Err(Fail::from(body))
