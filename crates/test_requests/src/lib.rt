@@ -17,6 +17,4 @@ mod replies;
 #[cfg(test)]
 mod routes;
 #[cfg(test)]
-mod shown;
-#[cfg(test)]
 mod told;
