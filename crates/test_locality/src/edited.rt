@@ -8,7 +8,7 @@ use std::test::Fail;
 // A page, and pages that one edit makes of it.
 type Edited = (&'static str, &'static [&'static str]);
 
-// The pages of the edits' tests that one edit was accepted on, with each of those edits, and two more.
+// Pages of the edits' tests, but for those at a limit, with each single edit that is accepted on them; and two more.
 static EDITED: [Edited; 5] = [
     (
         "1 0 html;2 1 body",
