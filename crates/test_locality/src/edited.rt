@@ -1,4 +1,4 @@
-use crate::judged::{agrees, all_keep, whole};
+use crate::judged::{agrees, all_keep, compared, whole};
 use fixture_pages::page_in;
 use rules_names::LinkHasName;
 use snap_tree::{NodeId, Tree};
@@ -8,7 +8,8 @@ use std::test::Fail;
 // A page, and pages that one edit makes of it.
 type Edited = (&'static str, &'static [&'static str]);
 
-// Pages of the edits' tests, but for those at a limit, with each single edit that is accepted on them; and two more.
+// Pages of the edits' tests, with each single edit that is accepted on them, but for those at a limit, which stand in
+// `limits`; and two more.
 static EDITED: [Edited; 5] = [
     (
         "1 0 html;2 1 body",
@@ -99,9 +100,11 @@ const IN_NAV: &str =
 const OUR_SHOP: &str =
     "1 0 html;2 1 head;3 2 title;4 3 #Our~shop;5 1 body;6 5 nav;7 6 a href=/basket aria-labelledby=basket;8 7 img alt=;9 5 h2 id=basket;10 9 #Basket;11 5 p;12 11 #Three~things";
 
-fn pages_keep(alloc: Global, old: &Tree, new: &Tree) -> Result<bool, Fail> {
+/// Whether each of the nine rules says the same of each node, where the pages agree on what it looks at.
+pub(crate) fn pages_keep(alloc: Global, old: &Tree, new: &Tree) -> Result<bool, Fail> {
+    let pair = compared(alloc, whole(old), new)?;
     for row in old.rows() {
-        if !all_keep(alloc, whole(old), new, row.id)? {
+        if !all_keep(alloc, &pair, row.id)? {
             return Ok(false);
         }
     }
@@ -146,7 +149,8 @@ fn a_link_looks_at_these(rt: HostRuntime) -> Result<(), Fail> {
     let old = page_in(alloc, BASKET)?;
     for (after, wanted) in LINKED.as_slice() {
         let new = page_in(alloc, after)?;
-        if agrees(alloc, &LinkHasName, whole(&old), &new, NodeId(7))? != *wanted {
+        let pair = compared(alloc, whole(&old), &new)?;
+        if agrees(alloc, &LinkHasName, &pair, NodeId(7))? != *wanted {
             return Err(Fail::from(*after));
         }
     }

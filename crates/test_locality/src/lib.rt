@@ -7,6 +7,8 @@ mod edited;
 #[cfg(test)]
 mod judged;
 #[cfg(test)]
+mod limits;
+#[cfg(test)]
 mod reach;
 #[cfg(test)]
 mod smaller;

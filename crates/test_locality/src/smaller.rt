@@ -1,4 +1,4 @@
-use crate::judged::{all_keep, whole};
+use crate::judged::{all_keep, compared, whole};
 use crate::reach::{Part, Place};
 use fixture_pages::page_in;
 use snap_tree::NodeId;
@@ -50,8 +50,10 @@ fn is_too_small(alloc: Global, case: &Smaller) -> Result<bool, Fail> {
         tree: &old,
         without,
     };
-    let kept = all_keep(alloc, whole(&old), &new, NodeId(n))?;
-    let lost = !all_keep(alloc, place, &new, NodeId(n))?;
+    let whole = compared(alloc, whole(&old), &new)?;
+    let smaller = compared(alloc, place, &new)?;
+    let kept = all_keep(alloc, &whole, NodeId(n))?;
+    let lost = !all_keep(alloc, &smaller, NodeId(n))?;
     Ok(kept & lost)
 }
 
