@@ -1,5 +1,5 @@
-//! Tests that cross crates: what messages ask, route by route and body by body, and how each reply is
-//! printed. Nothing but tests stands here: in the crates that they are about each would be proved once more.
+//! Tests that cross crates: what messages ask, route by route and body by body. Nothing but tests stands here: in the
+//! crates that they are about each would be proved once more.
 #![tactic(auto)]
 
 #[cfg(test)]
@@ -8,12 +8,6 @@ mod bodies;
 mod faults;
 #[cfg(test)]
 mod lists;
-#[cfg(test)]
-mod printing;
-#[cfg(test)]
-mod refusals;
-#[cfg(test)]
-mod replies;
 #[cfg(test)]
 mod routes;
 #[cfg(test)]

@@ -10,13 +10,24 @@ pub fn text(alloc: Global, text: &str) -> Result<Text, OutOfMemory> {
     Text::from_str(alloc, text)
 }
 
-/// A reply with a JSON body.
-pub fn json(alloc: Global, status: &str, body: &str, closes: bool) -> Result<String, OutOfMemory> {
+// A reply with a body of this media type.
+fn reply(
+    alloc: Global,
+    status: &str,
+    media: &str,
+    body: &str,
+    closes: bool,
+) -> Result<String, OutOfMemory> {
     let n = body.len();
     let closing = if closes { "connection: close\r\n" } else { "" };
     Ok(format!(in alloc;
-        "HTTP/1.1 {status}\r\ncontent-type: application/json\r\ncontent-length: {n}\r\n{closing}\r\n{body}"
+        "HTTP/1.1 {status}\r\ncontent-type: {media}\r\ncontent-length: {n}\r\n{closing}\r\n{body}"
     )?)
+}
+
+/// A reply with a JSON body.
+pub fn json(alloc: Global, status: &str, body: &str, closes: bool) -> Result<String, OutOfMemory> {
+    reply(alloc, status, "application/json", body, closes)
 }
 
 // What is printed for an answer, by the infos of two rules.
@@ -29,14 +40,16 @@ fn printed(alloc: Global, answer: &Answer, closes: bool) -> Result<Vec<u8>, OutO
     print(alloc, room, &infos, answer, closes)
 }
 
+// Whether that is a reply with this body, of this media type.
 fn is_equal(
     alloc: Global,
     answer: &Answer,
     closes: bool,
     status: &str,
+    media: &str,
     body: &str,
 ) -> Result<bool, OutOfMemory> {
-    let wanted = json(alloc, status, body, closes)?;
+    let wanted = reply(alloc, status, media, body, closes)?;
     Ok(printed(alloc, answer, closes)?.as_slice() == wanted.as_bytes())
 }
 
@@ -48,7 +61,16 @@ pub fn is_printed(
     status: &str,
     body: &str,
 ) -> Result<(), Fail> {
-    if is_equal(alloc, &answer, closes, status, body)? {
+    if is_equal(alloc, &answer, closes, status, "application/json", body)? {
+        Ok(())
+    } else {
+        Err(Fail::from(body))
+    }
+}
+
+/// Fails with the body unless an answer is printed with it as a body of this media type, after `200 OK`.
+pub fn is_printed_as(alloc: Global, answer: Answer, media: &str, body: &str) -> Result<(), Fail> {
+    if is_equal(alloc, &answer, false, "200 OK", media, body)? {
         Ok(())
     } else {
         Err(Fail::from(body))
