@@ -115,7 +115,8 @@ fn a_site_of_one_page_is_reported(rt: HostRuntime) -> Result<(), Fail> {
     Ok(())
 }
 
-// One row of each kind. The last is of no rule.
+// One row of each kind, and judges with what has to stand in quotes; `tools/read-reports --quoted` reads the same records as
+// other programs do. The last row is of no rule.
 static RECORDED: [Row; 5] = [
     (1, 1, Auto::Passed, Reason::Met, Auto::Passed, ""),
     (14, 9, Auto::Failed, Reason::NoName, Auto::Failed, ""),
@@ -125,17 +126,25 @@ static RECORDED: [Row; 5] = [
         Auto::CantTell,
         Reason::JudgeHeading,
         Auto::Failed,
-        "a,\"b\"",
+        "Zo\u{eb}, \"the judge\"",
     ),
-    (30, 1, Auto::CantTell, Reason::Merged, Auto::Passed, ""),
+    (
+        30,
+        1,
+        Auto::CantTell,
+        Reason::Merged,
+        Auto::Passed,
+        "\u{416}\r\n\u{540d}\u{524d}",
+    ),
     (31, 1, Auto::Failed, Reason::NoName, Auto::Failed, ""),
 ];
 
+// (the name and the form are what `tools/read-reports` looks for)
 static CSV: &str = "site,page,rev,node,rule,outcome,automatic,reason,judge
 acme,home,1,1,2779a5,passed,passed,ok,
 acme,home,1,9,ffd0e9,failed,failed,no-name,
-acme,home,1,7,b49b2e,failed,cantTell,judge-heading,\"a,\"\"b\"\"\"
-acme,home,1,1,cf77f2,passed,cantTell,merged,
+acme,home,1,7,b49b2e,failed,cantTell,judge-heading,\"Zo\u{eb}, \"\"the judge\"\"\"
+acme,home,1,1,cf77f2,passed,cantTell,merged,\"\u{416}\r\n\u{540d}\u{524d}\"
 ";
 
 #[test]
