@@ -12,7 +12,9 @@ use Rattle.snap_edit.specs.declared.fault.EditFault.{EditFault}
 use Rattle.snap_edit.specs.declared.fault.EditFault.TheVariants as fault
 use Rattle.snap_edit.specs.Edits.{edited_all}
 use Rattle.rule_core.specs.Books.{Book}
+use Rattle.keep_core.specs.declared.page.Page.{Page}
 use Rattle.keep_core.specs.declared.member.MemberRole.{MemberRole}
+use Rattle.judge_core.specs.declared.judgement.Judgement.{Judgement}
 use Rattle.keep_core.specs.declared.site.Site.{Site}
 use Rattle.desk_core.specs.declared.decided.Decided.{Decided}
 use Rattle.desk_core.specs.declared.refusal.Needed.TheVariants as needed
@@ -22,7 +24,7 @@ use Rattle.desk_core.specs.declared.refusal.Refusal.TheVariants as refusal
 use Rattle.desk_core.specs.Refusals.{Decision, unless, unless_refused}
 use Rattle.desk_core.specs.State.{PageState, SiteState}
 use Rattle.desk_core.specs.Members.{put_site, put_member}
-use Rattle.desk_core.specs.Pages.{rev_of, judged, has_room, has_room_for, has_revisions, renewed, built, put_page, edited, edit_page, drop_page}
+use Rattle.desk_core.specs.Pages.{due, has_room, has_room_for, has_revisions, renewed, built, put_page, edited, edit_page, drop_page}
 use Rattle.desk_core.specs.Imports.{first_fault}
 use Rattle.desk_core.specs.declared.placed.Placed.{Placed}
 use Rattle.desk_core.specs.Placing.{entries_of, new_among, stale_among, import_placed}
@@ -53,14 +55,14 @@ put_site_accepts name caller (Some s) = tt
 pub put_member_accepts : (name caller user : List ℕ) (held : Option MemberRole) (site : Site) → Accepts (put_member name caller user held site)
 put_member_accepts name caller user held site = unless_accepts (not (bytes_eq user caller)) (refusal.NotAllowed needed.AnotherOwner) _ tt
 
-pub put_page_accepts : (book : Book) (site caller page : List ℕ) (rev : ℕ) (raw : Raw) (s : Site) (kept : Option PageState) (pages : ℕ)
-    → Accepts (put_page book site caller page rev raw s kept pages)
-put_page_accepts book site caller page rev raw s kept pages =
-    let next = renewed book site caller page s.counter (judged kept) in
+pub put_page_accepts : (book : Book) (site caller page : List ℕ) (rev : ℕ) (raw : Raw) (s : Site) (there : Option ℕ) (js : List Judgement) (pages : ℕ)
+    → Accepts (put_page book site caller page rev raw s there js pages)
+put_page_accepts book site caller page rev raw s there js pages =
+    let next = renewed book site caller page s.counter js in
     let refused = option_map_or (λ (f : TreeFault). Some (refusal.TreeFault f None)) (tree_fault raw.rows) None in
-    unless_accepts (has_room kept pages) (refusal.PageLimit limit.Pages) _ (
+    unless_accepts (has_room there pages) (refusal.PageLimit limit.Pages) _ (
     unless_accepts (has_revisions s.counter 1) (refusal.PageLimit limit.Revisions) _ (
-    unless_accepts (rev == rev_of kept) (refusal.StaleRevision (rev_of kept) None) (built None raw next) (
+    unless_accepts (rev == due there) (refusal.StaleRevision (due there) None) (built None raw next) (
     unless_refused_accepts refused (next (page_of raw)) tt)))
 
 pub edit_page_accepts : (book : Book) (site caller page : List ℕ) (rev : ℕ) (edits : List Edit) (s : Site) (kept : PageState)
@@ -71,8 +73,8 @@ edit_page_accepts book site caller page rev edits s kept =
     unless_accepts (rev == kept.page.head.rev) (refusal.StaleRevision kept.page.head.rev None) _ (
     edited_accepts kept.page.tree (edited_all kept.page.tree.trees edits) next (λ _. tt)))
 
-pub drop_page_accepts : (site page : List ℕ) (rev : ℕ) (kept : PageState) → Accepts (drop_page site page rev kept)
-drop_page_accepts site page rev kept = unless_accepts (rev == kept.page.head.rev) (refusal.StaleRevision kept.page.head.rev None) _ tt
+pub drop_page_accepts : (site page : List ℕ) (rev : ℕ) (kept : Page) → Accepts (drop_page site page rev kept)
+drop_page_accepts site page rev kept = unless_accepts (rev == kept.head.rev) (refusal.StaleRevision kept.head.rev None) _ tt
 
 pub import_placed_accepts : (book : Book) (site caller : List ℕ) (counter pages : ℕ) (all : List Placed) → Accepts (import_placed book site caller counter pages all)
 import_placed_accepts book site caller counter pages all =

@@ -44,7 +44,7 @@ use Rattle.desk_core.specs.declared.refusal.Refusal.{Refusal}
 use Rattle.desk_core.specs.declared.refusal.Refusal.TheVariants as refusal
 use Rattle.desk_core.specs.Refusals.{Decision}
 use Rattle.desk_core.specs.State.{PageState, page_state, site_state, state_of, page_at, site_at}
-use Rattle.desk_core.specs.Pages.{rev_of, judged, page_put, edit_page, drop_page}
+use Rattle.desk_core.specs.Pages.{revision_in, rev_of, judged, page_put, edit_page, drop_page}
 use Rattle.desk_core.specs.Imports.{puts, first_stale}
 use Rattle.desk_core.specs.Steps.{Request, site_of, decision, decided, stepped, step}
 use Rattle.desk_core.specs.Changes.{after}
@@ -203,7 +203,7 @@ module _ (book : Book) (t : Tables) (sound : IsSound book t) (caller : List ℕ)
       put_once raw =
           let t' = changed (PutPages site (k.site.counter + 1) (put ∷ [])) t in
           entering_kept Nothing t' needed.Editor caller site _ (λ k' is' _.
-          put_page_brings Nothing book site caller page sent raw k'.site (page_at page (map page_state k'.pages)) (length (map page_state k'.pages)) (λ _ _ now _. stale_then k' is' now))
+          put_page_brings Nothing book site caller page sent raw k'.site (revision_in (page_at page (map page_state k'.pages))) (judged (page_at page (map page_state k'.pages))) (length (map page_state k'.pages)) (λ _ _ now _. stale_then k' is' now))
 
       edit_once : (edits : List Edit) → Second Nothing (command.EditPage site page sent edits) (Some (PutPages site (k.site.counter + 1) (put ∷ [])))
       edit_once edits =
@@ -218,7 +218,7 @@ module _ (book : Book) (t : Tables) (sound : IsSound book t) (caller : List ℕ)
         let t' = changed (DropPage site page) t in
         let gone = at_take page_name page k.pages (kept_fits book t sound site k is).in_order in
         entering_kept Nothing t' needed.Editor caller site _ (λ k' is' _.
-        on_page_kept Nothing t' page k' (drop_page site page sent) (λ p' found.
+        on_page_kept Nothing t' page k' (λ (q : PageState). drop_page site page sent q.page) (λ p' found.
         let same = found_changed site k (without_page page) (λ _. refl) is k' is' in
         let no : None ≡ Some p' = sym gone ∙ ap (λ (k' : KeptSite). at page_name page k'.pages) same ∙ found in
         cc))
@@ -281,12 +281,12 @@ module _ (book : Book) (t : Tables) (sound : IsSound book t) (caller : List ℕ)
   once_by (command.PutPage site page rev raw) once parts =
       let P = Second Nothing (command.PutPage site page rev raw) in
       entering_kept P t needed.Editor caller site _ (λ k is _.
-      put_page_brings P book site caller page rev raw k.site (page_at page (map page_state k.pages)) (length (map page_state k.pages)) (λ _ _ was _.
+      put_page_brings P book site caller page rev raw k.site (revision_in (page_at page (map page_state k.pages))) (judged (page_at page (map page_state k.pages))) (length (map page_state k.pages)) (λ _ _ was _.
       put_once site page k is (page_put book page (k.site.counter + 1) caller (page_of raw) (judged (page_at page (map page_state k.pages)))) refl refl rev was raw))
   once_by (command.DropPage site page rev) once parts =
       let P = Second Nothing (command.DropPage site page rev) in
       entering_kept P t needed.Editor caller site _ (λ k is _.
-      on_page_kept P t page k (drop_page site page rev) (λ p found. drop_page_brings P site page rev (page_state p) (λ _. drop_once site page k is rev)))
+      on_page_kept P t page k (λ (q : PageState). drop_page site page rev q.page) (λ p found. drop_page_brings P site page rev p.page (λ _. drop_once site page k is rev)))
   once_by (command.Import site entries) once parts =
       let P = Second Nothing (command.Import site entries) in
       entering_kept P t needed.Editor caller site _ (λ k is _.

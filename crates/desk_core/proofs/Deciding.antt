@@ -22,6 +22,7 @@ use Rattle.judge_core.specs.declared.outcomes.OutRow.{OutRow}
 use Rattle.judge_core.specs.Composites.{is_open}
 use Rattle.judge_core.specs.Outcomes.{outcomes}
 use Rattle.judge_core.specs.RowLookups.{row_at}
+use Rattle.keep_core.specs.declared.page.Page.{Page}
 use Rattle.keep_core.specs.declared.member.MemberRole.{MemberRole}
 use Rattle.keep_core.specs.declared.site.Site.{Site}
 use Rattle.keep_core.specs.declared.change.Change.{Change}
@@ -37,7 +38,7 @@ use Rattle.desk_core.specs.Refusals.{Decision, unless, on, unless_refused}
 use Rattle.desk_core.specs.State.{PageState, SiteState, page_at}
 use Rattle.desk_core.specs.Rights.{may, role_of, allowed, entering, on_page}
 use Rattle.desk_core.specs.Members.{new_site, site_with, members_with, put_site, put_member}
-use Rattle.desk_core.specs.Pages.{rev_of, judged, has_room, has_room_for, has_revisions, page_put, renewed, built, put_page, edited, edit_page, drop_page}
+use Rattle.desk_core.specs.Pages.{due, has_room, has_room_for, has_revisions, page_put, renewed, built, put_page, edited, edit_page, drop_page}
 use Rattle.desk_core.specs.Imports.{new_pages, first_stale, first_fault, puts, import}
 use Rattle.desk_core.specs.Judging.{is_latest, added, judge}
 
@@ -94,15 +95,15 @@ module _ (P : Option Change → Type 0) where
       → (not (bytes_eq user caller) ≡ true → P (Some (PutSite (site_with name site (members_with user held site.members))))) → Brings P (put_member name caller user held site)
   put_member_brings name caller user held site brings = unless_brings (not (bytes_eq user caller)) (refusal.NotAllowed needed.AnotherOwner) _ brings
 
-  pub put_page_brings : (book : Book) (site caller page : List ℕ) (rev : ℕ) (raw : Raw) (s : Site) (kept : Option PageState) (pages : ℕ)
-      → (has_room kept pages ≡ true → has_revisions s.counter 1 ≡ true → (rev == rev_of kept) ≡ true → tree_fault raw.rows ≡ None
-      → P (Some (PutPages site (s.counter + 1) (page_put book page (s.counter + 1) caller (page_of raw) (judged kept) ∷ []))))
-      → Brings P (put_page book site caller page rev raw s kept pages)
-  put_page_brings book site caller page rev raw s kept pages brings =
-      let next = renewed book site caller page s.counter (judged kept) in
-      unless_brings (has_room kept pages) (refusal.PageLimit limit.Pages) _ (λ room.
+  pub put_page_brings : (book : Book) (site caller page : List ℕ) (rev : ℕ) (raw : Raw) (s : Site) (there : Option ℕ) (js : List Judgement) (pages : ℕ)
+      → (has_room there pages ≡ true → has_revisions s.counter 1 ≡ true → (rev == due there) ≡ true → tree_fault raw.rows ≡ None
+      → P (Some (PutPages site (s.counter + 1) (page_put book page (s.counter + 1) caller (page_of raw) js ∷ []))))
+      → Brings P (put_page book site caller page rev raw s there js pages)
+  put_page_brings book site caller page rev raw s there js pages brings =
+      let next = renewed book site caller page s.counter js in
+      unless_brings (has_room there pages) (refusal.PageLimit limit.Pages) _ (λ room.
       unless_brings (has_revisions s.counter 1) (refusal.PageLimit limit.Revisions) _ (λ more.
-      unless_brings (rev == rev_of kept) (refusal.StaleRevision (rev_of kept) None) _ (λ same.
+      unless_brings (rev == due there) (refusal.StaleRevision (due there) None) _ (λ same.
       built_brings None raw next (λ well. brings room more same well))))
 
   pub edit_page_brings : (book : Book) (site caller page : List ℕ) (rev : ℕ) (edits : List Edit) (s : Site) (kept : PageState)
@@ -112,11 +113,11 @@ module _ (P : Option Change → Type 0) where
   edit_page_brings book site caller page rev edits s kept brings =
       let next = renewed book site caller page s.counter kept.judgements in
       unless_brings (has_revisions s.counter 1) (refusal.PageLimit limit.Revisions) _ (λ more.
-      unless_brings (rev == rev_of (Some kept)) (refusal.StaleRevision (rev_of (Some kept)) None) _ (λ same.
+      unless_brings (rev == kept.page.head.rev) (refusal.StaleRevision kept.page.head.rev None) _ (λ same.
       edited_brings kept.page.tree (edited_all kept.page.tree.trees edits) next (brings more same)))
 
-  pub drop_page_brings : (site page : List ℕ) (rev : ℕ) (kept : PageState) → ((rev == kept.page.head.rev) ≡ true → P (Some (DropPage site page))) → Brings P (drop_page site page rev kept)
-  drop_page_brings site page rev kept brings = unless_brings (rev == rev_of (Some kept)) (refusal.StaleRevision (rev_of (Some kept)) None) _ brings
+  pub drop_page_brings : (site page : List ℕ) (rev : ℕ) (kept : Page) → ((rev == kept.head.rev) ≡ true → P (Some (DropPage site page))) → Brings P (drop_page site page rev kept)
+  drop_page_brings site page rev kept brings = unless_brings (rev == kept.head.rev) (refusal.StaleRevision kept.head.rev None) _ brings
 
   pub import_brings : (book : Book) (site caller : List ℕ) (entries : List Entry) (s : SiteState)
       → (has_room_for (new_pages s.pages entries) (length s.pages) ≡ true → has_revisions s.site.counter (length entries) ≡ true

@@ -27,7 +27,7 @@ module _ (book : Book) (site caller page : List ℕ) (rev : ℕ) (edits : List E
       ≡ edited kept.page.tree (edited_all kept.page.tree.trees edits) (renewed book site caller page s.counter kept.judgements)
   edit_at =
       let next = edited kept.page.tree (edited_all kept.page.tree.trees edits) (renewed book site caller page s.counter kept.judgements) in
-      ap (λ b. unless b (refusal.PageLimit limit.Revisions) (current rev (Some kept) next)) more ∙ current_is rev (Some kept) next same
+      ap (λ b. unless b (refusal.PageLimit limit.Revisions) (current rev kept.page.head.rev next)) more ∙ current_is rev kept.page.head.rev next same
 
   pub edit_is : (tree : Document) → edited_all kept.page.tree.trees edits ≡ Ok tree.trees → tree ≡ with_trees kept.page.tree tree.trees
       → edit_page book site caller page rev edits s kept ≡ renewed book site caller page s.counter kept.judgements tree

@@ -17,6 +17,7 @@ use Rattle.web_address.specs.Address.{IsWebAddress}
 use Rattle.named_rows.specs.ByName.{IsInOrder}
 use Rattle.named_rows.proofs.Lookups.{all_put, all_take}
 use Rattle.named_rows.proofs.Order.{in_order_none, in_order_put, in_order_take}
+use Rattle.keep_core.specs.declared.page.Page.{Page}
 use Rattle.keep_core.specs.declared.member.Member.{Member}
 use Rattle.keep_core.specs.declared.member.MemberRole.{MemberRole}
 use Rattle.keep_core.specs.declared.site.Site.{Site}
@@ -99,12 +100,12 @@ one_fits site counter put named within fits = record {
   distinct = AllPairs-cons Apart put [] (All-nil (Apart put)) (λ i j d lt lies. absurd (omega arith));
 }
 
-pub put_page_fits : (book : Book) (site caller page : List ℕ) (rev : ℕ) (raw : Raw) (s : Site) (kept : Option PageState) (pages : ℕ)
-    → IsTrue (is_name site) → IsTrue (is_name page) → IsWebAddress raw.address → Brings IfAnyFits (put_page book site caller page rev raw s kept pages)
-put_page_fits book site caller page rev raw s kept pages named page_named address =
-    put_page_brings IfAnyFits book site caller page rev raw s kept pages (λ room more same well.
+pub put_page_fits : (book : Book) (site caller page : List ℕ) (rev : ℕ) (raw : Raw) (s : Site) (there : Option ℕ) (js : List Judgement) (pages : ℕ)
+    → IsTrue (is_name site) → IsTrue (is_name page) → IsWebAddress raw.address → Brings IfAnyFits (put_page book site caller page rev raw s there js pages)
+put_page_fits book site caller page rev raw s there js pages named page_named address =
+    put_page_brings IfAnyFits book site caller page rev raw s there js pages (λ room more same well.
     let within = has_revisions_le s.counter 1 more in
-    one_fits site (s.counter + 1) _ named within (page_fits book page (s.counter + 1) caller (page_of raw) (judged kept) page_named within address))
+    one_fits site (s.counter + 1) _ named within (page_fits book page (s.counter + 1) caller (page_of raw) js page_named within address))
 
 pub edit_page_fits : (book : Book) (site caller page : List ℕ) (rev : ℕ) (edits : List Edit) (s : Site) (kept : PageState)
     → IsTrue (is_name site) → IsTrue (is_name page) → FitsPage kept.page → Brings IfAnyFits (edit_page book site caller page rev edits s kept)
@@ -113,7 +114,7 @@ edit_page_fits book site caller page rev edits s kept named page_named fits =
     let within = has_revisions_le s.counter 1 more in
     one_fits site (s.counter + 1) _ named within (page_fits book page (s.counter + 1) caller (with_trees kept.page.tree t) kept.judgements page_named within fits.address))
 
-pub drop_page_fits : (site page : List ℕ) (rev : ℕ) (kept : PageState) → IsTrue (is_name site) → IsTrue (is_name page) → Brings IfAnyFits (drop_page site page rev kept)
+pub drop_page_fits : (site page : List ℕ) (rev : ℕ) (kept : Page) → IsTrue (is_name site) → IsTrue (is_name page) → Brings IfAnyFits (drop_page site page rev kept)
 drop_page_fits site page rev kept named page_named = drop_page_brings IfAnyFits site page rev kept (λ _. (named, page_named))
 
 pub judge_fits : (book : Book) (site caller page : List ℕ) (rule : RuleNo) (node : NodeId) (verdict : Auto) (seen note : List ℕ) (kept : PageState)

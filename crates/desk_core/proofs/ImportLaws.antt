@@ -31,7 +31,7 @@ use Rattle.desk_core.specs.declared.reply.Stored.{Stored}
 use Rattle.desk_core.specs.declared.reply.Reply.TheVariants as reply
 use Rattle.desk_core.specs.Refusals.{Decision, unless, unless_refused}
 use Rattle.desk_core.specs.State.{PageState, SiteState, page_state, page_at}
-use Rattle.desk_core.specs.Pages.{judged, rev_of, has_room_for, has_revisions, built, page_put, stored}
+use Rattle.desk_core.specs.Pages.{revision_in, judged, rev_of, has_room_for, has_revisions, built, page_put, stored}
 use Rattle.desk_core.specs.Imports.{new_pages, first_stale, first_fault, puts, import}
 use Rattle.desk_core.specs.Costs.{import_judgings}
 use Rattle.desk_core.specs.Placing.{placed, head_name, current_in, read_place, entries_of, new_among, current_of, is_stale, stale_of, stale_among, heads_from, work_of, put_of, puts_by, storing_all, import_placed, PlacesSome, Places}
@@ -49,10 +49,13 @@ rev_by : (o : Option KeptPage) → option_map (λ (p : PageState). p.page.head.r
 rev_by None = refl
 rev_by (Some p) = refl
 
-current_read : (page : List ℕ) (pages : List KeptPage) → option_map (λ (p : PageState). p.page.head.rev) (page_at page (map page_state pages)) ≡ current_in (map (λ (p : KeptPage). p.page.head) pages) page
-current_read page pages =
-    ap (option_map (λ (p : PageState). p.page.head.rev)) (page_seen page pages)
-    ∙ (rev_by (at page_name page pages) ∙ sym (ap (option_map (λ (h : PageHead). h.rev)) (at_map page_name head_name (λ (p : KeptPage). p.page.head) (λ _. refl) page pages)))
+-- the revision of a page that is kept stands among the heads
+pub current_kept : (page : List ℕ) (pages : List KeptPage) → revision_in (option_map page_state (at page_name page pages)) ≡ current_in (map (λ (p : KeptPage). p.page.head) pages) page
+current_kept page pages =
+    rev_by (at page_name page pages) ∙ sym (ap (option_map (λ (h : PageHead). h.rev)) (at_map page_name head_name (λ (p : KeptPage). p.page.head) (λ _. refl) page pages))
+
+current_read : (page : List ℕ) (pages : List KeptPage) → revision_in (page_at page (map page_state pages)) ≡ current_in (map (λ (p : KeptPage). p.page.head) pages) page
+current_read page pages = ap revision_in (page_seen page pages) ∙ current_kept page pages
 
 place_with : Entry → Option ℕ → List Judgement → Placed
 place_with e current js = record { entry = e; current = current; judgements = js }
@@ -107,10 +110,6 @@ module _ (pages : List PageState) where
       ∙ (ap (λ b. cond b 1 0 + new_among others) (new_by here)
       ∙ (ap (λ n. cond (is_none here) 1 0 + n) (new_placed entries) ∙ sym (sum_by-cons (λ (d : Entry). cond (is_none (page_at d.page pages)) 1 0) e entries)))
 
-  current_placed : (o : Option PageState) → option_map_or (λ (rev : ℕ). rev) (option_map (λ (p : PageState). p.page.head.rev) o) 0 ≡ rev_of o
-  current_placed None = refl
-  current_placed (Some p) = refl
-
   stale_by : (e : Entry) (all : List Placed) (rest : Option Refusal) (current : ℕ) (w : Placed) → w.entry ≡ e → current_of w ≡ current → (same : Bool) → (e.rev == current) ≡ same
       → stale_among all ≡ rest → stale_among (w ∷ all) ≡ (if e.rev == current then rest else Some (refusal.StaleRevision current (Some e.page)))
   stale_by e all rest current w is now true same follows =
@@ -125,7 +124,7 @@ module _ (pages : List PageState) where
   stale_placed : (entries : List Entry) → stale_among (map (placed pages) entries) ≡ first_stale pages entries
   stale_placed [] = refl
   stale_placed (e ∷ entries) =
-      stale_by e (map (placed pages) entries) (first_stale pages entries) (rev_of (page_at e.page pages)) (placed pages e) refl (current_placed (page_at e.page pages))
+      stale_by e (map (placed pages) entries) (first_stale pages entries) (rev_of (page_at e.page pages)) (placed pages e) refl refl
       (e.rev == rev_of (page_at e.page pages)) refl (stale_placed entries)
 
   puts_placed : (book : Book) (caller : List ℕ) (counter : ℕ) (entries : List Entry)

@@ -26,7 +26,7 @@ use Rattle.desk_core.specs.declared.decided.Decided.{Decided}
 use Rattle.desk_core.specs.declared.refusal.Needed.TheVariants as needed
 use Rattle.desk_core.specs.Refusals.{Decision}
 use Rattle.desk_core.specs.State.{PageState, page_state, site_state, state_of, page_at, site_at}
-use Rattle.desk_core.specs.Pages.{judged, has_room, page_put, edit_page, drop_page}
+use Rattle.desk_core.specs.Pages.{revision_in, judged, has_room, page_put, edit_page, drop_page}
 use Rattle.desk_core.specs.Imports.{puts}
 use Rattle.desk_core.specs.Judging.{judge}
 use Rattle.desk_core.specs.Steps.{Request, site_of, decision, decided}
@@ -56,7 +56,7 @@ module _ (book : Book) (t : Tables) (fit : FitTables t) where
       put_page_fits book site caller page rev raw k.site (page_at page (map page_state k.pages)) (length (map page_state k.pages)) named parts.seen.named parts.web)
   fits_by caller (command.DropPage site page rev) user named parts =
       entering_kept IfAnyFits t needed.Editor caller site _ (λ k is may.
-      on_page_kept IfAnyFits t page k (drop_page site page rev) (λ p found. drop_page_fits site page rev (page_state p) named parts.named))
+      on_page_kept IfAnyFits t page k (λ (q : PageState). drop_page site page rev q.page) (λ p found. drop_page_fits site page rev p.page named parts.named))
   fits_by caller (command.Import site entries) user named parts =
       entering_kept IfAnyFits t needed.Editor caller site _ (λ k is may. import_fits book site caller entries (site_state k) named parts)
   fits_by caller (command.EditPage site page rev edits) user named parts =
@@ -110,7 +110,7 @@ module _ (book : Book) (t : Tables) (sound : IsSound book t) where
   PutKeeps site k put = FitsPages site (k.site.counter + 1) (put ∷ []) → IsSound book (changed (PutPages site (k.site.counter + 1) (put ∷ [])) t)
 
   put_keeps : (site caller page : List ℕ) (tree : Document) (k : KeptSite) → kept_site site t ≡ Some k → IsWell tree.trees
-      → has_room (kept_page page k) (length (map page_state k.pages)) ≡ true → PutKeeps site k (next_put caller page tree k (judged (kept_page page k)))
+      → has_room (revision_in (kept_page page k)) (length (map page_state k.pages)) ≡ true → PutKeeps site k (next_put caller page tree k (judged (kept_page page k)))
   put_keeps site caller page tree k is well room = λ fit.
       let rev = k.site.counter + 1 in
       let put = next_put caller page tree k (judged (kept_page page k)) in
@@ -126,7 +126,7 @@ module _ (book : Book) (t : Tables) (sound : IsSound book t) where
       let there : kept_page page k ≡ Some (page_state p) = page_seen page k.pages ∙ ap (option_map page_state) found in
       subst (λ js. PutKeeps site k (next_put caller page tree k js)) (ap judged there)
       (put_keeps site caller page tree k is well
-      (ap (λ o. has_room o (length (map page_state k.pages))) there ∙ room_there (length (map page_state k.pages)) k.pages (length-map k.pages page_state) (kept_sound book t sound site k is).few))
+      (ap (λ o. has_room (revision_in o) (length (map page_state k.pages))) there ∙ room_there (length (map page_state k.pages)) k.pages (length-map k.pages page_state) (kept_sound book t sound site k is).few))
 
   keeps_by : (caller : List ℕ) (c : Command) → IsTrue (is_name caller) → IsTrue (is_name (site_of c)) → FitsParts book c
       → Brings Owes (decision book caller c (site_at (site_of c) (state_of t)))
@@ -137,11 +137,11 @@ module _ (book : Book) (t : Tables) (sound : IsSound book t) where
       put_member_brings Owes site caller user held k.site (λ other _. member_sound book t sound site caller user held k named parts is may other))
   keeps_by caller (command.PutPage site page rev raw) user named parts =
       entering_kept Owes t needed.Editor caller site _ (λ k is may.
-      put_page_brings Owes book site caller page rev raw k.site (kept_page page k) (length (map page_state k.pages)) (λ room more same none.
+      put_page_brings Owes book site caller page rev raw k.site (revision_in (kept_page page k)) (judged (kept_page page k)) (length (map page_state k.pages)) (λ room more same none.
       put_keeps site caller page (page_of raw) k is (well_from_sound raw.rows none) room))
   keeps_by caller (command.DropPage site page rev) user named parts =
       entering_kept Owes t needed.Editor caller site _ (λ k is may.
-      on_page_kept Owes t page k (drop_page site page rev) (λ p found. drop_page_brings Owes site page rev (page_state p) (λ _ _. drop_sound book t sound site page k is)))
+      on_page_kept Owes t page k (λ (q : PageState). drop_page site page rev q.page) (λ p found. drop_page_brings Owes site page rev p.page (λ _ _. drop_sound book t sound site page k is)))
   keeps_by caller (command.Import site entries) user named parts =
       entering_kept Owes t needed.Editor caller site _ (λ k is may.
       import_brings Owes book site caller entries (site_state k) (λ room more fresh none fit.

@@ -18,7 +18,7 @@ use Rattle.desk_core.specs.Refusals.{Decision, on}
 use Rattle.desk_core.specs.State.{PageState, SiteState, page_state, site_state, state_of, page_at, site_at}
 use Rattle.desk_core.specs.Rights.{may, role_of, entering, on_page}
 use Rattle.desk_core.specs.Members.{put_site}
-use Rattle.desk_core.specs.Pages.{edit_page, drop_page}
+use Rattle.desk_core.specs.Pages.{revision_in, judged, edit_page, drop_page}
 use Rattle.desk_core.specs.Judging.{judge}
 use Rattle.desk_core.specs.Reading.{answered}
 use Rattle.desk_core.specs.Steps.{Request, site_of, read_page, read_site, decision, decided}
@@ -81,10 +81,10 @@ module _ (t : Tables) where
       entering_kept (IfAnyIsThere t) t needed.Owner caller site _ (λ k is may. put_member_brings (IfAnyIsThere t) site caller user held k.site (λ _. tt))
   there_by book caller (command.PutPage site page rev raw) =
       entering_kept (IfAnyIsThere t) t needed.Editor caller site _ (λ k is may.
-      put_page_brings (IfAnyIsThere t) book site caller page rev raw k.site (page_at page (map page_state k.pages)) (length (map page_state k.pages)) (λ _ _ _ _. site_there site k is))
+      put_page_brings (IfAnyIsThere t) book site caller page rev raw k.site (revision_in (page_at page (map page_state k.pages))) (judged (page_at page (map page_state k.pages))) (length (map page_state k.pages)) (λ _ _ _ _. site_there site k is))
   there_by book caller (command.DropPage site page rev) =
       entering_kept (IfAnyIsThere t) t needed.Editor caller site _ (λ k is may.
-      on_page_kept (IfAnyIsThere t) t page k (drop_page site page rev) (λ p found. drop_page_brings (IfAnyIsThere t) site page rev (page_state p) (λ _. tt)))
+      on_page_kept (IfAnyIsThere t) t page k (λ (q : PageState). drop_page site page rev q.page) (λ p found. drop_page_brings (IfAnyIsThere t) site page rev p.page (λ _. tt)))
   there_by book caller (command.Import site entries) =
       entering_kept (IfAnyIsThere t) t needed.Editor caller site _ (λ k is may.
       import_brings (IfAnyIsThere t) book site caller entries (site_state k) (λ _ _ _ _. site_there site k is))

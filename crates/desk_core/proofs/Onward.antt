@@ -5,6 +5,7 @@ use Rattle.counts.proofs.CountLaws.{rose_after}
 use Rattle.rule_core.specs.Books.{Book}
 use Rattle.keep_core.specs.declared.change.Change.{Change}
 use Rattle.keep_core.specs.declared.site.Site.{Site}
+use Rattle.keep_core.specs.declared.page.Page.{Page}
 use Rattle.keep_core.specs.Tables.{Tables, pages_of, site_of}
 use Rattle.keep_core.specs.Fits.{Fits, FitsSite, IsThere}
 use Rattle.desk_core.specs.declared.decided.Decided.{Decided}
@@ -12,11 +13,13 @@ use Rattle.desk_core.specs.declared.refusal.Needed.{Needed}
 use Rattle.desk_core.specs.declared.refusal.Needed.TheVariants.{Editor}
 use Rattle.desk_core.specs.declared.refusal.Refusal.{Refusal}
 use Rattle.desk_core.specs.declared.refusal.Refusal.TheVariants as refusal
+use Rattle.judge_core.specs.declared.judgement.Judgement.{Judgement}
 use Rattle.desk_core.specs.Refusals.{Decision}
+use Rattle.desk_core.specs.Pages.{revision_in, judged}
 use Rattle.desk_core.specs.State.{PageState, page_state, site_state, state_of, site_at, page_at}
 use Rattle.desk_core.specs.Rights.{entering, on_page}
 use Rattle.desk_core.specs.Steps.{Request, decided}
-use Rattle.desk_core.specs.Serving.{Stands, Agrees, Accepts, IsFirm, Admits, OnlyReads, IsIn, Enters, Finds, Decides, page_in}
+use Rattle.desk_core.specs.Serving.{Stands, Agrees, Accepts, IsFirm, Admits, OnlyReads, IsIn, Enters, Finds, FindsPage, Decides, page_in}
 use Rattle.desk_core.proofs.Deciding.{Brings, brought}
 use Rattle.desk_core.proofs.Fitted.{IfAnyFits}
 use Rattle.desk_core.proofs.Accepting.{accepted_by}
@@ -162,13 +165,42 @@ module _ (book : Book) (request : Request) (leave : Needed) (site page : List �
     firm = tt;
   }
 
+module _ (book : Book) (request : Request) (leave : Needed) (site page : List ℕ) (next : Page → Decision)
+    (is : (t : Tables) → decided book request (state_of t) ≡ entering leave request.caller (site_at site (state_of t)) (λ s. on_page page s (λ p. next p.page))) where
+  -- a request about a page alone that was found is decided
+  pub decides_page : (old new : Option Tables) (before now : ℕ) (found : Page) (result : Result Decided Refusal)
+      → FindsPage leave request.caller site page old new before now (Ok found) → Agrees ⊥ result (next found) → Brings IfAnyFits (next found) → Accepts (next found)
+      → Decides book request old new before now result
+  decides_page old new before now found result finds agrees brings accepts =
+      decides_by book request old new before now (let r : Result Page Refusal = Ok found in r) result (next found) finds.reads agrees brings accepts
+      (λ t told.
+      let f = finds.found t told in
+      is t ∙ followed leave request.caller site page t f.0 (Some (record { page = found; judgements = f.1 })) (λ s p. next p.page) (next found) f.2 f.3 (λ k kept same. refl))
+
+  -- and one about a page that wasn't is refused
+  pub decides_no_page : (old new : Option Tables) (before now : ℕ) (r : Refusal) → FindsPage leave request.caller site page old new before now (Err r)
+      → Decides book request old new before now (Err r)
+  decides_no_page old new before now r finds = record {
+    reads = read_as old new before now r finds.reads;
+    agrees = λ t told sound. subst (Stands (Unit {0}) r) (sym (is t)) (finds.refused t told (λ s p. next p.page));
+    fits = tt;
+    there = tt;
+    accepted = tt;
+    firm = tt;
+  }
+
 -- what is decided on putting a page is that by what was found before
-pub surveyed : (caller site page : List ℕ) (t : Tables) (found : Site) (kept : Option PageState) (count : ℕ) (next : Site → Option PageState → ℕ → Decision)
-    → IsIn Editor caller site found t → page_in site page t ≡ kept → length (pages_of site t) ≡ count
-    → entering Editor caller (site_at site (state_of t)) (λ s. next s.site (page_at page s.pages) (length s.pages)) ≡ next found kept count
-surveyed caller site page t found kept count next is there many =
-    entered Editor caller site t found (λ s. next s.site (page_at page s.pages) (length s.pages)) (next found kept count) is
+pub surveyed : (caller site page : List ℕ) (t : Tables) (found : Site) (there : Option ℕ) (js : List Judgement) (count : ℕ)
+    (next : Site → Option ℕ → List Judgement → ℕ → Decision) → IsIn Editor caller site found t → revision_in (page_in site page t) ≡ there
+    → judged (page_in site page t) ≡ js → length (pages_of site t) ≡ count
+    → entering Editor caller (site_at site (state_of t)) (λ s. next s.site (revision_in (page_at page s.pages)) (judged (page_at page s.pages)) (length s.pages))
+    ≡ next found there js count
+surveyed caller site page t found there js count next is by under many =
+    entered Editor caller site t found (λ s. next s.site (revision_in (page_at page s.pages)) (judged (page_at page s.pages)) (length s.pages)) (next found there js count) is
     (λ k has same.
-    ap (λ (s : Site). next s (page_at page (site_state k).pages) (length (site_state k).pages)) same
-    ∙ (ap (λ (o : Option PageState). next found o (length (site_state k).pages)) (page_is site page t k has ∙ there)
-    ∙ ap (λ n. next found kept n) (length-map k.pages page_state ∙ (ap length (sym (pages_are site t k has)) ∙ many))))
+    let pages = (site_state k).pages in
+    ap (λ (s : Site). next s (revision_in (page_at page pages)) (judged (page_at page pages)) (length pages)) same
+    ∙ (ap (λ (o : Option PageState). next found (revision_in o) (judged o) (length pages)) (page_is site page t k has)
+    ∙ (ap (λ (o : Option ℕ). next found o (judged (page_in site page t)) (length pages)) by
+    ∙ (ap (λ (l : List Judgement). next found there l (length pages)) under
+    ∙ ap (λ n. next found there js n) (length-map k.pages page_state ∙ (ap length (sym (pages_are site t k has)) ∙ many))))))

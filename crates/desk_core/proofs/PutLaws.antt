@@ -12,28 +12,28 @@ use Rattle.desk_core.specs.declared.refusal.Limit.TheVariants as limit
 use Rattle.desk_core.specs.declared.refusal.Refusal.{Refusal}
 use Rattle.desk_core.specs.declared.refusal.Refusal.TheVariants as refusal
 use Rattle.desk_core.specs.Refusals.{Decision, unless, unless_refused}
-use Rattle.desk_core.specs.State.{PageState}
-use Rattle.desk_core.specs.Pages.{rev_of, judged, has_room, has_revisions, current, built, renewed, put_page}
+use Rattle.judge_core.specs.declared.judgement.Judgement.{Judgement}
+use Rattle.desk_core.specs.Pages.{due, has_room, has_revisions, current, built, renewed, put_page}
 use Rattle.desk_core.specs.Serving.{Stands}
 
-pub current_is : (rev : ℕ) (kept : Option PageState) (next : Decision) → rev ≡ rev_of kept → current rev kept next ≡ next
-current_is rev kept next is = ap (λ b. unless b (refusal.StaleRevision (rev_of kept) None) next) (eq-eqb rev (rev_of kept) is)
+pub current_is : (rev now : ℕ) (next : Decision) → rev ≡ now → current rev now next ≡ next
+current_is rev now next is = ap (λ b. unless b (refusal.StaleRevision now None) next) (eq-eqb rev now is)
 
 pub built_is : (page : Option (List ℕ)) (raw : Raw) (next : Document → Decision) (tree : Document) → tree ≡ page_of raw → tree_fault raw.rows ≡ None → built page raw next ≡ next tree
 built_is page raw next tree is none =
     ap (λ (o : Option TreeFault). unless_refused (option_map_or (λ fault. Some (refusal.TreeFault fault page)) o None) (next (page_of raw))) none ∙ ap next (sym is)
 
-module _ (book : Book) (site caller page : List ℕ) (rev : ℕ) (raw : Raw) (s : Site) (kept : Option PageState) (pages : ℕ)
-    (room : has_room kept pages ≡ true) (more : has_revisions s.counter 1 ≡ true) (same : rev ≡ rev_of kept) where
-  put_at : put_page book site caller page rev raw s kept pages ≡ built None raw (renewed book site caller page s.counter (judged kept))
+module _ (book : Book) (site caller page : List ℕ) (rev : ℕ) (raw : Raw) (s : Site) (there : Option ℕ) (js : List Judgement) (pages : ℕ)
+    (room : has_room there pages ≡ true) (more : has_revisions s.counter 1 ≡ true) (same : rev ≡ due there) where
+  put_at : put_page book site caller page rev raw s there js pages ≡ built None raw (renewed book site caller page s.counter js)
   put_at =
-      let next = built None raw (renewed book site caller page s.counter (judged kept)) in
-      ap (λ b. unless b (refusal.PageLimit limit.Pages) (unless (has_revisions s.counter 1) (refusal.PageLimit limit.Revisions) (current rev kept next))) room
-      ∙ (ap (λ b. unless b (refusal.PageLimit limit.Revisions) (current rev kept next)) more ∙ current_is rev kept next same)
+      let next = built None raw (renewed book site caller page s.counter js) in
+      ap (λ b. unless b (refusal.PageLimit limit.Pages) (unless (has_revisions s.counter 1) (refusal.PageLimit limit.Revisions) (current rev (due there) next))) room
+      ∙ (ap (λ b. unless b (refusal.PageLimit limit.Revisions) (current rev (due there) next)) more ∙ current_is rev (due there) next same)
 
   pub put_is : (tree : Document) → tree ≡ page_of raw → tree_fault raw.rows ≡ None
-      → put_page book site caller page rev raw s kept pages ≡ renewed book site caller page s.counter (judged kept) tree
-  put_is tree is none = put_at ∙ built_is None raw (renewed book site caller page s.counter (judged kept)) tree is none
+      → put_page book site caller page rev raw s there js pages ≡ renewed book site caller page s.counter js tree
+  put_is tree is none = put_at ∙ built_is None raw (renewed book site caller page s.counter js) tree is none
 
-  pub put_refused : (r : Refusal) → Stands ⊥ r (built None raw (renewed book site caller page s.counter (judged kept))) → Stands ⊥ r (put_page book site caller page rev raw s kept pages)
+  pub put_refused : (r : Refusal) → Stands ⊥ r (built None raw (renewed book site caller page s.counter js)) → Stands ⊥ r (put_page book site caller page rev raw s there js pages)
   put_refused r stands = subst (Stands ⊥ r) (sym put_at) stands

@@ -31,7 +31,7 @@ use Rattle.desk_core.specs.Refusals.{Decision, unless, on, unless_refused}
 use Rattle.desk_core.specs.State.{PageState, SiteState, page_state, site_state, state_of, page_at, site_at}
 use Rattle.desk_core.specs.Rights.{may, role_of, entering}
 use Rattle.desk_core.specs.Members.{new_site, put_site}
-use Rattle.desk_core.specs.Pages.{rev_of, judged, has_room, has_room_for, has_revisions, page_put, edit_page, drop_page}
+use Rattle.desk_core.specs.Pages.{revision_in, rev_of, judged, has_room, has_room_for, has_revisions, page_put, edit_page, drop_page}
 use Rattle.desk_core.specs.Imports.{new_pages, first_stale, puts}
 use Rattle.desk_core.specs.Changes.{after}
 use Rattle.desk_core.specs.Steps.{Request, site_of, decision, decided}
@@ -126,12 +126,12 @@ module _ (book : Book) (t : Tables) (sound : IsSound book t) (caller : List ℕ)
           let row = put_over k.pages put in
           let found : at page_name page (f k).pages ≡ Some row = subst (λ n. at page_name n (put_row page_name row k.pages) ≡ Some row) named (at_put page_name row k.pages) in
           let there : page_at page (map page_state (f k).pages) ≡ Some (page_state row) = page_seen page (f k).pages ∙ ap (option_map page_state) found in
-          let room : has_room (page_at page (map page_state (f k).pages)) (length (map page_state (f k).pages)) ≡ true =
-          ap (λ o. has_room o (length (map page_state (f k).pages))) there
+          let room : has_room (revision_in (page_at page (map page_state (f k).pages))) (length (map page_state (f k).pages)) ≡ true =
+          ap (λ o. has_room (revision_in o) (length (map page_state (f k).pages))) there
           ∙ room_there (length (map page_state (f k).pages)) (f k).pages (length-map (f k).pages page_state)
           (kept_sound book (changed (PutPages site (k.site.counter + 1) (put ∷ [])) t) sound' site (f k) (kept_then site k f (λ _. refl) is)).few in
           enters IsBehind needed.Editor caller _ _ (site_state (f k)) (there_then site k f (λ _. refl) is) allows
-          (unless_refuses IsBehind (has_room (page_at page (map page_state (f k).pages)) (length (map page_state (f k).pages))) (refusal.PageLimit limit.Pages) _ (λ full. let no : true ≡ false = sym room ∙ full in cc) (λ _.
+          (unless_refuses IsBehind (has_room (revision_in (page_at page (map page_state (f k).pages))) (length (map page_state (f k).pages))) (refusal.PageLimit limit.Pages) _ (λ full. let no : true ≡ false = sym room ∙ full in cc) (λ _.
           unless_refuses IsBehind (has_revisions (f k).site.counter 1) (refusal.PageLimit limit.Revisions) _ (λ _. tt) (λ _.
           unless_refuses IsBehind (sent == rev_at page (f k).pages) (refusal.StaleRevision (rev_at page (f k).pages) None) _ (λ _. tt) (λ now.
           absurd (stale_then book t sound caller site page k is put named rev sent was (f k) (kept_then site k f (λ _. refl) is) now)))))
@@ -185,12 +185,12 @@ module _ (book : Book) (t : Tables) (sound : IsSound book t) (caller : List ℕ)
   refused_by (command.PutPage site page rev raw) once parts =
       let P = After (command.PutPage site page rev raw) in
       entering_kept P t needed.Editor caller site _ (λ k is allows.
-      put_page_brings P book site caller page rev raw k.site (page_at page (map page_state k.pages)) (length (map page_state k.pages)) (λ _ _ was _.
+      put_page_brings P book site caller page rev raw k.site (revision_in (page_at page (map page_state k.pages))) (judged (page_at page (map page_state k.pages))) (length (map page_state k.pages)) (λ _ _ was _.
       put_refused site page k is (page_put book page (k.site.counter + 1) caller (page_of raw) (judged (page_at page (map page_state k.pages)))) refl refl rev was allows raw))
   refused_by (command.DropPage site page rev) once parts =
       let P = After (command.DropPage site page rev) in
       entering_kept P t needed.Editor caller site _ (λ k is allows.
-      on_page_kept P t page k (drop_page site page rev) (λ p found. drop_page_brings P site page rev (page_state p) (λ _. drop_refused site page k is rev allows)))
+      on_page_kept P t page k (λ (q : PageState). drop_page site page rev q.page) (λ p found. drop_page_brings P site page rev p.page (λ _. drop_refused site page k is rev allows)))
   refused_by (command.Import site entries) once parts =
       let P = After (command.Import site entries) in
       entering_kept P t needed.Editor caller site _ (λ k is allows.

@@ -29,7 +29,7 @@ use Rattle.desk_core.specs.declared.reply.Reply.{Reply}
 use Rattle.desk_core.specs.Refusals.{Decision}
 use Rattle.desk_core.specs.State.{PageState, SiteState, State, page_state, site_state, state_of, page_at, site_at}
 use Rattle.desk_core.specs.Members.{new_site, site_with, members_with}
-use Rattle.desk_core.specs.Pages.{rev_of, judged, page_put, edit_page, drop_page}
+use Rattle.desk_core.specs.Pages.{revision_in, rev_of, judged, page_put, edit_page, drop_page}
 use Rattle.desk_core.specs.Imports.{puts, first_stale}
 use Rattle.desk_core.specs.Judging.{judge}
 use Rattle.desk_core.specs.Changes.{after}
@@ -133,12 +133,12 @@ module _ (book : Book) (t : Tables) (sound : IsSound book t) (caller n : List �
       by_rows site (Some (PutSite new)) (Some k) (Some row) is (at_put site_name row t) (record { counter = omega arith; revision = inl (ap (λ o. rev_at n (pages_in o)) is) })))
   rises_by (command.PutPage site page rev raw) =
       entering_kept (RisesBy site) t needed.Editor caller site _ (λ k is _.
-      put_page_brings (RisesBy site) book site caller page rev raw k.site (page_at page (map page_state k.pages)) (length (map page_state k.pages)) (λ _ _ _ _.
+      put_page_brings (RisesBy site) book site caller page rev raw k.site (revision_in (page_at page (map page_state k.pages))) (judged (page_at page (map page_state k.pages))) (length (map page_state k.pages)) (λ _ _ _ _.
       put_rises site k (page_put book page (k.site.counter + 1) caller (page_of raw) (judged (page_at page (map page_state k.pages)))) is refl))
   rises_by (command.DropPage site page rev) =
       entering_kept (RisesBy site) t needed.Editor caller site _ (λ k is _.
-      on_page_kept (RisesBy site) t page k (drop_page site page rev) (λ p _.
-      drop_page_brings (RisesBy site) site page rev (page_state p) (λ _.
+      on_page_kept (RisesBy site) t page k (λ (q : PageState). drop_page site page rev q.page) (λ p _.
+      drop_page_brings (RisesBy site) site page rev p.page (λ _.
       by_rows site (Some (DropPage site page)) (Some k) (Some (without_page page k)) is (found site k (without_page page) (λ _. refl) is)
       (record { counter = omega arith; revision = take_moves k.site.counter n page k.pages (kept_fits book t sound site k is).in_order (same_or_other n page) }))))
   rises_by (command.Import site entries) =
@@ -250,12 +250,12 @@ module _ (book : Book) (caller page : List ℕ) (rev : ℕ) where
   current_by (command.PutMember site user held) kept carries = absurd carries
   current_by (command.PutPage site p sent raw) kept carries =
       entering_brings (Current kept) needed.Editor caller kept _ (λ s is _.
-      put_page_brings (Current kept) book site caller p sent raw s.site (page_at p s.pages) (length s.pages) (λ _ _ same _.
+      put_page_brings (Current kept) book site caller p sent raw s.site (revision_in (page_at p s.pages)) (judged (page_at p s.pages)) (length s.pages) (λ _ _ same _.
       carried sent p s kept is carries (equal_by sent (rev_of (page_at p s.pages)) same)))
   current_by (command.DropPage site p sent) kept carries =
       entering_brings (Current kept) needed.Editor caller kept _ (λ s is _.
-      on_page_brings (Current kept) p s (drop_page site p sent) (λ q found.
-      drop_page_brings (Current kept) site p sent q (λ same. carried sent p s kept is carries (equal_by sent q.page.head.rev same ∙ sym (ap rev_of found)))))
+      on_page_brings (Current kept) p s (λ (q : PageState). drop_page site p sent q.page) (λ q found.
+      drop_page_brings (Current kept) site p sent q.page (λ same. carried sent p s kept is carries (equal_by sent q.page.head.rev same ∙ sym (ap rev_of found)))))
   current_by (command.Import site entries) kept carries =
       entering_brings (Current kept) needed.Editor caller kept _ (λ s is _.
       import_brings (Current kept) book site caller entries s (λ _ _ fresh _. each_fresh s.pages entries page rev fresh carries ∙ sym (ap (revision_of page) is)))
@@ -310,7 +310,7 @@ module _ (book : Book) (t : Tables) (sound : IsSound book t) (caller page : List
   newer_by_put (command.PutMember site user held) puts = absurd puts
   newer_by_put (command.PutPage site p sent raw) puts =
       entering_kept (Newer site) t needed.Editor caller site _ (λ k is _.
-      put_page_brings (Newer site) book site caller p sent raw k.site (page_at p (map page_state k.pages)) (length (map page_state k.pages)) (λ _ _ _ _.
+      put_page_brings (Newer site) book site caller p sent raw k.site (revision_in (page_at p (map page_state k.pages))) (judged (page_at p (map page_state k.pages))) (length (map page_state k.pages)) (λ _ _ _ _.
       newer_put site k (page_put book p (k.site.counter + 1) caller (page_of raw) (judged (page_at p (map page_state k.pages)))) is puts.0 refl))
   newer_by_put (command.DropPage site p sent) puts = absurd puts
   newer_by_put (command.Import site entries) has =
@@ -343,8 +343,8 @@ module _ (book : Book) (t : Tables) (sound : IsSound book t) (caller page : List
   drop_renewed : (site p : List ℕ) (sent : ℕ) → p ≡ page → Brings (Renewed site) (decision book caller (command.DropPage site p sent) (site_at site (state_of t)))
   drop_renewed site p sent same =
       entering_kept (Renewed site) t needed.Editor caller site _ (λ k is _.
-      on_page_kept (Renewed site) t p k (drop_page site p sent) (λ q _.
-      drop_page_brings (Renewed site) site p sent (page_state q) (λ _.
+      on_page_kept (Renewed site) t p k (λ (q : PageState). drop_page site p sent q.page) (λ q _.
+      drop_page_brings (Renewed site) site p sent q.page (λ _.
       let t' = changed (DropPage site p) t in
       let new : site_at site (state_of t') ≡ Some (site_state (without_page p k)) =
       site_seen site t' ∙ ap (option_map site_state) (at_with_row site_name site (without_page p) (λ _ _. refl) t ∙ ap (option_map (without_page p)) is) in

@@ -14,7 +14,7 @@ use Rattle.desk_core.specs.declared.refusal.Needed.TheVariants as needed
 use Rattle.desk_core.specs.declared.reply.Reply.{Reply}
 use Rattle.desk_core.specs.Refusals.{Decision}
 use Rattle.desk_core.specs.State.{PageState, SiteState, State, page_name, site_name, page_at, site_at}
-use Rattle.desk_core.specs.Pages.{edit_page, drop_page}
+use Rattle.desk_core.specs.Pages.{revision_in, judged, edit_page, drop_page}
 use Rattle.desk_core.specs.Judging.{judge}
 use Rattle.desk_core.specs.Reading.{answered}
 use Rattle.desk_core.specs.Changes.{with_counter, with_pages, in_pages, with_judgement, changed, after}
@@ -52,10 +52,10 @@ names_by book caller (command.PutMember site user held) kept =
     entering_brings (Names site) needed.Owner caller kept _ (λ s _ _. put_member_brings (Names site) site caller user held s.site (λ _. refl))
 names_by book caller (command.PutPage site page rev raw) kept =
     entering_brings (Names site) needed.Editor caller kept _ (λ s _ _.
-    put_page_brings (Names site) book site caller page rev raw s.site (page_at page s.pages) (length s.pages) (λ _ _ _ _. refl))
+    put_page_brings (Names site) book site caller page rev raw s.site (revision_in (page_at page s.pages)) (judged (page_at page s.pages)) (length s.pages) (λ _ _ _ _. refl))
 names_by book caller (command.DropPage site page rev) kept =
     entering_brings (Names site) needed.Editor caller kept _ (λ s _ _.
-    on_page_brings (Names site) page s (drop_page site page rev) (λ p _. drop_page_brings (Names site) site page rev p (λ _. refl)))
+    on_page_brings (Names site) page s (λ (q : PageState). drop_page site page rev q.page) (λ p _. drop_page_brings (Names site) site page rev p.page (λ _. refl)))
 names_by book caller (command.Import site entries) kept =
     entering_brings (Names site) needed.Editor caller kept _ (λ s _ _. import_brings (Names site) book site caller entries s (λ _ _ _ _. refl))
 names_by book caller (command.EditPage site page rev edits) kept =

@@ -24,7 +24,7 @@ use Rattle.desk_core.specs.declared.limits.TheConstants.{MOST_PAGES}
 use Rattle.desk_core.specs.declared.refusal.Refusal.{Refusal}
 use Rattle.desk_core.specs.declared.refusal.Refusal.TheVariants as refusal
 use Rattle.desk_core.specs.State.{page_state, page_at}
-use Rattle.desk_core.specs.Pages.{judged, has_room, has_room_for, page_put}
+use Rattle.desk_core.specs.Pages.{revision_in, judged, has_room, has_room_for, page_put}
 use Rattle.desk_core.specs.Imports.{new_pages, first_fault, puts}
 use Rattle.desk_core.specs.Soundness.{rev_in, IsGiven, IsSoundPage}
 use Rattle.desk_core.proofs.Views.{page_seen, judged_seen, same_or_other}
@@ -97,7 +97,7 @@ puts_sound book caller orig cur counter (e ∷ entries) sound none =
 abbrev pub more : List ℕ → List KeptPage → ℕ
 more n pages = more_by page_name (at page_name n pages)
 
-room_by : (o : Option KeptPage) (pages : ℕ) → has_room (option_map page_state o) pages ≡ true → pages ≤ MOST_PAGES → pages + more_by page_name o ≤ MOST_PAGES
+room_by : (o : Option KeptPage) (pages : ℕ) → has_room (revision_in (option_map page_state o)) pages ≡ true → pages ≤ MOST_PAGES → pages + more_by page_name o ≤ MOST_PAGES
 unfolding more_by
 room_by None pages room few = grind (arith, nat_tests)
 room_by (Some p) pages room few = omega arith
@@ -107,11 +107,11 @@ pub room_there : (count : ℕ) (pages : List KeptPage) → count ≡ length page
 room_there count pages is few = grind (arith, nat_tests)
 
 -- a site that has room for a page has it still when the page is put
-pub one_few : (row : KeptPage) (pages : List KeptPage) (count : ℕ) → count ≡ length pages → has_room (page_at (page_name row) (map page_state pages)) count ≡ true → length pages ≤ MOST_PAGES
+pub one_few : (row : KeptPage) (pages : List KeptPage) (count : ℕ) → count ≡ length pages → has_room (revision_in (page_at (page_name row) (map page_state pages))) count ≡ true → length pages ≤ MOST_PAGES
     → length (put_row page_name row pages) ≤ MOST_PAGES
 one_few row pages count is room few =
     let within = room_by (at page_name (page_name row) pages) (length pages)
-    (sym (ap (has_room (option_map page_state (at page_name (page_name row) pages))) is) ∙ ap (λ o. has_room o count) (sym (page_seen (page_name row) pages)) ∙ room) few in
+    (sym (ap (has_room (revision_in (option_map page_state (at page_name (page_name row) pages)))) is) ∙ ap (λ o. has_room (revision_in o) count) (sym (page_seen (page_name row) pages)) ∙ room) few in
     omega (arith, length_put page_name row pages)
 
 none_more : (o : Option KeptPage) → more_by page_name o ≡ cond (is_none (option_map page_state o)) 1 0

@@ -39,7 +39,7 @@ page_seen n pages = at_map kept.page_name page_name page_state (λ _. refl) n pa
 pub site_seen : (n : List ℕ) (t : Tables) → site_at n (state_of t) ≡ option_map site_state (kept_site n t)
 site_seen n t = at_map kept.site_name site_name site_state (λ _. refl) n t
 
-judged_of : (o : Option KeptPage) → judged (option_map page_state o) ≡ judgements_in o
+pub judged_of : (o : Option KeptPage) → judged (option_map page_state o) ≡ judgements_in o
 judged_of None = refl
 judged_of (Some p) = refl
 

@@ -1,7 +1,10 @@
 -- What follows from what is read of the tables: of a site's row, and of a page.
 use Rattle.std.proofs.Common.{◌≡◌, ℕ, List, true, false, Option, Some, None, option_map, Err, refl, sym, ap, ◌∙◌}
 use Rattle.named_rows.specs.ByName.{at}
+use Rattle.judge_core.specs.declared.judgement.Judgement.{Judgement}
 use Rattle.keep_core.specs.declared.site.Site.{Site}
+use Rattle.keep_core.specs.declared.page.Page.{Page}
+use Rattle.keep_core.specs.declared.tables.KeptPage.{KeptPage}
 use Rattle.keep_core.specs.declared.tables.KeptSite.{KeptSite}
 use Rattle.keep_core.specs.Tables.{Tables, kept_site, kept_page, pages_in, pages_of, site_of, page_of, judgements_of, judgements_in}
 use Rattle.keep_core.specs.Tables as kept
@@ -76,3 +79,13 @@ pub followed : (leave : Needed) (caller name page : List ℕ) (t : Tables) (site
 followed leave caller name page t site found next decision is there follows =
     entered leave caller name t site (λ s. on_page page s (next s)) decision is
     (λ k kept same. ap (λ o. on o NoPage (next (site_state k))) (page_is name page t k kept ∙ there) ∙ follows k kept same)
+
+-- a page that is kept is a state's, with its judgements
+pub held : (o : Option KeptPage) (p : Page) → option_map (λ (k : KeptPage). k.page) o ≡ Some p
+    → (js : List Judgement) × (option_map page_state o ≡ Some (record { page = p; judgements = js }))
+held None p is = cc
+held (Some k) p is = (k.judgements, ap (λ (q : Page). let s : PageState = record { page = q; judgements = k.judgements } in Some s) (some_inside k.page p is))
+
+pub not_held : (o : Option KeptPage) → option_map (λ (k : KeptPage). k.page) o ≡ None → option_map page_state o ≡ None
+not_held None is = refl
+not_held (Some k) is = cc

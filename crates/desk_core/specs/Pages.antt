@@ -1,5 +1,5 @@
 -- Pages of a site: what is decided on putting, editing and dropping one.
-use Rattle.std.specs.Prelude.{ℕ, ◌+◌, List, [], ◌∷◌, ◌==◌, Bool, nat_le, if◌then◌else◌, Option, Some, None, is_none, Result, Ok, Err}
+use Rattle.std.specs.Prelude.{ℕ, ◌+◌, List, [], ◌∷◌, ◌==◌, Bool, nat_le, if◌then◌else◌, Option, Some, None, is_none, option_map, Result, Ok, Err}
 use Rattle.std.specs.Option.{option_map_or}
 use Rattle.snap_tree.specs.declared.row.Raw.{Raw}
 use Rattle.snap_tree.specs.Trees.{Trees, Document, with_trees}
@@ -9,11 +9,13 @@ use Rattle.snap_edit.specs.declared.edit.Edit.{Edit}
 use Rattle.snap_edit.specs.declared.fault.EditFault.{EditFault}
 use Rattle.snap_edit.specs.declared.fault.EditFault.TheVariants as edit
 use Rattle.snap_edit.specs.Edits.{edited_all}
+use Rattle.rule_core.specs.declared.info.RuleInfo.{RuleInfo}
 use Rattle.rule_core.specs.Books.{Book}
 use Rattle.judge_core.specs.declared.judgement.Judgement.{Judgement}
 use Rattle.judge_core.specs.Outcomes.{outcomes}
 use Rattle.keep_core.specs.declared.limits.TheConstants.{MOST_REVISION}
 use Rattle.keep_core.specs.declared.site.Site.{Site}
+use Rattle.keep_core.specs.declared.page.Page.{Page}
 use Rattle.keep_core.specs.declared.page.PagePut.{PagePut}
 use Rattle.keep_core.specs.declared.change.Change.TheVariants.{PutPages, DropPage}
 use Rattle.desk_core.specs.declared.limits.TheConstants.{MOST_PAGES}
@@ -25,11 +27,18 @@ use Rattle.desk_core.specs.Refusals.{Decision, unless, unless_refused}
 use Rattle.desk_core.specs.State.{PageState}
 use Rattle.desk_core.specs.Summaries.{summary}
 
--- a page's current revision: 0 for one that isn't there
-abbrev pub rev_of : Option PageState → ℕ
-rev_of kept = option_map_or (λ p. p.page.head.rev) kept 0
+-- the current revision of a page that is there
+abbrev pub revision_in : Option PageState → Option ℕ
+revision_in kept = option_map (λ p. p.page.head.rev) kept
 
--- its judgements: none for one that isn't there
+-- the revision that is to be sent with a page: 0 where none is there
+abbrev pub due : Option ℕ → ℕ
+due there = option_map_or (λ rev. rev) there 0
+
+abbrev pub rev_of : Option PageState → ℕ
+rev_of kept = due (revision_in kept)
+
+-- a page's judgements: none for one that isn't there
 abbrev pub judged : Option PageState → List Judgement
 judged kept = option_map_or (λ p. p.judgements) kept []
 
@@ -37,9 +46,9 @@ judged kept = option_map_or (λ p. p.judgements) kept []
 abbrev pub has_room_for : ℕ → ℕ → Bool
 has_room_for new pages = nat_le (pages + new) MOST_PAGES
 
--- a site with so many pages has room for this one, which is new where it isn't there
-abbrev pub has_room : Option PageState → ℕ → Bool
-has_room kept pages = has_room_for (if is_none kept then 1 else 0) pages
+-- a site with so many pages has room for a page, which is new where no revision of it is there
+abbrev pub has_room : Option ℕ → ℕ → Bool
+has_room there pages = has_room_for (if is_none there then 1 else 0) pages
 
 -- a site with this counter can give so many revisions more
 abbrev pub has_revisions : ℕ → ℕ → Bool
@@ -52,9 +61,12 @@ page_put book page rev hand tree js = record {
   outcomes = record { rows = outcomes book tree js };
 }
 
--- what is said of a page that is put
+-- what is said of a page that is put, by the rules of these infos, and by those of a book
+abbrev pub stored_by : List RuleInfo → PagePut → Stored
+stored_by infos put = record { page = put.page.head.page; rev = put.page.head.rev; summary = summary infos put.outcomes.rows }
+
 abbrev pub stored : Book → PagePut → Stored
-stored book put = record { page = put.page.head.page; rev = put.page.head.rev; summary = summary book.infos put.outcomes.rows }
+stored book put = stored_by book.infos put
 
 -- a page is put into a site, by the next revision
 abbrev pub storing : Book → List ℕ → ℕ → PagePut → Decision
@@ -69,16 +81,17 @@ abbrev pub built : Option (List ℕ) → Raw → (Document → Decision) → Dec
 built page raw next = unless_refused (option_map_or (λ fault. Some (refusal.TreeFault fault page)) (tree_fault raw.rows) None) (next (page_of raw))
 
 -- the revision sent is the page's
-abbrev pub current : ℕ → Option PageState → Decision → Decision
-current rev kept next = unless (rev == rev_of kept) (refusal.StaleRevision (rev_of kept) None) next
+abbrev pub current : ℕ → ℕ → Decision → Decision
+current rev now next = unless (rev == now) (refusal.StaleRevision now None) next
 
--- a page is put in the place of the one that the sender saw: into a site with so many pages
-abbrev pub put_page : Book → List ℕ → List ℕ → List ℕ → ℕ → Raw → Site → Option PageState → ℕ → Decision
-put_page book site caller page rev raw s kept pages =
-    unless (has_room kept pages) (refusal.PageLimit limit.Pages) (
+-- a page is put in the place of the one that the sender saw, of which this revision is there, under these judgements: into a site
+-- with so many pages
+abbrev pub put_page : Book → List ℕ → List ℕ → List ℕ → ℕ → Raw → Site → Option ℕ → List Judgement → ℕ → Decision
+put_page book site caller page rev raw s there js pages =
+    unless (has_room there pages) (refusal.PageLimit limit.Pages) (
     unless (has_revisions s.counter 1) (refusal.PageLimit limit.Revisions) (
-    current rev kept (
-    built None raw (renewed book site caller page s.counter (judged kept)))))
+    current rev (due there) (
+    built None raw (renewed book site caller page s.counter js))))
 
 -- the edited page, or the first fault of the edits
 abbrev pub edited : Document → Result Trees EditFault → (Document → Decision) → Decision
@@ -90,11 +103,11 @@ edited tree (Err edit.OutOfMemory) next = Err refusal.OutOfMemory
 abbrev pub edit_page : Book → List ℕ → List ℕ → List ℕ → ℕ → List Edit → Site → PageState → Decision
 edit_page book site caller page rev edits s kept =
     unless (has_revisions s.counter 1) (refusal.PageLimit limit.Revisions) (
-    current rev (Some kept) (
+    current rev kept.page.head.rev (
     edited kept.page.tree (edited_all kept.page.tree.trees edits) (renewed book site caller page s.counter kept.judgements)))
 
 -- the page that the sender saw is dropped
-abbrev pub drop_page : List ℕ → List ℕ → ℕ → PageState → Decision
+abbrev pub drop_page : List ℕ → List ℕ → ℕ → Page → Decision
 drop_page site page rev kept =
-    current rev (Some kept) (
+    current rev kept.head.rev (
     Ok (record { change = Some (DropPage site page); reply = reply.Dropped page }))

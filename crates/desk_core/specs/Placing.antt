@@ -1,6 +1,5 @@
 -- Imports as they are carried out: each entry with what is kept in its place, and then the pages one beside another.
-use Rattle.std.specs.Prelude.{◌≡◌, ℕ, ◌+◌, ◌≤◌, ◌==◌, List, [], ◌∷◌, length, map, Bool, not, Option, Some, is_none, option_map, Result, Ok, IfOk, IfErr, count_by}
-use Rattle.std.specs.Option.{option_map_or}
+use Rattle.std.specs.Prelude.{◌≡◌, ℕ, ◌+◌, ◌≤◌, ◌==◌, List, [], ◌∷◌, length, map, Bool, not, Option, Some, is_none, option_map, Result, Ok, IfOk, count_by}
 use Rattle.std.specs.List.{find, zip}
 use Rattle.snap_tree.specs.Grown.{page_of}
 use Rattle.rule_core.specs.Books.{Book}
@@ -23,17 +22,16 @@ use Rattle.desk_core.specs.declared.refusal.Refusal.{Refusal}
 use Rattle.desk_core.specs.declared.refusal.Refusal.TheVariants as refusal
 use Rattle.desk_core.specs.declared.reply.Reply.TheVariants as reply
 use Rattle.desk_core.specs.Refusals.{Decision, unless, unless_refused}
-use Rattle.desk_core.specs.State.{PageState, SiteState, page_state, page_at, state_of, site_at}
-use Rattle.desk_core.specs.Rights.{entering}
-use Rattle.desk_core.specs.Pages.{judged, has_room_for, has_revisions, stored}
+use Rattle.desk_core.specs.State.{PageState, page_state, page_at}
+use Rattle.desk_core.specs.Pages.{revision_in, due, judged, has_room_for, has_revisions, stored}
 use Rattle.desk_core.specs.Imports.{first_fault}
-use Rattle.desk_core.specs.Serving.{Stands, OnlyReads, IsIn}
+use Rattle.desk_core.specs.Serving.{FailsOnly, RefusesSite, OnlyReads, IsIn}
 
 -- an entry with the revision and the judgements of the page in its place
 abbrev pub placed : List PageState → Entry → Placed
 placed pages e = record {
   entry = e;
-  current = option_map (λ p. p.page.head.rev) (page_at e.page pages);
+  current = revision_in (page_at e.page pages);
   judgements = judged (page_at e.page pages);
 }
 
@@ -58,7 +56,7 @@ new_among all = count_by (λ w. is_none w.current) all
 
 -- the revision of the page in its place, 0 for none
 abbrev pub current_of : Placed → ℕ
-current_of w = option_map_or (λ rev. rev) w.current 0
+current_of w = due w.current
 
 abbrev pub is_stale : Placed → Bool
 is_stale w = not (w.entry.rev == current_of w)
@@ -112,14 +110,14 @@ pub record Places (site : List ℕ) (heads : List PageHead) (e : Entry) (old new
   pub reads : OnlyReads old new before now result
   pub entry : IfOk result (λ w. w.entry ≡ e)
   pub told : IfOk result (λ w. (t : Tables) → new ≡ Some t → w ≡ read_place heads site t e)
-  pub refused : IfErr result (λ refusal. (decision : Decision) → Stands (Unit {0}) refusal decision)
+  pub refused : FailsOnly result
 
 -- and all
 pub record PlacesAll (site : List ℕ) (heads : List PageHead) (entries : List Entry) (old new : Option Tables) (before now : ℕ) (result : Result (List Placed) Refusal) : Type 0 where
   pub reads : OnlyReads old new before now result
   pub listed : IfOk result (λ all. entries_of all ≡ entries)
   pub told : IfOk result (λ all. (t : Tables) → new ≡ Some t → all ≡ map (read_place heads site t) entries)
-  pub refused : IfErr result (λ refusal. (decision : Decision) → Stands (Unit {0}) refusal decision)
+  pub refused : FailsOnly result
 
 -- the site into which pages are imported, and what is kept in their places
 pub record Arrives (caller site : List ℕ) (entries : List Entry) (old new : Option Tables) (before now : ℕ) (result : Result Arrival Refusal) : Type 0 where
@@ -130,6 +128,4 @@ pub record Arrives (caller site : List ℕ) (entries : List Entry) (old new : Op
       (t : Tables) → new ≡ Some t
       → (s : Site) × IsIn Editor caller site s t × (a.counter ≡ s.counter) × (a.pages ≡ length (pages_of site t))
       × (a.placed ≡ map (placed (map page_state (pages_of site t))) entries))
-  pub refused :
-      IfErr result (λ refusal.
-      (t : Tables) → new ≡ Some t → (next : SiteState → Decision) → Stands (Unit {0}) refusal (entering Editor caller (site_at site (state_of t)) next))
+  pub refused : RefusesSite Editor caller site new result

@@ -3,8 +3,11 @@
 use Rattle.std.specs.Prelude.{◌≡◌, ℕ, ◌≤◌, List, length, true, false, Option, Some, None, option_map, ◌⊎◌, Result, Ok, Err, IfSome, IfOk, IfErr, IsErrOf}
 use Rattle.counts.specs.Counts.{Rose}
 use Rattle.rule_core.specs.Books.{Book}
+use Rattle.judge_core.specs.declared.judgement.Judgement.{Judgement}
+use Rattle.judge_core.specs.declared.outcomes.Outcomes.{Outcomes}
 use Rattle.judge_core.specs.Outcomes.{outcomes}
 use Rattle.keep_core.specs.declared.site.Site.{Site}
+use Rattle.keep_core.specs.declared.page.Page.{Page}
 use Rattle.keep_core.specs.declared.page.SitePage.{SitePage}
 use Rattle.keep_core.specs.declared.tables.KeptPage.{KeptPage}
 use Rattle.keep_core.specs.Tables.{Tables, kept_site, site_of, kept_page, pages_of, outcomes_of}
@@ -24,6 +27,7 @@ use Rattle.desk_core.specs.State.{PageState, SiteState, page_state, state_of, si
 use Rattle.desk_core.specs.Rights.{may, role_of, entering, on_page}
 use Rattle.desk_core.specs.Steps as steps
 use Rattle.desk_core.specs.Steps.{Request, read_page, decided}
+use Rattle.desk_core.specs.Pages.{revision_in, judged}
 use Rattle.desk_core.specs.Reading.{answered, site_page}
 use Rattle.desk_core.specs.Soundness as soundness
 use Rattle.desk_core.specs.Soundness.{IsSound}
@@ -81,53 +85,81 @@ Admits leave caller site (Err refusal) = (refusal ≡ NotAllowed leave) × (may 
 abbrev pub page_in : List ℕ → List ℕ → Tables → Option PageState
 page_in site page tables = option_map page_state (kept_page site page tables)
 
+-- a refusal for a fault of the keeper or for want of memory alone
+abbrev pub FailsOnly : {A : Type 0} → Result A Refusal → Type 0
+FailsOnly result = IfErr result (λ refusal. (decision : Decision) → Stands (Unit {0}) refusal decision)
+
+-- a refusal before a site was entered in which the caller has this leave
+abbrev pub RefusesSite : {A : Type 0} → Needed → List ℕ → List ℕ → Option Tables → Result A Refusal → Type 0
+RefusesSite leave caller name new result =
+    IfErr result (λ refusal.
+    (t : Tables) → new ≡ Some t → (next : SiteState → Decision) → Stands (Unit {0}) refusal (entering leave caller (site_at name (state_of t)) next))
+
+-- a refusal before a page of a site was found in which the caller has this leave
+abbrev pub RefusesPage : {A : Type 0} → Needed → List ℕ → List ℕ → List ℕ → Option Tables → Result A Refusal → Type 0
+RefusesPage leave caller site page new result =
+    IfErr result (λ refusal.
+    (t : Tables) → new ≡ Some t → (next : SiteState → PageState → Decision)
+    → Stands (Unit {0}) refusal (entering leave caller (site_at site (state_of t)) (λ s. on_page page s (next s))))
+
 -- the row of a site in which the caller has a leave is looked up
 pub record Enters (leave : Needed) (caller name : List ℕ) (old new : Option Tables) (before now : ℕ) (result : Result Site Refusal) : Type 0 where
   pub reads : OnlyReads old new before now result
   pub fits : IfOk result FitsSite
   pub found : IfOk result (λ site. (t : Tables) → new ≡ Some t → IsIn leave caller name site t)
-  pub refused :
-      IfErr result (λ refusal.
-      (t : Tables) → new ≡ Some t → (next : SiteState → Decision) → Stands (Unit {0}) refusal (entering leave caller (site_at name (state_of t)) next))
+  pub refused : RefusesSite leave caller name new result
 
 -- a page with its judgements is looked up, where it is there
 pub record Looks (site page : List ℕ) (old new : Option Tables) (before now : ℕ) (result : Result (Option PageState) Refusal) : Type 0 where
   pub reads : OnlyReads old new before now result
   pub fits : IfOk result (λ found. IfSome found (λ p. FitsPage p.page))
   pub found : IfOk result (λ found. (t : Tables) → new ≡ Some t → found ≡ page_in site page t)
-  pub refused : IfErr result (λ refusal. (decision : Decision) → Stands (Unit {0}) refusal decision)
+  pub refused : FailsOnly result
 
 -- a page of a site in which the caller has a leave
 pub record Finds (leave : Needed) (caller site page : List ℕ) (old new : Option Tables) (before now : ℕ) (result : Result (Site × PageState) Refusal) : Type 0 where
   pub reads : OnlyReads old new before now result
   pub fits : IfOk result (λ found. FitsSite found.0 × FitsPage found.1.page)
   pub found : IfOk result (λ found. (t : Tables) → new ≡ Some t → IsIn leave caller site found.0 t × (page_in site page t ≡ Some found.1))
-  pub refused :
-      IfErr result (λ refusal.
-      (t : Tables) → new ≡ Some t → (next : SiteState → PageState → Decision)
-      → Stands (Unit {0}) refusal (entering leave caller (site_at site (state_of t)) (λ s. on_page page s (next s))))
+  pub refused : RefusesPage leave caller site page new result
 
--- the site into which a page is to be put, the page that is there, and the number of its pages
+-- the site into which a page is to be put, the revision of the page that is there with its judgements, and the number of its pages
 pub record Surveys (caller site page : List ℕ) (old new : Option Tables) (before now : ℕ) (result : Result Survey Refusal) : Type 0 where
   pub reads : OnlyReads old new before now result
   pub found :
       IfOk result (λ s.
-      (t : Tables) → new ≡ Some t → IsIn Editor caller site s.site t × (page_in site page t ≡ s.kept) × (length (pages_of site t) ≡ s.pages))
-  pub refused :
-      IfErr result (λ refusal.
-      (t : Tables) → new ≡ Some t → (next : SiteState → Decision) → Stands (Unit {0}) refusal (entering Editor caller (site_at site (state_of t)) next))
+      (t : Tables) → new ≡ Some t
+      → IsIn Editor caller site s.site t × (revision_in (page_in site page t) ≡ s.current) × (judged (page_in site page t) ≡ s.judgements)
+      × (length (pages_of site t) ≡ s.pages))
+  pub refused : RefusesSite Editor caller site new result
 
--- a page of a site in which the caller has a leave, with its outcomes
+-- a page of a site in which the caller has a leave, whatever its judgements are
+pub record FindsPage (leave : Needed) (caller site page : List ℕ) (old new : Option Tables) (before now : ℕ) (result : Result Page Refusal) : Type 0 where
+  pub reads : OnlyReads old new before now result
+  pub found :
+      IfOk result (λ found.
+      (t : Tables) → new ≡ Some t
+      → (s : Site) × (js : List Judgement) × IsIn leave caller site s t × (page_in site page t ≡ Some (record { page = found; judgements = js })))
+  pub refused : RefusesPage leave caller site page new result
+
+-- the same with its outcomes
+pub record FindsShown (leave : Needed) (caller site page : List ℕ) (old new : Option Tables) (before now : ℕ) (result : Result (Page × Outcomes) Refusal) : Type 0 where
+  pub reads : OnlyReads old new before now result
+  pub found :
+      IfOk result (λ found.
+      (t : Tables) → new ≡ Some t
+      → (s : Site) × (js : List Judgement) × IsIn leave caller site s t × (page_in site page t ≡ Some (record { page = found.0; judgements = js }))
+      × (outcomes_of site page t ≡ found.1))
+  pub refused : RefusesPage leave caller site page new result
+
+-- the same with its judgements and its outcomes
 pub record FindsKept (leave : Needed) (caller site page : List ℕ) (old new : Option Tables) (before now : ℕ) (result : Result KeptPage Refusal) : Type 0 where
   pub reads : OnlyReads old new before now result
   pub found :
       IfOk result (λ kept.
       (t : Tables) → new ≡ Some t
       → (s : Site) × IsIn leave caller site s t × (page_in site page t ≡ Some (page_state kept)) × (outcomes_of site page t ≡ kept.outcomes))
-  pub refused :
-      IfErr result (λ refusal.
-      (t : Tables) → new ≡ Some t → (next : SiteState → PageState → Decision)
-      → Stands (Unit {0}) refusal (entering leave caller (site_at site (state_of t)) (λ s. on_page page s (next s))))
+  pub refused : RefusesPage leave caller site page new result
 
 -- the outcomes that are kept of a page are those of its tree and judgements
 abbrev pub IsTrueTo : Book → KeptPage → Type 0

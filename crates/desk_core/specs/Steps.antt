@@ -10,7 +10,7 @@ use Rattle.desk_core.specs.Refusals.{Decision}
 use Rattle.desk_core.specs.State.{State, PageState, SiteState, page_at, site_at}
 use Rattle.desk_core.specs.Rights.{entering, on_page}
 use Rattle.desk_core.specs.Members.{put_site, put_member}
-use Rattle.desk_core.specs.Pages.{put_page, edit_page, drop_page}
+use Rattle.desk_core.specs.Pages.{revision_in, judged, put_page, edit_page, drop_page}
 use Rattle.desk_core.specs.Imports.{import}
 use Rattle.desk_core.specs.Judging.{judge}
 use Rattle.desk_core.specs.Reading.{answered, site_page, sheet}
@@ -52,9 +52,10 @@ decision book caller (command.PutSite site) kept = put_site site caller kept
 decision book caller (command.PutMember site user held) kept =
     entering needed.Owner caller kept (λ s. put_member site caller user held s.site)
 decision book caller (command.PutPage site page rev raw) kept =
-    entering needed.Editor caller kept (λ s. put_page book site caller page rev raw s.site (page_at page s.pages) (length s.pages))
+    entering needed.Editor caller kept (λ s.
+    put_page book site caller page rev raw s.site (revision_in (page_at page s.pages)) (judged (page_at page s.pages)) (length s.pages))
 decision book caller (command.DropPage site page rev) kept =
-    entering needed.Editor caller kept (λ s. on_page page s (drop_page site page rev))
+    entering needed.Editor caller kept (λ s. on_page page s (λ p. drop_page site page rev p.page))
 decision book caller (command.Import site entries) kept = entering needed.Editor caller kept (import book site caller entries)
 decision book caller (command.EditPage site page rev edits) kept =
     entering needed.Editor caller kept (λ s. on_page page s (edit_page book site caller page rev edits s.site))

@@ -6,12 +6,11 @@ ghost use Rattle.desk_core.specs.Serving.{Agrees, Decides};
 ghost use Rattle.rule_core.specs.Books.{Book};
 
 use crate::decided::Decided;
-use crate::look::find;
-use crate::page_state::PageState;
+use crate::look::find_page;
 use crate::refusal::{Needed, Refusal};
 use crate::reply::Reply;
 use crate::sent::Sent;
-use keep_core::{Change, Keeper};
+use keep_core::{Change, Keeper, Page};
 use snap_tree::Text;
 use std::alloc::Global;
 
@@ -27,7 +26,7 @@ pub fn drop_page<K: Keeper>(
     ensures { (book : Book) → Decides book (record { caller = caller.now; command = DropPage sent.site sent.page sent.rev })
         (K.tables keeper.old) (K.tables keeper.new) (K.faults keeper.old) (K.faults keeper.new) result }
 {
-    match find(
+    match find_page(
         alloc,
         keeper,
         Needed::Editor,
@@ -35,15 +34,15 @@ pub fn drop_page<K: Keeper>(
         &sent.site,
         &sent.page,
     ) {
-        Ok(found) => decide(alloc, sent, &found.1),
+        Ok(found) => decide(alloc, sent, &found),
         Err(refusal) => Err(refusal),
     }
 }
 
-fn decide(alloc: Global, sent: Sent, found: &PageState) -> Result<Decided, Refusal>
+fn decide(alloc: Global, sent: Sent, found: &Page) -> Result<Decided, Refusal>
     ensures { Agrees ⊥ result (drop_page sent.site sent.page sent.rev found.now) }
 {
-    let current = found.page.head.rev;
+    let current = found.head.rev;
     if sent.rev != current {
         return Err(Refusal::StaleRevision {
             current,

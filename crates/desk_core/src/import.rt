@@ -1,9 +1,9 @@
-ghost use Rattle.std.specs.Prelude.{◌≡◌, ◌+◌, ◌<◌, ◌≤◌, length, sum_by, map, true, None, is_none, IsTrue, IfOk, IfErr, OnOk};
+ghost use Rattle.std.specs.Prelude.{◌≡◌, ◌+◌, ◌<◌, ◌≤◌, length, sum_by, true, None, is_none, IsTrue, IfOk, IfErr, OnOk};
 ghost use Rattle.reaudit.specs.Pages.{pages_judgings};
 ghost use Rattle.keep_core.specs.Names.{is_name};
 ghost use Rattle.desk_core.specs.declared.command.Command.TheVariants.{Import};
 ghost use Rattle.desk_core.specs.Refusals.{Decision, unless_refused};
-ghost use Rattle.desk_core.specs.Pages.{has_room_for, has_revisions, stored};
+ghost use Rattle.desk_core.specs.Pages.{has_room_for, has_revisions};
 ghost use Rattle.std.specs.Option.{option_copied};
 ghost use Rattle.std.specs.List.{find};
 ghost use Rattle.desk_core.specs.Fitting.{FitsEntries};
@@ -17,14 +17,14 @@ use crate::built::{Built, heads_from, put_all};
 use crate::command::Entry;
 use crate::decided::Decided;
 use crate::placed::Placed;
-use crate::put_page::has_room_for;
 use crate::refusal::{Limit, Refusal};
-use crate::reply::{Reply, Stored};
-use crate::store::stored;
-use keep_core::{Change, Keeper, MOST_REVISION, PagePut};
+use crate::reply::Reply;
+use crate::room::{due, has_revisions, has_room_for};
+use crate::store::stored_all;
+use keep_core::{Change, Keeper};
 use reaudit::{audit_pages, busy};
 use rule_core::RuleBook;
-use snap_tree::{List, OutOfMemory, Text};
+use snap_tree::{List, Text};
 use std::alloc::Global;
 use std::collections::VecDeque;
 use std::thread::Threads;
@@ -85,13 +85,6 @@ fn decide<R: Threads + Sync, B: RuleBook + Send>(
     }
 }
 
-// A site with this counter can give so many revisions more.
-fn has_revisions(counter: u64, more: usize) -> bool
-    ensures { result ≡ has_revisions counter more }
-{
-    counter <= MOST_REVISION && more as u64 <= MOST_REVISION - counter
-}
-
 // The page of an entry isn't there.
 fn is_new(placed: &Placed) -> bool
     ensures { result ≡ is_none placed.now.current }
@@ -110,7 +103,7 @@ fn new_among(placed: &[Placed]) -> usize
 fn current_of(placed: &Placed) -> u64
     ensures { result ≡ current_of placed.now }
 {
-    placed.current.unwrap_or(0)
+    due(placed.current)
 }
 
 fn first_stale(placed: &[Placed]) -> Option<&Placed>
@@ -197,19 +190,4 @@ fn store_all<R: Threads + Sync, B: RuleBook + Send>(
             pages: List::from_vec(told),
         },
     })
-}
-
-// What is said of pages that are put.
-fn stored_all<B: RuleBook>(
-    alloc: Global,
-    book: &B,
-    pages: &[PagePut],
-) -> Result<Vec<Stored>, OutOfMemory>
-    ensures { IfOk result (λ told. told.items ≡ map (stored B.book) pages.now) }
-{
-    let mut told = Vec::with_capacity(alloc, pages.len())?;
-    for put in pages {
-        told.push(stored(alloc, book, put)?)?;
-    }
-    Ok(told)
 }

@@ -1,18 +1,22 @@
-ghost use Rattle.desk_core.specs.Serving.{Finds, FindsKept, Looks, Surveys};
+ghost use Rattle.desk_core.specs.Serving.{Finds, FindsKept, FindsPage, FindsShown, Looks, Surveys};
 
 use crate::enter::enter;
 use crate::page_state::PageState;
+use crate::placed::current_in;
 use crate::refusal::{Needed, Refusal};
-use keep_core::{Keeper, KeptPage, Site};
-use snap_tree::Text;
+use judge_core::{Judgement, Outcomes};
+use keep_core::{Keeper, KeptPage, Page, Site};
+use snap_tree::{List, Text};
 use std::alloc::Global;
 
-/// What is to be known before a page is put: the row of the site, the page that is there, and how many
-/// pages the site has.
+/// What is to be known before a page is put: the row of the site, the revision of the page that is there with
+/// its judgements, and how many pages the site has. The page's tree isn't looked at.
 #[derive(Drop)]
 pub struct Survey {
     pub site: Site,
-    pub kept: Option<PageState>,
+    /// The current revision of the page of its name; None for a new page.
+    pub current: Option<u64>,
+    pub judgements: List<Judgement>,
     pub pages: usize,
 }
 
@@ -57,7 +61,43 @@ pub fn find<K: Keeper>(
     }
 }
 
-/// The same page with its outcomes.
+/// The same page alone: its judgements aren't looked at.
+pub fn find_page<K: Keeper>(
+    alloc: Global,
+    keeper: &mut K,
+    needed: Needed,
+    caller: &Text,
+    site: &Text,
+    page: &Text,
+) -> Result<Page, Refusal>
+    ensures { FindsPage needed caller.now site.now page.now (K.tables keeper.old) (K.tables keeper.new)
+        (K.faults keeper.old) (K.faults keeper.new) result }
+{
+    enter(alloc, keeper, needed, caller, site)?;
+    match keeper.load(alloc, site, page)? {
+        Some(found) => Ok(found),
+        None => Err(Refusal::NoPage),
+    }
+}
+
+/// The same page with its outcomes, without its judgements.
+pub fn find_shown<K: Keeper>(
+    alloc: Global,
+    keeper: &mut K,
+    needed: Needed,
+    caller: &Text,
+    site: &Text,
+    page: &Text,
+) -> Result<(Page, Outcomes), Refusal>
+    ensures { FindsShown needed caller.now site.now page.now (K.tables keeper.old) (K.tables keeper.new)
+        (K.faults keeper.old) (K.faults keeper.new) result }
+{
+    let found = find_page(alloc, keeper, needed, caller, site, page)?;
+    let outcomes = keeper.outcomes(alloc, site, page)?;
+    Ok((found, outcomes))
+}
+
+/// The page with its judgements and its outcomes.
 pub fn find_kept<K: Keeper>(
     alloc: Global,
     keeper: &mut K,
@@ -90,11 +130,13 @@ pub fn survey_site<K: Keeper>(
         (K.faults keeper.old) (K.faults keeper.new) result }
 {
     let entered = enter(alloc, keeper, Needed::Editor, caller, site)?;
-    let kept = look(alloc, keeper, site, page)?;
     let heads = keeper.list(alloc, site)?;
+    let current = current_in(heads.as_slice(), page);
+    let judgements = keeper.judgements(alloc, site, page)?;
     Ok(Survey {
         site: entered,
-        kept,
+        current,
+        judgements,
         pages: heads.len(),
     })
 }

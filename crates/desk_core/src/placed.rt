@@ -20,8 +20,8 @@ pub struct Placed {
     pub judgements: List<Judgement>,
 }
 
-// The revision of a page among those of a site; None where it isn't there.
-fn current_in(heads: &[PageHead], page: &Text) -> Option<u64>
+/// The revision of a page among those of a site; None where it isn't there.
+pub fn current_in(heads: &[PageHead], page: &Text) -> Option<u64>
     requires { IsInOrder head_name heads.now }
     ensures { result ≡ current_in heads.now page.now }
 {

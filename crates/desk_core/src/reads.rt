@@ -6,11 +6,10 @@ ghost use Rattle.desk_core.specs.Reading.{shown_as, asked_as};
 ghost use Rattle.desk_core.specs.Serving.{Decides, ReadsPage};
 
 use crate::decided::Decided;
-use crate::look::{find, find_kept};
-use crate::page_state::PageState;
+use crate::look::{find_page, find_shown};
 use crate::refusal::{Needed, Refusal};
 use crate::reply::Reply;
-use keep_core::{Keeper, SitePage};
+use keep_core::{Keeper, Page, SitePage};
 use kept_pages::site_page;
 use snap_tree::Text;
 use std::alloc::Global;
@@ -24,16 +23,9 @@ fn answered(reply: Reply) -> Decided
     }
 }
 
-fn page_of(found: PageState) -> Decided
-    ensures { result ≡ record { change = None; reply = reply.Page found.page } }
+fn names_of(page: Page) -> Decided
+    ensures { result ≡ record { change = None; reply = reply.Names page.tree } }
 {
-    answered(Reply::Page(found.page))
-}
-
-fn names_of(found: PageState) -> Decided
-    ensures { result ≡ record { change = None; reply = reply.Names found.page.tree } }
-{
-    let page = found.page;
     answered(Reply::Names(page.tree))
 }
 
@@ -48,8 +40,8 @@ pub fn get_page<K: Keeper>(
     ensures { (book : Book) → Decides book (record { caller = caller.now; command = GetPage site.now page.now })
         (K.tables keeper.old) (K.tables keeper.new) (K.faults keeper.old) (K.faults keeper.new) result }
 {
-    match find(alloc, keeper, Needed::Reader, caller, site, page) {
-        Ok(found) => Ok(page_of(found.1)),
+    match find_page(alloc, keeper, Needed::Reader, caller, site, page) {
+        Ok(found) => Ok(answered(Reply::Page(found))),
         Err(refusal) => Err(refusal),
     }
 }
@@ -65,8 +57,8 @@ pub fn get_names<K: Keeper>(
     ensures { (book : Book) → Decides book (record { caller = caller.now; command = GetNames site.now page.now })
         (K.tables keeper.old) (K.tables keeper.new) (K.faults keeper.old) (K.faults keeper.new) result }
 {
-    match find(alloc, keeper, Needed::Reader, caller, site, page) {
-        Ok(found) => Ok(names_of(found.1)),
+    match find_page(alloc, keeper, Needed::Reader, caller, site, page) {
+        Ok(found) => Ok(names_of(found)),
         Err(refusal) => Err(refusal),
     }
 }
@@ -81,9 +73,9 @@ fn read_page<K: Keeper>(
     ensures { (book : Book) → ReadsPage book caller.now site.now page.now (K.tables keeper.old) (K.tables keeper.new)
         (K.faults keeper.old) (K.faults keeper.new) result }
 {
-    match find_kept(alloc, keeper, Needed::Reader, caller, site, page) {
-        Ok(kept) => {
-            let shown = site_page(alloc, kept.page, kept.outcomes)?;
+    match find_shown(alloc, keeper, Needed::Reader, caller, site, page) {
+        Ok((found, outcomes)) => {
+            let shown = site_page(alloc, found, outcomes)?;
             Ok(shown)
         }
         Err(refusal) => Err(refusal),

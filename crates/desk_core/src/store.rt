@@ -1,13 +1,13 @@
-ghost use Rattle.std.specs.Prelude.{◌≡◌, ◌+◌, ◌<◌, ◌≤◌, drop, length, sum_by, IfOk};
+ghost use Rattle.std.specs.Prelude.{◌≡◌, ◌+◌, ◌<◌, ◌≤◌, drop, length, map, sum_by, IfOk};
 ghost use Rattle.judge_core.specs.Outcomes.{outcomes, judgings};
-ghost use Rattle.desk_core.specs.Pages.{page_put, stored};
+ghost use Rattle.desk_core.specs.Pages.{page_put, stored, stored_by};
 
 use crate::reply::Stored;
 use crate::summaries::summary_of;
 use judge_core::{Judgement, Outcomes, infos_of};
 use keep_core::{Page, PageHead, PagePut};
 use reaudit::audit_page;
-use rule_core::RuleBook;
+use rule_core::{RuleBook, RuleInfo};
 use snap_tree::{OutOfMemory, Text, Tree};
 use std::alloc::Global;
 
@@ -50,14 +50,47 @@ pub fn page_put<B: RuleBook>(
     })
 }
 
+// What is said of a page that is put, by the rules of these infos.
+fn stored_by(alloc: Global, infos: &[RuleInfo], put: &PagePut) -> Result<Stored, OutOfMemory>
+    ensures { IfOk result (λ s. s ≡ stored_by infos.now put.now) }
+{
+    Ok(Stored {
+        page: put.page.head.page.copy(alloc)?,
+        rev: put.page.head.rev,
+        summary: summary_of(infos, put.outcomes.rows.as_slice()),
+    })
+}
+
 /// What is said of a page that is put.
 pub fn stored<B: RuleBook>(alloc: Global, book: &B, put: &PagePut) -> Result<Stored, OutOfMemory>
     ensures { IfOk result (λ s. s ≡ stored B.book put.now) }
 {
     let infos = infos_of(alloc, book)?;
-    Ok(Stored {
-        page: put.page.head.page.copy(alloc)?,
-        rev: put.page.head.rev,
-        summary: summary_of(infos.as_slice(), put.outcomes.rows.as_slice()),
-    })
+    stored_by(alloc, infos.as_slice(), put)
+}
+
+fn stored_each(
+    alloc: Global,
+    infos: &[RuleInfo],
+    pages: &[PagePut],
+) -> Result<Vec<Stored>, OutOfMemory>
+    ensures { IfOk result (λ told. told.items ≡ map (stored_by infos.now) pages.now) }
+{
+    let mut told = Vec::with_capacity(alloc, pages.len())?;
+    for put in pages {
+        told.push(stored_by(alloc, infos, put)?)?;
+    }
+    Ok(told)
+}
+
+/// What is said of pages that are put at once.
+pub fn stored_all<B: RuleBook>(
+    alloc: Global,
+    book: &B,
+    pages: &[PagePut],
+) -> Result<Vec<Stored>, OutOfMemory>
+    ensures { IfOk result (λ told. told.items ≡ map (stored B.book) pages.now) }
+{
+    let infos = infos_of(alloc, book)?;
+    stored_each(alloc, infos.as_slice(), pages)
 }

@@ -1,22 +1,30 @@
-use Rattle.std.proofs.Common.{length, sym, ap, ◌∙◌, arith}
+use Rattle.std.proofs.Common.{List, length, sym, ap, ◌∙◌, arith}
 use Rattle.std.proofs.lemmas.List.{length-map}
+use Rattle.keep_core.specs.declared.page.PageHead.{PageHead}
 use Rattle.keep_core.specs.declared.tables.KeptPage.{KeptPage}
-use Rattle.keep_core.specs.Tables.{pages_of}
+use Rattle.keep_core.specs.Tables.{pages_of, kept_page}
+use Rattle.desk_core.specs.Placing.{current_in}
+use Rattle.desk_core.proofs.Views.{judged_of}
+use Rattle.desk_core.proofs.ImportLaws.{current_kept}
 use Rattle.desk_core.proofs.look.survey_site.Goals as goal
 
 pub returns : goal.returns
 returns g c = record {
   reads = record {
-    stays = λ t told. c.in_ok-entered.ensures.reads.stays t (c.in_ok-kept.ensures.reads.stays t (c.in_ok-heads.ensures.reads.stays t told));
-    never_falls = omega (arith, c.in_ok-entered.ensures.reads.never_falls, c.in_ok-kept.ensures.reads.never_falls, c.in_ok-heads.ensures.faults.never_falls);
+    stays = λ t told. c.in_ok-entered.ensures.reads.stays t (c.in_ok-heads.ensures.reads.stays t (c.in_ok-judgements.ensures.reads.stays t told));
+    never_falls = omega (arith, c.in_ok-entered.ensures.reads.never_falls, c.in_ok-heads.ensures.faults.never_falls, c.in_ok-judgements.ensures.faults.never_falls);
     failed = λ e. cc;
   };
   found =
       λ t told.
-      let looked = c.in_ok-heads.ensures.reads.stays t told in (
-        c.in_ok-entered.ensures.found t (c.in_ok-kept.ensures.reads.stays t looked),
-        sym (c.in_ok-kept.ensures.found t looked),
-        sym (length-map (pages_of c.args.site.now t) (λ (p : KeptPage). p.page.head)) ∙ (ap length (sym (c.in_ok-heads.ensures.reads.answers t told)) ∙ sym c.len.ensures),
+      let site = c.args.site.now in
+      let page = c.args.page.now in
+      let listed = c.in_ok-judgements.ensures.reads.stays t told in
+      let heads = c.in_ok-heads.ensures.reads.answers t listed in (
+        c.in_ok-entered.ensures.found t (c.in_ok-heads.ensures.reads.stays t listed),
+        current_kept page (pages_of site t) ∙ (ap (λ (hs : List PageHead). current_in hs page) (sym heads) ∙ sym c.current_in.ensures),
+        judged_of (kept_page site page t) ∙ sym (c.in_ok-judgements.ensures.reads.answers t told),
+        sym (length-map (pages_of site t) (λ (p : KeptPage). p.page.head)) ∙ (ap length (sym heads) ∙ sym c.len.ensures),
       );
   refused = tt;
 }

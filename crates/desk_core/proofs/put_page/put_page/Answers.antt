@@ -13,12 +13,13 @@ returns-in-Ok-clause-decides g c =
     let sent = c.args.sent in
     let at = c.in-Ok.survey in
     let request : Request = record { caller = c.args.caller.now; command = PutPage sent.site sent.page sent.rev c.args.raw } in
-    decides_by book request _ _ _ _ _ c.decide.result (put_page book sent.site c.args.caller.now sent.page sent.rev c.args.raw at.site at.kept at.pages)
-    c.in-Ok.ensures.reads c.decide.ensures.decided (put_page_fits book sent.site c.args.caller.now sent.page sent.rev c.args.raw at.site at.kept at.pages c.requires.site c.requires.page c.requires.address)
-    (put_page_accepts book sent.site c.args.caller.now sent.page sent.rev c.args.raw at.site at.kept at.pages)
+    decides_by book request _ _ _ _ _ c.decide.result (put_page book sent.site c.args.caller.now sent.page sent.rev c.args.raw at.site at.current at.judgements at.pages)
+    c.in-Ok.ensures.reads c.decide.ensures.decided (put_page_fits book sent.site c.args.caller.now sent.page sent.rev c.args.raw at.site at.current at.judgements at.pages c.requires.site c.requires.page c.requires.address)
+    (put_page_accepts book sent.site c.args.caller.now sent.page sent.rev c.args.raw at.site at.current at.judgements at.pages)
     (λ t told.
     let found = c.in-Ok.ensures.found t told in
-    surveyed c.args.caller.now sent.site sent.page t at.site at.kept at.pages (put_page book sent.site c.args.caller.now sent.page sent.rev c.args.raw) found.0 found.1 found.2)
+    surveyed c.args.caller.now sent.site sent.page t at.site at.current at.judgements at.pages (put_page book sent.site c.args.caller.now sent.page sent.rev c.args.raw) found.0 found.1
+    found.2 found.3)
 
 pub returns-in-Err-clause-decides : goal.returns-in-Err-clause-decides
 returns-in-Err-clause-decides g c = record {

@@ -1,3 +1,4 @@
+use Rattle.keep_core.specs.declared.tables.KeptPage.{KeptPage}
 use Rattle.desk_core.specs.Reading.{answered, site_page}
 use Rattle.desk_core.proofs.Onward.{read_as}
 use Rattle.desk_core.proofs.ReadLaws.{read_shows}
@@ -10,7 +11,8 @@ returns-in_ok-shown-in-Ok g c =
       shows =
           λ t told sound.
           let f = c.in-Ok.ensures.found t told in
-          read_shows book c.args.caller.now c.args.site.now c.args.page.now t f.0 c.in-Ok.kept c.in_ok-shown-in-Ok.shown sound f.1 f.2 f.3 c.in_ok-shown-in-Ok.ensures;
+          let kept : KeptPage = record { page = c.in-Ok.found; judgements = f.1; outcomes = c.in-Ok.outcomes } in
+          read_shows book c.args.caller.now c.args.site.now c.args.page.now t f.0 kept c.in_ok-shown-in-Ok.shown sound f.2 f.3 f.4 c.in_ok-shown-in-Ok.ensures;
     }
 
 pub returns-in-Err : goal.returns-in-Err

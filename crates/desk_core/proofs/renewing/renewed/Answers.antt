@@ -3,7 +3,7 @@ use Rattle.keep_core.specs.declared.page.PagePut.{PagePut}
 use Rattle.rule_core.specs.Books.{Book}
 use Rattle.desk_core.specs.Pages.{storing}
 use Rattle.desk_core.specs.Serving.{Agrees}
-use Rattle.desk_core.proofs.put_page.renewed.Goals as goal
+use Rattle.desk_core.proofs.renewing.renewed.Goals as goal
 
 pub returns-clause-decided : goal.returns-clause-decided
 returns-clause-decided g c =
