@@ -1,26 +1,9 @@
-//! The accessibility audit desk, as a program: `act_desk STORE COMMAND ..`. The function `run` does what
-//! a command's words say, over any source, sinks, keeper, door and books of rules; its contract says what
-//! each status means. The adapters over standard input, output and error and over TCP, and `main`, are the
-//! trusted edge.
+//! The accessibility audit desk, as a program: `act_desk STORE COMMAND ..`. What a command does stands in `desk_run`,
+//! over any source, sinks, keeper, door and books of rules. The adapters over standard input, output and error and over
+//! TCP, and `main`, are the trusted edge.
 #![tactic(auto)]
 
-mod audit;
-mod fault_line;
-mod found;
-mod generate;
-mod run;
-mod serve;
-mod show;
-mod start;
-mod status;
-mod tell;
-#[cfg(test)]
-mod tests;
-
-use crate::found::Found;
-use crate::run::run;
-use crate::start::{command_words, made_books};
-use crate::tell::tell;
+use desk_run::{Found, command_words, made_books, run, tell};
 use keep_core::MemoryKeeper;
 use snap_tree::List;
 use std::process::ExitCode;

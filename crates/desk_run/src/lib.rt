@@ -1,0 +1,22 @@
+//! What a run of the program does: `run` does what a command's words say, over any source, sinks, keeper, door and
+//! books of rules; its contract says what each status means. Start with [`run`]. The program, `act_desk`, gives it the
+//! streams of the process, a keeper and a TCP door.
+#![tactic(auto)]
+
+mod audit;
+mod fault_line;
+mod found;
+mod generate;
+mod run;
+mod serve;
+mod show;
+mod start;
+mod status;
+mod tell;
+
+pub use fault_line::fault_line;
+pub use found::Found;
+pub use run::run;
+pub use start::{command_words, made_books};
+pub use status::Status;
+pub use tell::{status_of, tell};

@@ -1,0 +1,105 @@
+ghost use Rattle.std.specs.Prelude.{◌≡◌, ◌<◌, ◌≤◌, None, map, length, vec_len};
+ghost use Rattle.desk_run.specs.declared.audit.TheConstants.{MOST_READ};
+ghost use Rattle.streams.specs.Streams.{ReadsAtMost};
+ghost use Rattle.desk_run.specs.Telling.{status_of, writing_of};
+ghost use Rattle.desk_run.specs.Audit.{AuditCause};
+ghost use Rattle.desk_run.specs.Desk.{Spares};
+ghost use Rattle.desk_run.specs.Run.{Cause, Runs};
+
+use crate::audit::audit;
+use crate::found::Found;
+use crate::generate::generate;
+use crate::serve::serve;
+use crate::show::show;
+use crate::tell::tell;
+use desk_words::{Command, command_in};
+use keep_core::Keeper;
+use links::Door;
+use rule_core::RuleBook;
+use snap_tree::{List, OutOfMemory, Text};
+use std::alloc::Global;
+use std::thread::Threads;
+use streams::{Sink, Source};
+
+/// Does what the words say, and gives the number of the status.
+///
+/// `audit` reads one snapshot from `input` to its end, judges it by the first book, and writes its text report
+/// on `out`. `serve` listens at the door and serves its connections over the keeper, with as many of the
+/// books as it has workers. `generate` makes pages, audits them with all books, and writes one line. `report`,
+/// `earl` and `csv` write what the keeper has of a site. There is one book or more, and the door doesn't listen
+/// yet.
+pub fn run<R: Threads + Sync, I: Source, O: Sink, E: Sink, K: Keeper, D: Door, B: RuleBook + Send>(
+    rt: &R,
+    alloc: Global,
+    words: &List<Text>,
+    input: &mut I,
+    out: &mut O,
+    err: &mut E,
+    keeper: &mut K,
+    door: &mut D,
+    books: &mut Vec<B>,
+) -> u8
+    requires some { 0 < vec_len books.old }
+    requires unheard { (D.told door.old).heard ≡ None }
+    ensures { Runs B.book words.now
+        (record { input = I.told input.old; out = O.told out.old; err = E.told err.old })
+        (record { input = I.told input.new; out = O.told out.new; err = E.told err.new })
+        (record { wire = D.Conn.wire; broken = D.Conn.faults; door = D.told door.old; log = D.log door.old; tables = K.tables keeper.old; faults = K.faults keeper.old; calls = map B.calls books.old.items })
+        (record { wire = D.Conn.wire; broken = D.Conn.faults; door = D.told door.new; log = D.log door.new; tables = K.tables keeper.new; faults = K.faults keeper.new; calls = map B.calls books.new.items })
+        result }
+{
+    let found = find(rt, alloc, words, input, keeper, door, books.as_mut_slice());
+    tell(out, err, &found).number()
+}
+
+// What a run finds: a small dispatch, to one function for each command.
+fn find<R: Threads + Sync, I: Source, K: Keeper, D: Door, B: RuleBook + Send>(
+    rt: &R,
+    alloc: Global,
+    words: &List<Text>,
+    input: &mut I,
+    keeper: &mut K,
+    door: &mut D,
+    books: &mut [B],
+) -> Found
+    requires some { 0 < length books.old }
+    requires unheard { (D.told door.old).heard ≡ None }
+    ensures cause { Cause B.book words.now (I.told input.old) (I.told input.new)
+        (record { wire = D.Conn.wire; broken = D.Conn.faults; door = D.told door.old; log = D.log door.old; tables = K.tables keeper.old; faults = K.faults keeper.old; calls = map B.calls books.old })
+        (record { wire = D.Conn.wire; broken = D.Conn.faults; door = D.told door.new; log = D.log door.new; tables = K.tables keeper.new; faults = K.faults keeper.new; calls = map B.calls books.new })
+        (status_of result) (writing_of result) }
+    ensures never_falls { (I.told input.old).faults ≤ (I.told input.new).faults }
+    ensures stops { ReadsAtMost MOST_READ (I.told input.old) (I.told input.new) }
+{
+    match command_in(alloc, words.as_slice()) {
+        Ok(Some(Command::Audit)) => audit_by_first(alloc, input, books),
+        Ok(Some(Command::Serve(serving))) => serve(rt, alloc, serving, keeper, door, books),
+        Ok(Some(Command::Generate(generating))) => generate(rt, alloc, generating, books),
+        Ok(Some(Command::Show(showing))) => show(alloc, &showing, keeper, &books[0]),
+        Ok(None) => Found::Usage,
+        Err(OutOfMemory) => Found::NoMemory,
+    }
+}
+
+// An audit by the first of the books.
+fn audit_by_first<I: Source, B: RuleBook>(alloc: Global, input: &mut I, books: &mut [B]) -> Found
+    requires { 0 < length books.old }
+    ensures cause { AuditCause B.book
+        (I.told input.old) (I.told input.new) (status_of result) (writing_of result) }
+    ensures never_falls { (I.told input.old).faults ≤ (I.told input.new).faults }
+    ensures stops { ReadsAtMost MOST_READ (I.told input.old) (I.told input.new) }
+    ensures spares { Spares 1 (map B.calls books.old) (map B.calls books.new) }
+{
+    let (first, _others) = books.split_at_mut(1);
+    audit_by(alloc, input, first)
+}
+
+fn audit_by<I: Source, B: RuleBook>(alloc: Global, input: &mut I, books: &mut [B]) -> Found
+    requires { length books.old ≡ 1 }
+    ensures cause { AuditCause B.book
+        (I.told input.old) (I.told input.new) (status_of result) (writing_of result) }
+    ensures never_falls { (I.told input.old).faults ≤ (I.told input.new).faults }
+    ensures stops { ReadsAtMost MOST_READ (I.told input.old) (I.told input.new) }
+{
+    audit(alloc, input, &mut books[0])
+}

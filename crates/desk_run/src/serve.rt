@@ -1,0 +1,70 @@
+ghost use Rattle.std.specs.Prelude.{◌≡◌, ◌<◌, ◌≤◌, None, OnOk, map, length, take};
+ghost use Rattle.streams.specs.Streams.{Counts};
+ghost use Rattle.desk_http.specs.Serving.{KeepsSound};
+ghost use Rattle.desk_http.specs.Doors.{ServesDoor};
+ghost use Rattle.desk_run.specs.Telling.{status_of, writing_of};
+ghost use Rattle.desk_run.specs.Desk.{Spares};
+ghost use Rattle.desk_run.specs.Serve.{ServeCause};
+
+use crate::found::Found;
+use desk_words::Serving;
+use keep_core::Keeper;
+use links::Door;
+use rule_core::RuleBook;
+use std::alloc::Global;
+use std::thread::Threads;
+use streams::Failed;
+
+/// Listens at a port for a number of connections, and serves them with the first books, as many as there
+/// are workers.
+pub fn serve<R: Threads + Sync, K: Keeper, D: Door, B: RuleBook + Send>(
+    rt: &R,
+    alloc: Global,
+    serving: Serving,
+    keeper: &mut K,
+    door: &mut D,
+    books: &mut [B],
+) -> Found
+    requires workers { 1 ≤ serving.workers }
+    requires unheard { (D.told door.old).heard ≡ None }
+    ensures { ServeCause B.book serving
+        (record { wire = D.Conn.wire; broken = D.Conn.faults; door = D.told door.old; log = D.log door.old; tables = K.tables keeper.old; faults = K.faults keeper.old; calls = map B.calls books.old })
+        (record { wire = D.Conn.wire; broken = D.Conn.faults; door = D.told door.new; log = D.log door.new; tables = K.tables keeper.new; faults = K.faults keeper.new; calls = map B.calls books.new })
+        (status_of result) (writing_of result) }
+{
+    if serving.workers > books.len() as u64 {
+        return Found::Usage;
+    }
+    let Ok(()) = door.listen(serving.port, serving.connections) else {
+        return Found::ListenFault;
+    };
+    match serve_by(rt, alloc, serving.workers as usize, keeper, door, books) {
+        Ok(()) => Found::Served,
+        Err(Failed) => Found::ListenFault,
+    }
+}
+
+// Serves the links of a door by the first books, as many as there are workers.
+fn serve_by<R: Threads + Sync, K: Keeper, D: Door, B: RuleBook + Send>(
+    rt: &R,
+    alloc: Global,
+    workers: usize,
+    keeper: &mut K,
+    door: &mut D,
+    books: &mut [B],
+) -> Result<(), Failed>
+    requires some { 1 ≤ workers }
+    requires enough { workers ≤ length books.old }
+    ensures served { ServesDoor B.book D.Conn.wire D.Conn.faults (D.log door.old) (D.told door.old) (K.tables keeper.old)
+        (D.log door.new) (D.told door.new) (K.tables keeper.new) (K.faults keeper.old) (K.faults keeper.new)
+        (take workers (map B.calls books.old)) (take workers (map B.calls books.new)) }
+    ensures sound { KeepsSound B.book (K.tables keeper.old) (K.tables keeper.new) }
+    ensures heard { (D.told door.new).heard ≡ (D.told door.old).heard }
+    ensures given_back { (D.told door.new).out ≡ (D.told door.old).out }
+    ensures all { OnOk result ((D.told door.new).allowed ≡ 0) }
+    ensures counts { Counts (D.told door.old).faults (D.told door.new).faults result }
+    ensures spares { Spares workers (map B.calls books.old) (map B.calls books.new) }
+{
+    let (first, _others) = books.split_at_mut(workers);
+    desk_http::serve(rt, alloc, door, keeper, first)
+}

@@ -1,0 +1,95 @@
+ghost use Rattle.std.specs.Prelude.{◌≡◌, ◌<◌, ◌↔◌, length, map, codes, vec_len, IfOk, IfErr, IsTrue};
+ghost use Rattle.std.specs.String.{string_bytes};
+ghost use Rattle.std.specs.IoError.{error_kind};
+ghost use Rattle.std.specs.Vec.Iter.{into_iter_items};
+ghost use Rattle.desk_run.specs.Start.{found_by, IsRefusal, Starts};
+
+use crate::found::Found;
+use rule_book::Thirty;
+use snap_tree::{List, OutOfMemory, Text};
+use std::alloc::{AllocError, Global};
+use std::env::{Args, FillError};
+use std::io::ErrorKind;
+use std::rt::Env;
+use std::{env, io};
+
+// How many books the program has, and so how many workers it may be told.
+const MOST_WORKERS: usize = 16;
+
+impl From<io::Error> for Found {
+    ghost from_gives = { λ error found. found ≡ found_by (error_kind error) };
+
+    fn from(error: io::Error) -> Self {
+        match error.kind() {
+            ErrorKind::OutOfMemory => Found::NoMemory,
+            _ => Found::Usage,
+        }
+    }
+}
+
+/// The words of a command, which stand after the program's name and the store's. The store is looked at
+/// first: where it can't be opened, no word behind it matters.
+pub fn command_words<R: Env + AllocGlobal>(rt: &R) -> Result<List<Text>, Found>
+    ensures some { IfOk result (λ words. 0 < length words) }
+    ensures refused { IfErr result IsRefusal }
+{
+    open_store(rt)?;
+    words_in(rt.alloc(), env::args(rt)?)
+}
+
+// Opens the store that the second argument names: `-` is the one in memory, and no other opens yet.
+fn open_store(rt: &impl Env) -> Result<(), Found>
+    ensures { IfErr result IsRefusal }
+{
+    let mut name = [0; 2];
+    match rt.arg(1, &mut name) {
+        Ok(size) if is_memory(&name[..size]) => Ok(()),
+        Ok(_) | Err(FillError::TooLong) => Err(Found::StoreFault),
+        Err(FillError::NotPresent) => Err(Found::Usage),
+    }
+}
+
+// Whether that is the name of the store in memory.
+fn is_memory(name: &[u8]) -> bool
+    ensures { IsTrue result ↔ (name.now ≡ codes "-") }
+{
+    name == b"-".as_slice()
+}
+
+// The words of a command among a program's arguments, or why they give none.
+fn words_in(alloc: Global, mut args: Args) -> Result<List<Text>, Found>
+    ensures { Starts (map string_bytes (into_iter_items args)) result }
+{
+    let (Some(_program), Some(_store)) = (args.next(), args.next()) else {
+        return Err(Found::Usage);
+    };
+    let Ok(words) = texts_of(alloc, args) else {
+        return Err(Found::NoMemory);
+    };
+    if words.is_empty() {
+        return Err(Found::Usage);
+    }
+    Ok(List::from_vec(words))
+}
+
+// The same texts, in order.
+fn texts_of(alloc: Global, strings: Args) -> Result<Vec<Text>, OutOfMemory>
+    ensures { IfOk result (λ texts. texts.items ≡ map string_bytes (into_iter_items strings)) }
+{
+    let mut texts = Vec::new(alloc);
+    for string in strings {
+        texts.push(Text::from_string(string))?;
+    }
+    Ok(texts)
+}
+
+/// The books that judge, as many as an import may have at work.
+pub fn made_books(alloc: Global) -> Result<Vec<Thirty>, AllocError>
+    ensures { IfOk result (λ books. 0 < vec_len books) }
+{
+    let mut books = Vec::new(alloc);
+    for _ in 0..MOST_WORKERS {
+        books.push(Thirty::new())?;
+    }
+    Ok(books)
+}
