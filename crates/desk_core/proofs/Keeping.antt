@@ -53,7 +53,7 @@ module _ (book : Book) (t : Tables) (fit : FitTables t) where
       entering_kept IfAnyFits t needed.Owner caller site _ (λ k is may. put_member_fits site caller user held k.site named parts (fits_in site k is).site)
   fits_by caller (command.PutPage site page rev raw) user named parts =
       entering_kept IfAnyFits t needed.Editor caller site _ (λ k is may.
-      put_page_fits book site caller page rev raw k.site (page_at page (map page_state k.pages)) (length (map page_state k.pages)) named parts.seen.named parts.web)
+      put_page_fits book site caller page rev raw k.site (revision_in (page_at page (map page_state k.pages))) (judged (page_at page (map page_state k.pages))) (length (map page_state k.pages)) named parts.seen.named parts.web)
   fits_by caller (command.DropPage site page rev) user named parts =
       entering_kept IfAnyFits t needed.Editor caller site _ (λ k is may.
       on_page_kept IfAnyFits t page k (λ (q : PageState). drop_page site page rev q.page) (λ p found. drop_page_fits site page rev p.page named parts.named))

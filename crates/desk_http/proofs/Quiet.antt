@@ -24,6 +24,7 @@ use Rattle.judge_core.specs.Composites.{is_open}
 use Rattle.judge_core.specs.Outcomes.{outcomes}
 use Rattle.judge_core.specs.RowLookups.{row_at}
 use Rattle.keep_core.specs.declared.member.MemberRole.{MemberRole}
+use Rattle.keep_core.specs.declared.page.Page.{Page}
 use Rattle.keep_core.specs.declared.site.Site.{Site}
 use Rattle.keep_core.specs.declared.change.Change.TheVariants.{AddJudgement}
 use Rattle.keep_core.specs.Names.{is_name}
@@ -45,7 +46,7 @@ use Rattle.desk_core.specs.Refusals.{Decision, unless, on, unless_refused}
 use Rattle.desk_core.specs.State.{State, SiteState, state_of, page_at, site_at}
 use Rattle.desk_core.specs.Rights.{may, role_of, entering, on_page}
 use Rattle.desk_core.specs.Members.{put_member}
-use Rattle.desk_core.specs.Pages.{rev_of, judged, has_room, has_revisions, renewed, built, put_page, edited, edit_page, drop_page, stored}
+use Rattle.desk_core.specs.Pages.{revision_in, due, judged, has_room, has_revisions, renewed, built, put_page, edited, edit_page, drop_page, stored}
 use Rattle.desk_core.specs.Imports.{puts, new_pages, first_stale, first_fault, import}
 use Rattle.desk_core.specs.Judging.{is_latest, added, judged_row, judge}
 use Rattle.desk_core.specs.Reading.{answered, site_page, sheet}
@@ -122,14 +123,14 @@ few_pages book caller pages counter entries fits =
 put_member_quiet : (name caller user : List ℕ) (held : Option MemberRole) (site : Site) → is_short user ≡ true → Quiet (put_member name caller user held site)
 put_member_quiet name caller user held site short = unless_quiet (not (bytes_eq user caller)) (refusal.NotAllowed needed.AnotherOwner) _ (inr short)
 
-put_page_quiet : (book : Book) (site caller page : List ℕ) (rev : ℕ) (raw : Raw) (s : Site) (kept : Option PageState) (pages : ℕ) → is_short page ≡ true →
-    Quiet (put_page book site caller page rev raw s kept pages)
-put_page_quiet book site caller page rev raw s kept pages short =
-    let next = renewed book site caller page s.counter (judged kept) in
+put_page_quiet : (book : Book) (site caller page : List ℕ) (rev : ℕ) (raw : Raw) (s : Site) (there : Option ℕ) (js : List Judgement) (pages : ℕ) → is_short page ≡ true →
+    Quiet (put_page book site caller page rev raw s there js pages)
+put_page_quiet book site caller page rev raw s there js pages short =
+    let next = renewed book site caller page s.counter js in
     let refused = option_map_or (λ (f : TreeFault). Some (refusal.TreeFault f None)) (tree_fault raw.rows) None in
-    unless_quiet (has_room kept pages) (refusal.PageLimit limit.Pages) _ (
+    unless_quiet (has_room there pages) (refusal.PageLimit limit.Pages) _ (
     unless_quiet (has_revisions s.counter 1) (refusal.PageLimit limit.Revisions) _ (
-    unless_quiet (rev == rev_of kept) (refusal.StaleRevision (rev_of kept) None) (built None raw next) (
+    unless_quiet (rev == due there) (refusal.StaleRevision (due there) None) (built None raw next) (
     refused_quiet refused (next (page_of raw)) (inr short))))
 
 edit_page_quiet : (book : Book) (site caller page : List ℕ) (rev : ℕ) (edits : List Edit) (s : Site) (kept : PageState) → is_short page ≡ true →
@@ -140,8 +141,8 @@ edit_page_quiet book site caller page rev edits s kept short =
     unless_quiet (rev == kept.page.head.rev) (refusal.StaleRevision kept.page.head.rev None) _ (
     edited_quiet kept.page.tree (edited_all kept.page.tree.trees edits) next (λ _. inr short)))
 
-drop_page_quiet : (site page : List ℕ) (rev : ℕ) (kept : PageState) → is_short page ≡ true → Quiet (drop_page site page rev kept)
-drop_page_quiet site page rev kept short = unless_quiet (rev == kept.page.head.rev) (refusal.StaleRevision kept.page.head.rev None) _ (inr short)
+drop_page_quiet : (site page : List ℕ) (rev : ℕ) (kept : Page) → is_short page ≡ true → Quiet (drop_page site page rev kept)
+drop_page_quiet site page rev kept short = unless_quiet (rev == kept.head.rev) (refusal.StaleRevision kept.head.rev None) _ (inr short)
 
 import_quiet : (book : Book) (site caller : List ℕ) (entries : List Entry) (s : SiteState) → FitsEntries entries → Quiet (import book site caller entries s)
 import_quiet book site caller entries s fits =
@@ -187,11 +188,11 @@ decision_quiet book caller (command.PutSite site) (Some s) named fits = tt
 decision_quiet book caller (command.PutMember site user held) kept named fits =
     entering_quiet needed.Owner caller kept (λ s. put_member site caller user held s.site) (λ s. put_member_quiet site caller user held s.site (short_name user fits))
 decision_quiet book caller (command.PutPage site page rev raw) kept named fits =
-    entering_quiet needed.Editor caller kept (λ s. put_page book site caller page rev raw s.site (page_at page s.pages) (length s.pages))
-    (λ s. put_page_quiet book site caller page rev raw s.site (page_at page s.pages) (length s.pages) (short_name page fits.seen.named))
+    entering_quiet needed.Editor caller kept (λ s. put_page book site caller page rev raw s.site (revision_in (page_at page s.pages)) (judged (page_at page s.pages)) (length s.pages))
+    (λ s. put_page_quiet book site caller page rev raw s.site (revision_in (page_at page s.pages)) (judged (page_at page s.pages)) (length s.pages) (short_name page fits.seen.named))
 decision_quiet book caller (command.DropPage site page rev) kept named fits =
-    entering_quiet needed.Editor caller kept (λ s. on_page page s (drop_page site page rev))
-    (λ s. on_page_quiet page s (drop_page site page rev) (λ p. drop_page_quiet site page rev p (short_name page fits.named)))
+    entering_quiet needed.Editor caller kept (λ s. on_page page s (λ p. drop_page site page rev p.page))
+    (λ s. on_page_quiet page s (λ p. drop_page site page rev p.page) (λ p. drop_page_quiet site page rev p.page (short_name page fits.named)))
 decision_quiet book caller (command.Import site entries) kept named fits =
     entering_quiet needed.Editor caller kept (import book site caller entries) (λ s. import_quiet book site caller entries s fits)
 decision_quiet book caller (command.EditPage site page rev edits) kept named fits =

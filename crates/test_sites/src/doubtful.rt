@@ -1,5 +1,7 @@
 //! A keeper that ceases to tell what it keeps, and notes its calls.
 
+ghost use Rattle.std.specs.Prelude.{◌≡◌};
+
 use judge_core::{Judgement, Outcomes};
 use keep_core::{Batch, KeepFault, Keeper, MemoryKeeper, Page, PageHead, Site};
 use snap_tree::{List, Text};
@@ -17,21 +19,53 @@ pub enum Call {
 }
 
 /// A keeper over one in memory that tells its tables until its first fault, as a store does that is shut
-/// then. It notes its last call.
+/// then. It notes its last call, and which came since it was asked for them.
 #[derive(Drop)]
 pub struct Doubtful {
     memory: MemoryKeeper,
     last: Option<Call>,
+    trail: u64,
+}
+
+/// Calls, of which this one comes after those of a trail: a digit to the base eight for each.
+pub fn trail_with(trail: u64, call: Call) -> u64 {
+    let digit = match call {
+        Call::Site => 1,
+        Call::Load => 2,
+        Call::List => 3,
+        Call::Judgements => 4,
+        Call::Outcomes => 5,
+        Call::Apply => 6,
+    };
+    trail.wrapping_mul(8).wrapping_add(digit)
 }
 
 impl Doubtful {
     pub fn over(memory: MemoryKeeper) -> Self {
-        Doubtful { memory, last: None }
+        Doubtful {
+            memory,
+            last: None,
+            trail: 0,
+        }
     }
 
     /// The last call; None before the first.
     pub fn last(&self) -> Option<Call> {
         self.last
+    }
+
+    /// The calls since this was asked for before.
+    pub fn trail(&mut self) -> u64 {
+        let trail = self.trail;
+        self.trail = 0;
+        trail
+    }
+
+    fn note(&mut self, call: Call)
+        ensures { self.new.memory ≡ self.old.memory }
+    {
+        self.last = Some(call);
+        self.trail = trail_with(self.trail, call);
     }
 }
 
@@ -43,17 +77,17 @@ impl Keeper for Doubtful {
     ghost faults = { λ k. k.memory.faults };
 
     fn site(&mut self, alloc: Global, site: &Text) -> Result<Option<Site>, KeepFault> {
-        self.last = Some(Call::Site);
+        self.note(Call::Site);
         self.memory.site(alloc, site)
     }
 
     fn load(&mut self, alloc: Global, site: &Text, page: &Text) -> Result<Option<Page>, KeepFault> {
-        self.last = Some(Call::Load);
+        self.note(Call::Load);
         self.memory.load(alloc, site, page)
     }
 
     fn list(&mut self, alloc: Global, site: &Text) -> Result<List<PageHead>, KeepFault> {
-        self.last = Some(Call::List);
+        self.note(Call::List);
         self.memory.list(alloc, site)
     }
 
@@ -63,17 +97,17 @@ impl Keeper for Doubtful {
         site: &Text,
         page: &Text,
     ) -> Result<List<Judgement>, KeepFault> {
-        self.last = Some(Call::Judgements);
+        self.note(Call::Judgements);
         self.memory.judgements(alloc, site, page)
     }
 
     fn outcomes(&mut self, alloc: Global, site: &Text, page: &Text) -> Result<Outcomes, KeepFault> {
-        self.last = Some(Call::Outcomes);
+        self.note(Call::Outcomes);
         self.memory.outcomes(alloc, site, page)
     }
 
     fn apply(&mut self, alloc: Global, batch: &Batch) -> Result<(), KeepFault> {
-        self.last = Some(Call::Apply);
+        self.note(Call::Apply);
         self.memory.apply(alloc, batch)
     }
 }

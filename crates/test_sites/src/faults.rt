@@ -121,8 +121,8 @@ fn changes_nothing<R: Threads + Sync>(
 // After the two calls that make the site, putting the page makes four, of which the last is `apply`.
 static CALLS: [(u64, Call); 4] = [
     (3, Call::Site),
-    (4, Call::Load),
-    (5, Call::List),
+    (4, Call::List),
+    (5, Call::Judgements),
     (6, Call::Apply),
 ];
 

@@ -13,6 +13,8 @@ mod overfull;
 #[cfg(test)]
 mod random;
 #[cfg(test)]
+mod reads;
+#[cfg(test)]
 mod scripts;
 #[cfg(test)]
 mod serving;

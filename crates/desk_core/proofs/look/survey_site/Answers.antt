@@ -22,7 +22,7 @@ returns g c = record {
       let listed = c.in_ok-judgements.ensures.reads.stays t told in
       let heads = c.in_ok-heads.ensures.reads.answers t listed in (
         c.in_ok-entered.ensures.found t (c.in_ok-heads.ensures.reads.stays t listed),
-        current_kept page (pages_of site t) ∙ (ap (λ (hs : List PageHead). current_in hs page) (sym heads) ∙ sym c.current_in.ensures),
+        current_kept page (pages_of site t) ∙ (ap (λ (hs : List PageHead). current_in hs page) (sym heads ∙ sym c.as_slice.ensures) ∙ sym c.current_in-current.ensures),
         judged_of (kept_page site page t) ∙ sym (c.in_ok-judgements.ensures.reads.answers t told),
         sym (length-map (pages_of site t) (λ (p : KeptPage). p.page.head)) ∙ (ap length (sym heads) ∙ sym c.len.ensures),
       );
