@@ -3,7 +3,7 @@ ghost use Rattle.streams.specs.Streams.{ReadsAtMost};
 ghost use Rattle.desk_run.specs.Telling.{status_of, writing_of};
 ghost use Rattle.desk_run.specs.Audit.{report_of, has_failed, fails, IsFoundIn, AuditCause};
 
-use crate::fault_line::fault_line;
+use crate::fault_lines::fault_line;
 use crate::found::Found;
 use judge_core::{OutRow, infos_of};
 use reaudit::audit_page;

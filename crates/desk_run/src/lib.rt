@@ -4,19 +4,19 @@
 #![tactic(auto)]
 
 mod audit;
-mod fault_line;
+mod fault_lines;
 mod found;
 mod generate;
-mod run;
+mod running;
 mod serve;
 mod show;
 mod start;
 mod status;
-mod tell;
+mod telling;
 
-pub use fault_line::fault_line;
+pub use fault_lines::fault_line;
 pub use found::Found;
-pub use run::run;
+pub use running::run;
 pub use start::{command_words, made_books};
 pub use status::Status;
-pub use tell::{status_of, tell};
+pub use telling::{status_of, tell};

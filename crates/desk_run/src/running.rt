@@ -11,7 +11,7 @@ use crate::found::Found;
 use crate::generate::generate;
 use crate::serve::serve;
 use crate::show::show;
-use crate::tell::tell;
+use crate::telling::tell;
 use desk_words::{Command, command_in};
 use keep_core::Keeper;
 use links::Door;

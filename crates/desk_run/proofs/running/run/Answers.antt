@@ -2,7 +2,7 @@ use Rattle.std.proofs.Common.{arith}
 use Rattle.streams.proofs.Known.{whole}
 use Rattle.desk_run.proofs.Lent.{lent, as_many}
 use Rattle.desk_run.proofs.Endings.{runs}
-use Rattle.desk_run.proofs.run.run.Goals as goal
+use Rattle.desk_run.proofs.running.run.Goals as goal
 
 pub returns : goal.returns
 returns g c =
