@@ -6,6 +6,7 @@ ghost use Rattle.rule_book.specs.Book.{thirty};
 
 use crate::table::infos;
 use counts::next;
+use locality::LocalBook;
 use rule_core::{NodeVerdict, Rule, RuleBook, RuleInfo, RuleNo, Verdict};
 use rules_aria::{
     AriaAttributeIsDefined, AriaValueIsValid, AutocompleteIsValid, HasRequiredStates,
@@ -191,4 +192,10 @@ impl RuleBook for Thirty {
     ghost few = { Prim.search rules };
 
     ghost strange = { said_strange thirty };
+}
+
+impl LocalBook for Thirty {
+    ghost use Rattle.rule_book.specs.Local.{thirty_local};
+
+    ghost local = { thirty_local };
 }

@@ -1,0 +1,3 @@
+pub mod Told
+pub mod Resting
+pub mod Tables

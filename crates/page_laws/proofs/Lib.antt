@@ -1,0 +1,4 @@
+pub mod Titles
+pub mod Metas
+pub mod Rules
+pub mod Bypassing
