@@ -1,0 +1,12 @@
+pub mod Steps
+pub mod Each
+pub mod Counted
+pub mod Named
+pub mod Housing
+pub mod Groups
+pub mod Appending
+pub mod Telling
+pub mod Shown
+pub mod Elsewhere
+pub mod Siting
+pub mod Dropping

@@ -1,0 +1,11 @@
+use Rattle.store_tables.proofs.Shown.{site_told, page_told, heads_told, judgements_told, outcomes_told}
+use Rattle.store_tables.proofs.laws.laws_of_reading.Goals as goal
+
+pub returns : goal.returns
+returns c = record {
+  site = site_told;
+  page = page_told;
+  heads = heads_told;
+  judgements = judgements_told;
+  outcomes = outcomes_told;
+}

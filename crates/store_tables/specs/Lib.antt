@@ -1,0 +1,5 @@
+pub mod Reading
+pub mod Cells
+pub mod Rows
+pub mod Told
+pub mod Batches

@@ -1,0 +1,38 @@
+ghost use Rattle.std.specs.Prelude.{◌≡◌, ℕ, List, true, Some};
+ghost use Rattle.keep_core.specs.declared.site.Site.{Site};
+ghost use Rattle.keep_core.specs.declared.change.Change.TheVariants as change;
+ghost use Rattle.keep_core.specs.Fits.{FitsSite};
+ghost use Rattle.keep_core.specs.Changes.{changed};
+ghost use Rattle.keep_core.specs.Tables.{Tables, site_of, page_of, heads_of, judgements_of, outcomes_of};
+ghost use Rattle.store_texts.specs.Stored.{Stored, site_at, members_at, page_at, heads_at, judgements_at, outcomes_at};
+ghost use Rattle.store_tables.specs.Batches.{PutsWhole, ReadsSite, DropsWhole, ReadsPage};
+ghost use Rattle.store_tables.specs.Told.{tables_in, is_site, site_shown, page_shown, heads_shown, judgements_shown, outcomes_shown};
+
+/// Laws of reading. It does nothing: the clauses are what it is for.
+///
+/// Where stored rows tell tables, what the reading texts show of the rows reads, and it reads as what the tables have: a
+/// site with its members, a page, the heads of a site's pages, and a page's judgements and outcomes.
+pub fn laws_of_reading()
+    ensures site { (s : Stored) (t : Tables) → tables_in s ≡ Some t → (site : List ℕ)
+        → site_shown site (site_at site s) (members_at site s) ≡ Some (site_of site t) }
+    ensures page { (s : Stored) (t : Tables) → tables_in s ≡ Some t → (site page : List ℕ)
+        → page_shown page (page_at site page s) ≡ Some (page_of site page t) }
+    ensures heads { (s : Stored) (t : Tables) → tables_in s ≡ Some t → (site : List ℕ)
+        → heads_shown (heads_at site s) ≡ Some (heads_of site t) }
+    ensures judgements { (s : Stored) (t : Tables) → tables_in s ≡ Some t → (site page : List ℕ)
+        → judgements_shown (judgements_at site page s) ≡ Some (judgements_of site page t) }
+    ensures outcomes { (s : Stored) (t : Tables) → tables_in s ≡ Some t → (site page : List ℕ)
+        → outcomes_shown (outcomes_at site page s) ≡ Some (outcomes_of site page t) }
+{}
+
+/// Laws of changes. It does nothing: the clauses are what it is for.
+///
+/// A site is put with its members, over one that read; or a page of a site that is kept is dropped that read, with its
+/// judgements and outcomes. Where rows tell tables afterwards, they told tables before too, and the change of those is
+/// these.
+pub fn laws_of_changes()
+    ensures put { (site : Site) (old new : Stored) → PutsWhole site old new → FitsSite site → ReadsSite site.name old
+        → (t : Tables) → tables_in new ≡ Some t → (before : Tables) × (tables_in old ≡ Some before) × (t ≡ changed (change.PutSite site) before) }
+    ensures dropped { (site page : List ℕ) (old new : Stored) → DropsWhole site page old new → is_site old site ≡ true → ReadsPage site page old
+        → (t : Tables) → tables_in new ≡ Some t → (before : Tables) × (tables_in old ≡ Some before) × (t ≡ changed (change.DropPage site page) before) }
+{}
