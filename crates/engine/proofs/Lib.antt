@@ -1,0 +1,5 @@
+pub mod Rows
+pub mod Counts
+pub mod Placing
+pub mod Earlier
+pub mod Kept

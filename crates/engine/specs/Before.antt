@@ -1,0 +1,22 @@
+-- The rows that the nodes of a page had.
+use Rattle.std.specs.Prelude.{◌≡◌, List, map, slice_get, Option, Some, None}
+use Rattle.snap_tree.specs.Trees.{Document, rows_of}
+use Rattle.rule_core.specs.declared.info.RuleNo.{RuleNo}
+use Rattle.rule_core.specs.Books.{Book}
+use Rattle.judge_core.specs.declared.judgement.Judgement.{Judgement}
+use Rattle.judge_core.specs.declared.outcomes.OutRow.{OutRow}
+use Rattle.judge_core.specs.Outcomes.{atomic_row}
+use Rattle.engine.specs.declared.known.Known.{Known}
+
+abbrev pub joined : Option (Option OutRow) → Option OutRow
+joined None = None
+joined (Some row) = row
+
+-- the row at the place of a node that is known
+abbrev pub kept_at : List (Option OutRow) → Option Known → Option OutRow
+kept_at before None = None
+kept_at before (Some known) = joined (slice_get before known.place)
+
+-- the rows that a rule had on the nodes of the old page, in the order of the nodes
+abbrev pub WereRows : Book → Document → List Judgement → RuleNo → List (Option OutRow) → Type 0
+WereRows book old js rule before = before ≡ map (λ row. atomic_row book old js rule row.id) (rows_of old.trees)

@@ -1,0 +1,56 @@
+-- What is known of the nodes of a page that was edited.
+use Rattle.std.specs.Prelude.{◌≡◌, ◌==◌, ◌+◌, ◌&&◌, not, ℕ, List, [], ◌∷◌, map, Bool, true, if◌then◌else◌, Option, Some, None}
+use Rattle.std.specs.BTreeMap.{BTreeMap, get}
+use Rattle.std.specs.Option.{option_or}
+use Rattle.std.specs.Ordering.{nat_cmp}
+use Rattle.snap_tree.specs.declared.row.NodeId.{NodeId}
+use Rattle.snap_tree.specs.Trees.{Trees, Document, rows_of}
+use Rattle.acc_tree.specs.Seen.{seen}
+use Rattle.rule_core.specs.declared.info.Class.{Class}
+use Rattle.rule_core.specs.declared.info.Class.TheVariants.{SelfOnly, Sub, Table, Title, Metas, Whole}
+use Rattle.rule_core.specs.declared.info.RuleInfo.{RuleInfo}
+use Rattle.page_changes.specs.declared.flags.Flags.{Flags}
+use Rattle.page_changes.specs.Flags.{flags_of}
+use Rattle.engine.specs.declared.known.Known.{Known}
+use Rattle.engine.specs.declared.known.Placed.{Placed}
+
+-- the first flags of a number in a list, with their place, counted from `from`
+abbrev pub first_known : ℕ → ℕ → List Flags → Option Known
+first_known from n [] = None
+first_known from n (f ∷ list) = if f.node.0 == n then Some (record { place = from; flags = f }) else first_known (from + 1) n list
+
+abbrev pub HasEach : List Flags → BTreeMap ℕ Known → Type 0
+HasEach list by_number = (n : ℕ) → get nat_cmp by_number n ≡ first_known 0 n list
+
+abbrev pub HasPut : BTreeMap ℕ Known → BTreeMap ℕ Known → ℕ → Flags → Type 0
+HasPut old new place f = (n : ℕ) → get nat_cmp new n ≡ option_or (get nat_cmp old n) (if f.node.0 == n then Some (record { place = place; flags = f }) else None)
+
+abbrev pub placed_by : BTreeMap ℕ Known → NodeId → Placed
+placed_by by_number n = record { node = n; known = get nat_cmp by_number n.0 }
+
+-- what is known of a number: its place on the old page, and what of it is the same
+abbrev pub known_of : Document → Document → NodeId → Option Known
+known_of old new n = first_known 0 n.0 (map (λ row. flags_of (seen old.trees) (seen new.trees) row.id) (rows_of (seen old.trees)))
+
+abbrev pub placed_of : Document → Document → NodeId → Placed
+placed_of old new n = record { node = n; known = known_of old new n }
+
+-- the nodes of the new page, with what is known of each
+abbrev pub ArePlaced : Document → Document → List Placed → Type 0
+ArePlaced old new placed = placed ≡ map (λ row. placed_of old new row.id) (rows_of new.trees)
+
+-- ---- what has to be judged
+
+-- the pages agree on all that a class looks at
+abbrev pub class_flag : Class → Flags → Bool
+class_flag SelfOnly f = f.itself
+class_flag Sub f = f.sub
+class_flag Table f = f.table
+class_flag Title f = f.title
+class_flag Metas f = f.metas
+class_flag Whole f = f.whole
+
+-- a rule has to judge a node: it is new, or something isn't the same that the rule looks at, which on a target is more
+abbrev pub has_to_judge : RuleInfo → Option Known → Bool → Bool
+has_to_judge info None target = true
+has_to_judge info (Some k) target = not (class_flag info.applies k.flags && (if target then class_flag info.expects k.flags else true))

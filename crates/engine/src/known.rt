@@ -1,0 +1,72 @@
+ghost use Rattle.std.specs.Prelude.{◌≡◌, ℕ, map, IfOk, OnOk};
+ghost use Rattle.std.specs.BTreeMap.{get};
+ghost use Rattle.std.specs.Ordering.{nat_cmp};
+ghost use Rattle.acc_tree.specs.Seen.{seen};
+ghost use Rattle.page_changes.specs.Flags.{AreFlags};
+ghost use Rattle.engine.specs.Known.{HasEach, HasPut, placed_by, ArePlaced};
+
+use page_changes::{Flags, changes};
+use snap_tree::{NodeId, OutOfMemory, Row, Tree};
+use std::alloc::Global;
+use std::collections::BTreeMap;
+
+/// What is known of a node of the old page: its place in document order, from 0, and what of it is the same.
+#[derive(Clone, Copy, Debug)]
+pub struct Known {
+    pub place: usize,
+    pub flags: Flags,
+}
+
+/// A node of the new page, with what is known of it; None for one that the old page doesn't hold.
+#[derive(Clone, Copy, Debug)]
+pub struct Placed {
+    pub node: NodeId,
+    pub known: Option<Known>,
+}
+
+type ByNumber = BTreeMap<u32, Known>;
+
+fn put(by_number: &mut ByNumber, place: usize, flags: Flags) -> Result<(), OutOfMemory>
+    ensures { OnOk result (HasPut by_number.old by_number.new place flags) }
+{
+    by_number
+        .entry(flags.node.0)?
+        .or_insert(Known { place, flags });
+    Ok(())
+}
+
+fn by_number(alloc: Global, list: &[Flags]) -> Result<ByNumber, OutOfMemory>
+    ensures { IfOk result (λ by_number. HasEach list.now by_number) }
+{
+    let mut by_number: ByNumber = BTreeMap::new(alloc);
+    let mut rest = list;
+    let mut place = 0;
+    while let Some((flags, later)) = rest.split_first() {
+        put(&mut by_number, place, *flags)?;
+        place += 1;
+        rest = later;
+    }
+    Ok(by_number)
+}
+
+fn place_all(alloc: Global, by_number: &ByNumber, rows: &[Row]) -> Result<Vec<Placed>, OutOfMemory>
+    ensures { IfOk result (λ placed. placed.items ≡ map (λ row. placed_by by_number.now row.id) rows.now) }
+{
+    let mut placed = Vec::with_capacity(alloc, rows.len())?;
+    for row in rows {
+        placed.push(Placed {
+            node: row.id,
+            known: by_number.get(&row.id.0).copied(),
+        })?;
+    }
+    Ok(placed)
+}
+
+/// The nodes of the new page in document order, with what is known of each. Fails only for want of memory.
+pub fn known_nodes(alloc: Global, old: &Tree, new: &Tree) -> Result<Vec<Placed>, OutOfMemory>
+    ensures { IfOk result (λ placed. ArePlaced old.now new.now placed.items) }
+{
+    let flags = changes(alloc, old, new)?;
+    let by_number = by_number(alloc, flags.as_slice())?;
+    place_all(alloc, &by_number, new.rows())
+}

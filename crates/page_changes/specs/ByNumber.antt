@@ -1,0 +1,31 @@
+-- The marks of each node of a page, by its number.
+use Rattle.std.specs.Prelude.{◌≡◌, ◌==◌, not, ℕ, List, Bool, false, if◌then◌else◌, Option, Some, None, option_map}
+use Rattle.std.specs.BTreeMap.{BTreeMap, get}
+use Rattle.std.specs.List.{find}
+use Rattle.std.specs.Option.{option_or}
+use Rattle.std.specs.Ordering.{nat_cmp}
+use Rattle.snap_tree.specs.declared.row.NodeId.{NodeId}
+use Rattle.snap_tree.specs.Lookups.{node}
+use Rattle.snap_tree.specs.Trees.{Trees}
+use Rattle.page_changes.specs.declared.marks.Marks.{Marks}
+use Rattle.page_changes.specs.Marks.{marks_of}
+
+-- the first marks of a number in a list
+abbrev pub first_marks : ℕ → List Marks → Option Marks
+first_marks n list = find (λ m. m.node.0 == n) list
+
+-- the map has the first marks of each number
+abbrev pub HasEach : List Marks → BTreeMap ℕ Marks → Type 0
+HasEach list by_number = (n : ℕ) → get nat_cmp by_number n ≡ first_marks n list
+
+-- one more number has marks, unless it had some
+abbrev pub HasPut : BTreeMap ℕ Marks → BTreeMap ℕ Marks → Marks → Type 0
+HasPut old new marks = (n : ℕ) → get nat_cmp new n ≡ option_or (get nat_cmp old n) (if marks.node.0 == n then Some marks else None)
+
+-- the map has the marks of each node of the old page, and no others
+abbrev pub AreByNumber : Trees → Trees → BTreeMap ℕ Marks → Type 0
+AreByNumber old new by_number = (n : NodeId) → get nat_cmp by_number n.0 ≡ option_map (λ row. marks_of old new row.id) (node old n)
+
+-- the marks of a number that the old page doesn't hold: its keys are the same where the new page doesn't either
+abbrev pub strange : NodeId → Bool → Marks
+strange n lost = record { node = n; root = false; meta = false; table = None; itself = lost; own = lost; tree = lost }
