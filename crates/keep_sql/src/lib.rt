@@ -1,0 +1,9 @@
+//! Reading what the desk keeps from a store in SQLite.
+//!
+//! Each call reads in a transaction of its own, and leaves the store as it was. Start with [`read_site`].
+#![tactic(auto)]
+
+mod calls;
+mod reads;
+
+pub use calls::{read_heads, read_judgements, read_outcomes, read_page, read_site};
