@@ -1,7 +1,5 @@
 //! A keeper that ceases to tell what it keeps, and notes its calls.
 
-ghost use Rattle.std.specs.Prelude.{◌≡◌};
-
 use judge_core::{Judgement, Outcomes};
 use keep_core::{Batch, KeepFault, Keeper, MemoryKeeper, Page, PageHead, Site};
 use snap_tree::{List, Text};
@@ -18,16 +16,23 @@ pub enum Call {
     Apply,
 }
 
-/// A keeper over one in memory that tells its tables until its first fault, as a store does that is shut
-/// then. It notes its last call, and which came since it was asked for them.
-#[derive(Drop)]
-pub struct Doubtful {
-    memory: MemoryKeeper,
+/// Which calls came: the last one, and all since the trail was looked at, a digit to the base eight for each.
+#[derive(Clone, Copy)]
+struct Noted {
     last: Option<Call>,
     trail: u64,
 }
 
-/// Calls, of which this one comes after those of a trail: a digit to the base eight for each.
+impl Noted {
+    fn and(self, call: Call) -> Noted {
+        Noted {
+            last: Some(call),
+            trail: trail_with(self.trail, call),
+        }
+    }
+}
+
+/// Calls, of which this one comes after those of a trail.
 pub fn trail_with(trail: u64, call: Call) -> u64 {
     let digit = match call {
         Call::Site => 1,
@@ -40,32 +45,33 @@ pub fn trail_with(trail: u64, call: Call) -> u64 {
     trail.wrapping_mul(8).wrapping_add(digit)
 }
 
+/// A keeper over one in memory that tells its tables until its first fault, as a store does that is shut
+/// then. It notes its calls.
+#[derive(Drop)]
+pub struct Doubtful {
+    memory: MemoryKeeper,
+    noted: Noted,
+}
+
 impl Doubtful {
     pub fn over(memory: MemoryKeeper) -> Self {
-        Doubtful {
-            memory,
+        let noted = Noted {
             last: None,
             trail: 0,
-        }
+        };
+        Doubtful { memory, noted }
     }
 
     /// The last call; None before the first.
     pub fn last(&self) -> Option<Call> {
-        self.last
+        self.noted.last
     }
 
     /// The calls since this was asked for before.
     pub fn trail(&mut self) -> u64 {
-        let trail = self.trail;
-        self.trail = 0;
+        let trail = self.noted.trail;
+        self.noted.trail = 0;
         trail
-    }
-
-    fn note(&mut self, call: Call)
-        ensures { self.new.memory ≡ self.old.memory }
-    {
-        self.last = Some(call);
-        self.trail = trail_with(self.trail, call);
     }
 }
 
@@ -77,17 +83,17 @@ impl Keeper for Doubtful {
     ghost faults = { λ k. k.memory.faults };
 
     fn site(&mut self, alloc: Global, site: &Text) -> Result<Option<Site>, KeepFault> {
-        self.note(Call::Site);
+        self.noted = self.noted.and(Call::Site);
         self.memory.site(alloc, site)
     }
 
     fn load(&mut self, alloc: Global, site: &Text, page: &Text) -> Result<Option<Page>, KeepFault> {
-        self.note(Call::Load);
+        self.noted = self.noted.and(Call::Load);
         self.memory.load(alloc, site, page)
     }
 
     fn list(&mut self, alloc: Global, site: &Text) -> Result<List<PageHead>, KeepFault> {
-        self.note(Call::List);
+        self.noted = self.noted.and(Call::List);
         self.memory.list(alloc, site)
     }
 
@@ -97,17 +103,17 @@ impl Keeper for Doubtful {
         site: &Text,
         page: &Text,
     ) -> Result<List<Judgement>, KeepFault> {
-        self.note(Call::Judgements);
+        self.noted = self.noted.and(Call::Judgements);
         self.memory.judgements(alloc, site, page)
     }
 
     fn outcomes(&mut self, alloc: Global, site: &Text, page: &Text) -> Result<Outcomes, KeepFault> {
-        self.note(Call::Outcomes);
+        self.noted = self.noted.and(Call::Outcomes);
         self.memory.outcomes(alloc, site, page)
     }
 
     fn apply(&mut self, alloc: Global, batch: &Batch) -> Result<(), KeepFault> {
-        self.note(Call::Apply);
+        self.noted = self.noted.and(Call::Apply);
         self.memory.apply(alloc, batch)
     }
 }
