@@ -127,10 +127,11 @@ fn pages_that_are_filled_keep_their_verdicts(rt: HostRuntime) -> Result<(), Fail
 }
 
 // What the form becomes with a text of the greatest length, which stands between two parts.
-static LONG: [(&str, &str); 4] = [
+static LONG: [(&str, &str); 5] = [
     ("1 0 form;2 1 input id=q;3 1 #", ""),
     ("1 0 form;2 1 input id=", ";3 1 #Go"),
     ("1 0 form;2 1 input id=q title=", ";3 1 #Go"),
+    ("1 0 form;2 1 input id=q ", "=;3 1 #Go"),
     ("1 0 form;2 1 input id=q;60 2 #", ";3 1 #Go"),
 ];
 
@@ -164,16 +165,27 @@ fn with_attributes(
     Ok(text)
 }
 
-// What an element of 64 attributes becomes: what stands before the 63 others, and behind.
-static FILLED: [(&str, &str); 3] = [
-    ("1 0 form;2 1 input id=y", ";3 1 #Go"),
-    ("1 0 form;2 1 input", ";3 1 #Go"),
-    ("1 0 form;2 1 input id=q", ";3 1 #"),
+const FIELD: &str = "1 0 form;2 1 input id=q";
+
+const BARE: &str = "1 0 form;2 1 input";
+
+// What stands before the other attributes of a field and how many these are, and the same of what it becomes, with what stands
+// behind them there.
+type Filled = (&'static str, u32, &'static str, u32, &'static str);
+
+static FILLED: [Filled; 6] = [
+    (FIELD, 0, FIELD, 1, ";3 1 #Go"),
+    (FIELD, 62, FIELD, 63, ";3 1 #Go"),
+    (FIELD, 63, "1 0 form;2 1 input id=y", 63, ";3 1 #Go"),
+    (FIELD, 63, BARE, 63, ";3 1 #Go"),
+    (BARE, 63, BARE, 63, " b=y;3 1 #Go"),
+    (FIELD, 63, FIELD, 63, ";3 1 #"),
 ];
 
-fn filled_keeps(alloc: Global, first: &str, last: &str) -> Result<(), Fail> {
-    let before = with_attributes(alloc, "1 0 form;2 1 input id=q", 63, ";3 1 #Go")?;
-    let after = with_attributes(alloc, first, 63, last)?;
+fn filled_keeps(alloc: Global, filled: &Filled) -> Result<(), Fail> {
+    let (first, count, then, more, last) = *filled;
+    let before = with_attributes(alloc, first, count, ";3 1 #Go")?;
+    let after = with_attributes(alloc, then, more, last)?;
     pair_keeps(
         alloc,
         "attributes of an element",
@@ -184,42 +196,55 @@ fn filled_keeps(alloc: Global, first: &str, last: &str) -> Result<(), Fail> {
 
 #[test]
 fn pages_with_many_attributes_keep_their_verdicts(rt: HostRuntime) -> Result<(), Fail> {
-    for (first, last) in FILLED.as_slice() {
-        filled_keeps(rt.alloc(), first, last)?;
+    for filled in FILLED.as_slice() {
+        filled_keeps(rt.alloc(), filled)?;
     }
     Ok(())
 }
 
 // A page near the greatest reference weight, in which a paragraph bears the id too, behind the span that is found.
-fn referring(alloc: Global, names: &str, inside: &str, words: &str) -> Result<String, AllocError> {
+fn referring(
+    alloc: Global,
+    naming: &str,
+    times: usize,
+    inside: &str,
+    length: usize,
+) -> Result<String, AllocError> {
+    let names = "t~".repeat(alloc, times)?;
+    let words = "x".repeat(alloc, length)?;
     let page = format!(in alloc;
-        "1 0 html;2 1 div aria-labelledby={names}{inside};3 1 span id=t;4 1 p id=t;5 4 #{words}"
+        "1 0 html;2 1 div{naming}{names}{inside};3 1 span id=t;4 1 p id=t;5 4 #{words}"
     )?;
     Ok(page)
 }
 
-// How often the id is named, what stands inside the element that names it, and how long the paragraph's text is.
-static REFERRING: [(usize, &str, usize); 4] = [
-    (98, "", 1),
-    (1, "", 65_536),
-    (98, ";60 2 b id=t", 65_536),
-    (98, ";60 2 p", 65_536),
+const NAMING: &str = " aria-labelledby=";
+
+// The attribute that names the id and how often it does, what stands inside its element, and how long the paragraph's text is.
+static REFERRING: [(&str, usize, &str, usize); 5] = [
+    (NAMING, 98, "", 1),
+    (NAMING, 1, "", 65_536),
+    ("", 0, "", 65_536),
+    (NAMING, 98, ";60 2 b id=t", 65_536),
+    (NAMING, 98, ";60 2 p", 65_536),
 ];
 
-fn referring_keeps(alloc: Global, times: usize, inside: &str, length: usize) -> Result<(), Fail> {
-    let names = "t~".repeat(alloc, 98)?;
-    let words = "x".repeat(alloc, 65_536)?;
-    let before = referring(alloc, names.as_str(), "", words.as_str())?;
-    let names = "t~".repeat(alloc, times)?;
-    let words = "x".repeat(alloc, length)?;
-    let after = referring(alloc, names.as_str(), inside, words.as_str())?;
+fn referring_keeps(
+    alloc: Global,
+    naming: &str,
+    times: usize,
+    inside: &str,
+    length: usize,
+) -> Result<(), Fail> {
+    let before = referring(alloc, NAMING, 98, "", 65_536)?;
+    let after = referring(alloc, naming, times, inside, length)?;
     pair_keeps(alloc, "reference weight", before.as_str(), after.as_str())
 }
 
 #[test]
 fn pages_of_many_references_keep_their_verdicts(rt: HostRuntime) -> Result<(), Fail> {
-    for (times, inside, length) in REFERRING.as_slice() {
-        referring_keeps(rt.alloc(), *times, inside, *length)?;
+    for (naming, times, inside, length) in REFERRING.as_slice() {
+        referring_keeps(rt.alloc(), naming, *times, inside, *length)?;
     }
     Ok(())
 }
