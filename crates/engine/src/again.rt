@@ -6,15 +6,14 @@ ghost use Rattle.snap_tree.specs.Well.{IsWell};
 ghost use Rattle.rule_core.specs.Pages.{node_count};
 ghost use Rattle.judge_core.specs.declared.judgement.Judgement.{Judgement};
 ghost use Rattle.judge_core.specs.Outcomes.{row_of, atomic_row, atomic_rows};
-ghost use Rattle.locality.specs.Reach.{is_affected, affected_nodes};
-ghost use Rattle.locality.specs.Local.{AreVersions};
+ghost use Rattle.rule_core.specs.Reach.{is_affected, affected_nodes};
+ghost use Rattle.rule_core.specs.Local.{AreVersions};
 ghost use Rattle.engine.specs.Before.{WereRows};
 ghost use Rattle.engine.specs.Known.{placed_of, ArePlaced, class_flag, has_to_judge};
 
 use crate::before::{row_before, rows_before};
 use crate::known::{Known, Placed};
 use judge_core::{Judgement, OutRow, final_outcome};
-use locality::LocalBook;
 use page_changes::Flags;
 use rule_core::{Class, RuleBook, RuleInfo, RuleNo, Verdict};
 use snap_tree::{List, NodeId, OutOfMemory, Text, Tree};
@@ -109,7 +108,7 @@ fn has_to_judge(info: &RuleInfo, known: Option<Known>, target: bool) -> bool
 }
 
 // The row of a rule on a node of the new page: judged where the edit reaches it, else the one that it had.
-fn row_again<B: LocalBook>(
+fn row_again<B: RuleBook>(
     alloc: Global,
     book: &mut B,
     info: &RuleInfo,
@@ -144,7 +143,7 @@ fn push_row(rows: &mut Vec<OutRow>, row: Option<OutRow>) -> Result<(), OutOfMemo
 }
 
 // The rows of a rule on the nodes of the new page, by those that the nodes had.
-fn rows_again<B: LocalBook>(
+fn rows_again<B: RuleBook>(
     alloc: Global,
     book: &mut B,
     info: &RuleInfo,
@@ -180,7 +179,7 @@ fn well(tree: &Tree)
 /// old page under these judgements, they are those of the new one. The rule judges at most the nodes of the new
 /// page on which the edit affects it, where the rows are those of the old page under any judgements; and never
 /// more than the nodes of the new page.
-pub fn atomic_again<B: LocalBook>(
+pub fn atomic_again<B: RuleBook>(
     alloc: Global,
     book: &mut B,
     info: &RuleInfo,

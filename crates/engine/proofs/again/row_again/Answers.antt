@@ -1,7 +1,7 @@
 use Rattle.std.proofs.Common.{◌≡◌, true, false, map, List, sym, ◌∙◌, ap}
 use Rattle.std.proofs.lemmas.Result.{IfOk-weaker}
 use Rattle.std.specs.Option.{option_copied, is_some}
-use Rattle.locality.specs.Reach.{is_affected}
+use Rattle.rule_core.specs.Reach.{is_affected}
 use Rattle.engine.specs.declared.known.Placed.{Placed}
 use Rattle.engine.specs.Known.{has_to_judge}
 use Rattle.engine.proofs.Kept.{judged_here, kept_here}
