@@ -1,5 +1,5 @@
 -- How many pass a test.
-use Rattle.std.proofs.Common.{◌≡◌, ◌≤◌, ◌<◌, ◌+◌, ℕ, zero, suc, List, [], ◌∷◌, length, filter, map, take, get_or, cond, if◌then◌else◌, Bool, true, false, refl, sym, ◌∙◌, ap, arith}
+use Rattle.std.proofs.Common.{◌≡◌, ◌≤◌, ◌<◌, ◌+◌, ℕ, zero, suc, List, [], ◌∷◌, length, filter, map, take, get_or, cond, if◌then◌else◌, Bool, true, false, refl, ap, arith}
 use Rattle.std.proofs.lemmas.List.Filters.{length-filter_more}
 
 pub length-filter-take : {X : Type 0} (p : X → Bool) (i : ℕ) (xs : List X) → length (filter p (take i xs)) ≤ length (filter p xs)

@@ -1,13 +1,13 @@
 -- The rows that nodes had, in the order of the nodes.
-use Rattle.std.proofs.Common.{◌≡◌, ◌<◌, ◌≤◌, ◌+◌, ◌==◌, ℕ, zero, suc, List, [], ◌∷◌, ◌++◌, length, map, take, drop, get_or, slice_get, if◌then◌else◌, Bool, true, false, Option, Some, None, option_map, Bor, refl, sym, ◌∙◌, ap, arith}
+use Rattle.std.proofs.Common.{◌≡◌, ◌<◌, ◌+◌, ℕ, zero, suc, List, [], ◌∷◌, ◌++◌, length, map, take, drop, get_or, slice_get, Option, Some, None, option_map, Bor, refl, sym, ◌∙◌, ap}
 use Rattle.std.proofs.lemmas.List.{map-append, drop_more, take_more}
 use Rattle.std.specs.List.{filter_map}
 use Rattle.std.specs.Option.{option_copied}
 use Rattle.snap_tree.specs.declared.row.NodeId.{NodeId}
 use Rattle.snap_tree.specs.declared.row.Row.{Row}
 use Rattle.judge_core.specs.declared.outcomes.OutRow.{OutRow}
-use Rattle.reaudit.specs.Merging.{head_on, after, AreOn}
-use Rattle.reaudit.proofs.Merged.{leads}
+use Rattle.judged_rows.specs.Merging.{head_on, after, AreOn}
+use Rattle.judged_rows.proofs.Merged.{leads}
 use Rattle.engine.specs.declared.known.Known.{Known}
 use Rattle.engine.specs.Before.{joined, kept_at}
 
@@ -27,28 +27,7 @@ before_more f on nodes i d left next before now found within begins so_far head 
           ∙ sym (map-append (λ (r : Row). f r.id) (take i nodes) (node ∷ [])) ∙ ap (map (λ (r : Row). f r.id)) (sym (take_more nodes i d within)),
     )
 
--- ---- places
-
-pub cut_some : {X : Type 0} (xs : List X) (i : ℕ) (x : X) → Some x ≡ slice_get xs i → drop i xs ≡ x ∷ drop (i + 1) xs
-cut_some [] i x e = cc
-cut_some (y ∷ xs) zero x e = let is : x ≡ y = cc in ap (λ x. x ∷ xs) (sym is)
-cut_some (y ∷ xs) (suc i) x e = let next : suc i + 1 ≡ suc (i + 1) = omega arith in cut_some xs i x e ∙ ap (λ k. x ∷ drop k (y ∷ xs)) (sym next)
-
-pub cut_none : {X : Type 0} (xs : List X) (i : ℕ) → None ≡ slice_get xs i → drop i xs ≡ []
-cut_none [] zero e = refl
-cut_none [] (suc i) e = refl
-cut_none (y ∷ xs) zero e = cc
-cut_none (y ∷ xs) (suc i) e = cut_none xs i e
-
-pub next_on : (rows : List OutRow) (i : ℕ) (row : OutRow) (node : NodeId) → Some row ≡ slice_get rows i → (row.node.0 == node.0) ≡ true → drop (i + 1) rows ≡ after node (drop i rows)
-next_on rows i row node e h = ap (λ b. if b then drop (i + 1) rows else row ∷ drop (i + 1) rows) (sym h) ∙ ap (after node) (sym (cut_some rows i row e))
-
-pub next_off : (rows : List OutRow) (i : ℕ) (row : OutRow) (node : NodeId) → Some row ≡ slice_get rows i → (row.node.0 == node.0) ≡ false → drop i rows ≡ after node (drop i rows)
-next_off rows i row node e h =
-    cut_some rows i row e ∙ ap (λ b. if b then drop (i + 1) rows else row ∷ drop (i + 1) rows) (sym h) ∙ ap (after node) (sym (cut_some rows i row e))
-
-pub next_none : (rows : List OutRow) (i : ℕ) (node : NodeId) → None ≡ slice_get rows i → drop i rows ≡ after node (drop i rows)
-next_none rows i node e = cut_none rows i e ∙ ap (after node) (sym (cut_none rows i e))
+-- ---- at a place
 
 get_map : {X Y : Type 0} (f : X → Y) (xs : List X) (i : ℕ) → slice_get (map f xs) i ≡ option_map f (slice_get xs i)
 get_map f [] i = refl

@@ -1,12 +1,11 @@
 -- What is judged is what the edit affects, and what is kept is right.
-use Rattle.std.proofs.Common.{◌≡◌, ◌&&◌, ◌||◌, ◌==◌, ◌+◌, not, ℕ, suc, zero, List, [], ◌∷◌, ◌++◌, map, Bool, true, false, if◌then◌else◌, slice_get, Option, Some, None, option_map, Bor, refl, sym, ◌∙◌, ap, arith}
+use Rattle.std.proofs.Common.{◌≡◌, ◌&&◌, ◌||◌, ◌==◌, ◌+◌, not, ℕ, suc, List, [], ◌∷◌, map, Bool, true, false, if◌then◌else◌, slice_get, Option, Some, None, option_map, Bor, refl, sym, ◌∙◌, ap, arith}
 use Rattle.std.proofs.lemmas.Bool.Decides.{Decides-eqb}
 use Rattle.std.proofs.lemmas.List.Folds.{list_all-append}
 use Rattle.std.specs.Option.{is_some, option_copied}
 use Rattle.std.specs.List.{find}
 use Rattle.snap_tree.specs.declared.row.NodeId.{NodeId}
 use Rattle.snap_tree.specs.declared.row.Row.{Row}
-use Rattle.snap_tree.specs.Lookups.{node}
 use Rattle.snap_tree.specs.Rows.{has_number}
 use Rattle.snap_tree.specs.Trees.{Trees, Document, rows_of}
 use Rattle.acc_tree.specs.Seen.{seen_row, seen}
@@ -19,10 +18,11 @@ use Rattle.rule_core.specs.declared.verdict.Verdict.{Verdict}
 use Rattle.rule_core.specs.Books.{Book}
 use Rattle.judge_core.specs.declared.judgement.Judgement.{Judgement}
 use Rattle.judge_core.specs.declared.outcomes.OutRow.{OutRow}
-use Rattle.judge_core.specs.Outcomes.{row_of, atomic_row, atomic_rows}
+use Rattle.judge_core.specs.Outcomes.{row_of, atomic_row}
+use Rattle.judged_rows.specs.Again.{again}
 use Rattle.keys.specs.Keys.{Key}
 use Rattle.keys.specs.Same.{same, all_same}
-use Rattle.rule_core.specs.Reach.{Says, class_keys, reach, agrees, is_held, is_affected}
+use Rattle.rule_core.specs.Reach.{class_keys, agrees, is_held, is_affected}
 use Rattle.rule_core.specs.Local.{AreVersions, IsLocal}
 use Rattle.rule_core.proofs.Affecting.{keeps_the_rest}
 use Rattle.page_changes.specs.declared.flags.Flags.{Flags}
@@ -158,12 +158,18 @@ held_where_unaffected : (held agree : Bool) → (not held || not agree) ≡ fals
 held_where_unaffected true agree h = refl
 held_where_unaffected false agree h = cc
 
--- where the edit doesn't affect a rule on a node, the row that the node had is the one that it has
-pub kept_right : (book : Book) (info : RuleInfo) → IsLocal info (book.means info.no) → (old new : Document) → AreVersions old new → (js : List Judgement) (n : NodeId) (before : List (Option OutRow)) → WereRows book old js info.no before
-    → is_affected info (book.means info.no) old new n ≡ false → kept_at before (known_of old new n) ≡ atomic_row book new js info.no n
-kept_right book info local old new versions js n before w e =
-    kept_is book old new js info.no n before w
-    ∙ ap (λ b. if b then atomic_row book old js info.no n else None) (held_where_unaffected (is_held old n) (agrees info (book.means info.no) old new n) e)
+-- a row under other judgements
+row_anew : (rule : RuleNo) (n : NodeId) (earlier js : List Judgement) (o : Option Verdict) → option_map (again js) (option_map (row_of rule n earlier) o) ≡ option_map (row_of rule n js) o
+row_anew rule n earlier js None = refl
+row_anew rule n earlier js (Some v) = refl
+
+-- where the edit doesn't affect a rule on a node, the row that the node had is the one that it has, under whatever judgements
+pub kept_right : (book : Book) (info : RuleInfo) → IsLocal info (book.means info.no) → (old new : Document) → AreVersions old new → (earlier js : List Judgement) (n : NodeId) (before : List (Option OutRow)) → WereRows book old earlier info.no before
+    → is_affected info (book.means info.no) old new n ≡ false → option_map (again js) (kept_at before (known_of old new n)) ≡ atomic_row book new js info.no n
+kept_right book info local old new versions earlier js n before w e =
+    ap (option_map (again js)) (kept_is book old new earlier info.no n before w
+    ∙ ap (λ b. if b then atomic_row book old earlier info.no n else None) (held_where_unaffected (is_held old n) (agrees info (book.means info.no) old new n) e))
+    ∙ row_anew info.no n earlier js (book.means info.no old n)
     ∙ ap (option_map (row_of info.no n js)) (keeps_the_rest info (book.means info.no) local old new n versions e)
 
 -- ---- of a row that was looked up
@@ -177,7 +183,7 @@ pub judged_here : (book : Book) (info : RuleInfo) (old new : Document) (js : Lis
 judged_here book info old new js n before w known e row r =
     ap (has_to_judge info known) (some_copied row ∙ ap is_some r) ∙ ap (λ o. has_to_judge info o (is_some (kept_at before o))) e ∙ judged_is book info old new js n before w
 
-pub kept_here : (book : Book) (info : RuleInfo) → IsLocal info (book.means info.no) → (old new : Document) → AreVersions old new → (js : List Judgement) (n : NodeId) (before : List (Option OutRow)) → WereRows book old js info.no before
-    → (known : Option Known) → known ≡ known_of old new n → (row : Option (Bor OutRow)) → option_copied row ≡ kept_at before known → has_to_judge info known (is_some row) ≡ false → option_copied row ≡ atomic_row book new js info.no n
-kept_here book info local old new versions js n before w known e row r off =
-    r ∙ ap (kept_at before) e ∙ kept_right book info local old new versions js n before w (sym (judged_here book info old new js n before w known e row r) ∙ off)
+pub kept_here : (book : Book) (info : RuleInfo) → IsLocal info (book.means info.no) → (old new : Document) → AreVersions old new → (earlier js : List Judgement) (n : NodeId) (before : List (Option OutRow)) → WereRows book old earlier info.no before
+    → (known : Option Known) → known ≡ known_of old new n → (row : Option (Bor OutRow)) → option_copied row ≡ kept_at before known → has_to_judge info known (is_some row) ≡ false → option_map (again js) (option_copied row) ≡ atomic_row book new js info.no n
+kept_here book info local old new versions earlier js n before w known e row r off =
+    ap (option_map (again js)) (r ∙ ap (kept_at before) e) ∙ kept_right book info local old new versions earlier js n before w (sym (judged_here book info old new earlier n before w known e row r) ∙ off)

@@ -1,4 +1,3 @@
-pub mod Rows
 pub mod Counts
 pub mod Placing
 pub mod Earlier

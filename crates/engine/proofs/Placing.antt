@@ -1,5 +1,5 @@
 -- The nodes of the new page, with what is known of each.
-use Rattle.std.proofs.Common.{◌≡◌, ◌<◌, ◌+◌, ℕ, zero, suc, List, [], ◌∷◌, length, filter, map, get_or, Bool, Option, refl, sym, ◌∙◌, ap, arith}
+use Rattle.std.proofs.Common.{◌≡◌, ◌<◌, ℕ, zero, suc, List, [], ◌∷◌, length, filter, map, get_or, Bool, Option, refl, sym, ◌∙◌, ap, arith}
 use Rattle.std.proofs.lemmas.List.{length-map}
 use Rattle.std.specs.List.{filter_map}
 use Rattle.snap_tree.specs.declared.row.NodeId.{NodeId}
@@ -8,7 +8,7 @@ use Rattle.snap_tree.specs.Trees.{Document, rows_of}
 use Rattle.judge_core.specs.declared.outcomes.OutRow.{OutRow}
 use Rattle.engine.specs.declared.known.Placed.{Placed}
 use Rattle.engine.specs.Known.{placed_of, ArePlaced}
-use Rattle.reaudit.proofs.Merged.{filter_map_map}
+use Rattle.judged_rows.proofs.Merged.{filter_map_map}
 use Rattle.engine.proofs.Counts.{length-filter-map}
 
 -- each item of the list is placed

@@ -4,7 +4,7 @@ use Rattle.std.specs.BTreeMap.{BTreeMap, get}
 use Rattle.std.specs.Option.{option_or}
 use Rattle.std.specs.Ordering.{nat_cmp}
 use Rattle.snap_tree.specs.declared.row.NodeId.{NodeId}
-use Rattle.snap_tree.specs.Trees.{Trees, Document, rows_of}
+use Rattle.snap_tree.specs.Trees.{Document, rows_of}
 use Rattle.acc_tree.specs.Seen.{seen}
 use Rattle.rule_core.specs.declared.info.Class.{Class}
 use Rattle.rule_core.specs.declared.info.Class.TheVariants.{SelfOnly, Sub, Table, Title, Metas, Whole}

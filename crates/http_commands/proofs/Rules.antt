@@ -7,7 +7,7 @@ use Rattle.std.proofs.lemmas.Bool.{and_parts, ne_eqb, ltb-true}
 use Rattle.rule_core.specs.declared.info.RuleNo.{RuleNo}
 use Rattle.rule_core.specs.declared.info.RuleInfo.{RuleInfo}
 use Rattle.rule_core.specs.Infos.{is_atomic, info_of, has_atomic, rise, is_orderly}
-use Rattle.reaudit.proofs.AgainLaws.{orderly_rise}
+use Rattle.judged_rows.proofs.Anew.{orderly_rise}
 use Rattle.http_routes.proofs.Chosen.{when, either}
 use Rattle.http_commands.specs.Judging.{has_id, atomic_no, rule_named}
 use Rattle.http_commands.proofs.Steps.{after_some, both_some}

@@ -1,8 +1,8 @@
 -- What is found at a number.
-use Rattle.std.proofs.Common.{◌≡◌, ◌==◌, ℕ, List, [], ◌∷◌, ◌++◌, length, Bool, true, false, if◌then◌else◌, Option, Some, None, Bor, option_map, refl, sym, ◌∙◌, ap, arith}
+use Rattle.std.proofs.Common.{◌≡◌, ◌==◌, ℕ, List, [], ◌∷◌, ◌++◌, length, Bool, true, false, if◌then◌else◌, Option, Some, None, option_map, refl, sym, ◌∙◌, ap, arith}
 use Rattle.std.proofs.lemmas.List.{length-append}
 use Rattle.std.specs.Cmp.Lexicographic.{pointwise}
-use Rattle.std.specs.Option.{option_eq, option_or, option_copied}
+use Rattle.std.specs.Option.{option_eq, option_or}
 use Rattle.snap_tree.specs.declared.row.NodeId.{NodeId}
 use Rattle.snap_tree.specs.declared.row.Row.{Row}
 use Rattle.snap_tree.specs.declared.row.Body.{Body}
@@ -13,9 +13,9 @@ use Rattle.snap_tree.specs.Trees.{Trees, empty, tree, rows_of}
 use Rattle.acc_tree.specs.declared.above.Above.{Above}
 use Rattle.acc_tree.specs.Frames.{Frame, frame, nothing_above, under}
 use Rattle.acc_tree.specs.Seen.{seen_body, seen_row, seen}
-use Rattle.acc_tree.specs.Sights.{Sight, sight_in, sight_of, aboves_in, aboves, summed, seen_spot}
+use Rattle.acc_tree.specs.Sights.{Sight, sight_in, aboves_in, aboves, summed, seen_spot}
 use Rattle.acc_tree.proofs.Sighting.{sight_is_spot, seen_spot_is}
-use Rattle.keys.specs.Keys.{Own, own, root_numbers, frame_at, own_at, kids_at}
+use Rattle.keys.specs.Keys.{Own, own, root_numbers, kids_at}
 use Rattle.keys.specs.Same.{same_node, same_frame, same_own}
 use Rattle.page_changes.specs.Aboves.{first_above, above_of_node}
 

@@ -1,8 +1,8 @@
 -- Keys of ids, labels and tags, and lists of nodes.
-use Rattle.std.proofs.Common.{◌≡◌, ◌&&◌, ℕ, List, [], ◌∷◌, ◌++◌, map, codes, Bool, true, false, Option, Some, None, refl, sym, ◌∙◌, ap}
+use Rattle.std.proofs.Common.{◌≡◌, ◌&&◌, ℕ, List, ◌∷◌, ◌++◌, map, codes, Bool, true, false, Option, refl, sym, ◌∙◌, ap}
 use Rattle.std.proofs.lemmas.List.Folds.{list_all-append}
 use Rattle.std.specs.Cmp.Lexicographic.{pointwise}
-use Rattle.std.specs.List.{flat_map, list_all}
+use Rattle.std.specs.List.{flat_map}
 use Rattle.std.specs.Option.{option_eq}
 use Rattle.aria_tables.specs.declared.attr.AriaAttr.{AriaAttr}
 use Rattle.aria_tables.specs.declared.attr.AriaAttr.TheVariants as aria

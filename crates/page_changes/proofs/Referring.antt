@@ -1,15 +1,15 @@
 -- What is handed down and up of references tells what their keys do.
-use Rattle.std.proofs.Common.{◌≡◌, ◌&&◌, ℕ, List, [], ◌∷◌, ◌++◌, filter, map, Bool, true, false, if◌then◌else◌, Option, Some, None, option_map, refl, sym, ◌∙◌, ap, append-nil}
+use Rattle.std.proofs.Common.{◌≡◌, ◌&&◌, ℕ, List, [], ◌∷◌, ◌++◌, filter, map, Bool, true, false, if◌then◌else◌, Option, Some, None, option_map, refl, sym, ◌∙◌, ap}
 use Rattle.std.proofs.lemmas.Grind.{flat_map-append}
 use Rattle.std.proofs.lemmas.List.Folds.{list_all-append}
 use Rattle.std.proofs.lemmas.List.{map-append}
-use Rattle.std.specs.List.{find, flat_map, list_all, cons_option}
+use Rattle.std.specs.List.{find, flat_map, cons_option}
 use Rattle.std.specs.Option.{option_map_or, option_to_list}
 use Rattle.snap_tree.specs.declared.row.NodeId.{NodeId}
 use Rattle.snap_tree.specs.declared.row.Row.{Row}
 use Rattle.snap_tree.specs.Labels.{first_with_id, id_of, for_of, is_label, is_labelable, labels_naming}
 use Rattle.snap_tree.specs.Rows.{is_key}
-use Rattle.snap_tree.specs.Spots.{Spot, spot}
+use Rattle.snap_tree.specs.Spots.{Spot}
 use Rattle.snap_tree.specs.Trees.{Trees, empty, tree, rows_of}
 use Rattle.acc_tree.specs.References.{found, reference_words}
 use Rattle.acc_tree.specs.Seen.{seen_row, seen}
@@ -18,8 +18,8 @@ use Rattle.keys.specs.Keys.{id_key, label_key}
 use Rattle.keys.specs.Same.{same, all_same}
 use Rattle.keys.specs.Nodes.{node_keys}
 use Rattle.keys.specs.References.{keys_of_id, label_keys, word_keys, labels_of_id, nearest_label, labels_found, words_found, references_of, references_in, reference_keys}
-use Rattle.keys.specs.Standing.{spot_with, Stand}
-use Rattle.page_changes.specs.References.{naming, nodes_same, word_same, words_same, named_same, id_same, labels_same, row_same, label_under, rows_same, below_same}
+use Rattle.keys.specs.Standing.{Stand}
+use Rattle.page_changes.specs.References.{naming, nodes_same, word_same, words_same, id_same, labels_same, row_same, label_under, rows_same, below_same}
 
 -- ---- labels of a page
 

@@ -1,5 +1,5 @@
 -- Marks by number, also of a number that the old page doesn't hold.
-use Rattle.std.proofs.Common.{◌≡◌, ◌&&◌, ◌==◌, not, ℕ, List, [], ◌∷◌, map, codes, Bool, true, false, if◌then◌else◌, Option, Some, None, Bor, option_map, option_and_then, refl, sym, ◌∙◌, ap}
+use Rattle.std.proofs.Common.{◌≡◌, ◌&&◌, ◌==◌, not, List, [], ◌∷◌, map, codes, Bool, true, false, if◌then◌else◌, Option, Some, None, Bor, option_map, option_and_then, refl, sym, ◌∙◌, ap}
 use Rattle.std.proofs.lemmas.Bool.Decides.{Decides-eqb}
 use Rattle.std.specs.List.{find}
 use Rattle.std.specs.Cmp.Lexicographic.{pointwise}
@@ -21,7 +21,7 @@ use Rattle.keys.specs.Classes.{table_in, table_of, is_root, is_meta}
 use Rattle.keys.proofs.Agreeing.{no_sight}
 use Rattle.page_changes.specs.declared.marks.Marks.{Marks}
 use Rattle.page_changes.specs.Marks.{marks_of}
-use Rattle.page_changes.specs.ByNumber.{first_marks, HasEach, AreByNumber, strange}
+use Rattle.page_changes.specs.ByNumber.{first_marks, strange}
 
 pub row_lost : (t : Trees) (n : NodeId) (r : Option (Bor Row)) → option_map seen_row (option_copied r) ≡ option_map (λ s. s.row) (sight_of t n) → is_none r ≡ not (is_some (sight_of t n))
 row_lost t n r h = by_both r (sight_of t n) h

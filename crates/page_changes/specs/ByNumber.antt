@@ -1,5 +1,5 @@
 -- The marks of each node of a page, by its number.
-use Rattle.std.specs.Prelude.{◌≡◌, ◌==◌, not, ℕ, List, Bool, false, if◌then◌else◌, Option, Some, None, option_map}
+use Rattle.std.specs.Prelude.{◌≡◌, ◌==◌, ℕ, List, Bool, false, if◌then◌else◌, Option, Some, None, option_map}
 use Rattle.std.specs.BTreeMap.{BTreeMap, get}
 use Rattle.std.specs.List.{find}
 use Rattle.std.specs.Option.{option_or}

@@ -1,5 +1,5 @@
 -- What of each node of a page is the same on another page, but for references.
-use Rattle.std.specs.Prelude.{◌≡◌, List, map}
+use Rattle.std.specs.Prelude.{◌≡◌, map}
 use Rattle.snap_tree.specs.declared.row.NodeId.{NodeId}
 use Rattle.snap_tree.specs.Trees.{Trees, rows_of}
 use Rattle.keys.specs.Keys.{own_key}

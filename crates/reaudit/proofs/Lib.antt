@@ -1,6 +1,3 @@
-pub mod Merged
-pub mod Latest
-pub mod PartLaws
 pub mod Judgings
 pub mod AgainLaws
 pub mod Shares

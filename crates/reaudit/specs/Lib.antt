@@ -1,5 +1,1 @@
-pub mod ByNode
-pub mod Merging
-pub mod Parts
-pub mod Again
 pub mod Pages

@@ -2,36 +2,13 @@ ghost use Rattle.std.specs.Prelude.{◌≡◌, ◌+◌, ◌≤◌, List, map, le
 ghost use Rattle.snap_tree.specs.Trees.{rows_of};
 ghost use Rattle.judge_core.specs.declared.judgement.Judgement.{Judgement};
 ghost use Rattle.judge_core.specs.Outcomes.{row_of, atomic_rows};
-ghost use Rattle.reaudit.specs.ByNode.{IsByNode};
+ghost use Rattle.judged_rows.specs.ByNode.{IsByNode};
 
-use crate::by_node::ByNode;
-use crate::finals::final_of;
 use judge_core::OutRow;
-use rule_core::{NodeVerdict, RuleBook, RuleNo, Verdict};
-use snap_tree::{List, NodeId, OutOfMemory, Tree};
+use judged_rows::{ByNode, row_of};
+use rule_core::{NodeVerdict, RuleBook, RuleNo};
+use snap_tree::{List, OutOfMemory, Tree};
 use std::alloc::Global;
-
-fn row_of(
-    alloc: Global,
-    by_node: &ByNode<'_>,
-    rule: RuleNo,
-    node: NodeId,
-    verdict: Verdict,
-) -> Result<OutRow, OutOfMemory>
-    ensures { (js : List Judgement) → IsByNode js by_node.now
-        → IfOk result (λ row. row ≡ row_of rule node js verdict) }
-{
-    let judged = final_of(alloc, by_node, verdict.auto, rule, node, &verdict.evidence)?;
-    Ok(OutRow {
-        rule,
-        node,
-        auto: verdict.auto,
-        reason: verdict.reason,
-        evidence: verdict.evidence,
-        last: judged.last,
-        hand: judged.hand,
-    })
-}
 
 // The rows of the verdicts of a rule on a page.
 fn rows_of(

@@ -1,19 +1,17 @@
-ghost use Rattle.std.specs.Prelude.{◌≡◌, ◌≤◌, List, IsTrue, map, take, drop, length, IfOk};
-ghost use Rattle.std.specs.List.{prefix_len, AllByRecursion};
+ghost use Rattle.std.specs.Prelude.{◌≡◌, List, IsTrue, map, IfOk};
+ghost use Rattle.std.specs.List.{AllByRecursion};
 ghost use Rattle.snap_tree.specs.Trees.{Document};
 ghost use Rattle.rule_core.specs.Infos.{rise};
 ghost use Rattle.rule_core.specs.Books.{Book};
 ghost use Rattle.judge_core.specs.declared.judgement.Judgement.{Judgement};
 ghost use Rattle.judge_core.specs.Outcomes.{rule_rows, outcomes};
-ghost use Rattle.reaudit.specs.ByNode.{IsByNode};
-ghost use Rattle.reaudit.specs.Parts.{IsPart};
-ghost use Rattle.reaudit.specs.Again.{is_of_rule, again};
+ghost use Rattle.judged_rows.specs.ByNode.{IsByNode};
+ghost use Rattle.judged_rows.specs.Parts.{IsPart};
+ghost use Rattle.judged_rows.specs.Again.{again};
 
-use crate::by_node::{ByNode, by_node};
-use crate::finals::final_of;
-use crate::parts::{Part, joined};
 use judge_core::{Judgement, OutRow, Outcomes, infos_of};
-use rule_core::{RuleBook, RuleInfo, RuleNo};
+use judged_rows::{ByNode, Part, atomic_part, by_node, joined_parts, row_again, split_rule};
+use rule_core::{RuleBook, RuleInfo};
 use snap_tree::{List, NodeId, OutOfMemory};
 use std::alloc::Global;
 
@@ -31,7 +29,7 @@ pub fn after_judgement<B: RuleBook>(
     let infos = infos_of(alloc, book)?;
     let by_node = by_node(alloc, js)?;
     let parts = parts_again(alloc, infos.as_slice(), rows.rows.as_slice(), &by_node)?;
-    let rows = joined(alloc, parts)?;
+    let rows = joined_parts(alloc, parts)?;
     Ok(Outcomes {
         rows: List::from_vec(rows),
     })
@@ -59,22 +57,6 @@ fn parts_again(
     Ok(parts)
 }
 
-// The leading rows that are of a rule, and those after them.
-fn split_rule(rows: &[OutRow], rule: RuleNo) -> (&[OutRow], &[OutRow])
-    ensures leading { result.0.now ≡ take (prefix_len (is_of_rule rule) rows.now) rows.now }
-    ensures later { result.1.now ≡ drop (prefix_len (is_of_rule rule) rows.now) rows.now }
-{
-    let count = leading(rows, rule);
-    rows.split_at(count)
-}
-
-fn leading(rows: &[OutRow], rule: RuleNo) -> usize
-    ensures count { result ≡ prefix_len (is_of_rule rule) rows.now }
-    ensures within { result ≤ length rows.now }
-{
-    rows.iter().take_while(|row| row.rule.0 == rule.0).count()
-}
-
 // The part of a rule, by the rows that it had.
 fn part_again(
     alloc: Global,
@@ -88,11 +70,8 @@ fn part_again(
         → IfOk result (λ part. IsPart book page js part) }
 {
     if info.is_atomic() {
-        Ok(Part {
-            info: *info,
-            rows: List::from_vec(rows_again(alloc, rows, by_node)?),
-            nodes: List::from_vec(Vec::new(alloc)),
-        })
+        let rows = rows_again(alloc, rows, by_node)?;
+        Ok(atomic_part(alloc, info, List::from_vec(rows)))
     } else {
         Ok(Part {
             info: *info,
@@ -116,22 +95,6 @@ fn rows_again(
         now.push(row_again(alloc, row, by_node)?)?;
     }
     Ok(now)
-}
-
-fn row_again(alloc: Global, row: &OutRow, by_node: &ByNode<'_>) -> Result<OutRow, OutOfMemory>
-    ensures { (js : List Judgement) → IsByNode js by_node.now
-        → IfOk result (λ now. now ≡ again js row.now) }
-{
-    let judged = final_of(alloc, by_node, row.auto, row.rule, row.node, &row.evidence)?;
-    Ok(OutRow {
-        rule: row.rule,
-        node: row.node,
-        auto: row.auto,
-        reason: row.reason,
-        evidence: row.evidence.copy(alloc)?,
-        last: judged.last,
-        hand: judged.hand,
-    })
 }
 
 // The nodes that some rows are on.

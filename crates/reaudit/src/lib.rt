@@ -3,14 +3,9 @@
 #![tactic(auto)]
 
 mod atomic;
-mod by_node;
-mod composite;
-mod finals;
 mod judged;
 mod page;
 mod pages;
-mod parts;
-mod rows;
 
 pub use judged::after_judgement;
 pub use page::audit_page;

@@ -1,17 +1,15 @@
 ghost use Rattle.std.specs.Prelude.{◌≡◌, ◌+◌, ◌≤◌, List, [], ◌∷◌, map, IfOk};
 ghost use Rattle.std.specs.List.{AllByRecursion};
-ghost use Rattle.snap_tree.specs.Trees.{rows_of};
 ghost use Rattle.judge_core.specs.declared.judgement.Judgement.{Judgement};
 ghost use Rattle.judge_core.specs.Outcomes.{outcomes, judgings};
-ghost use Rattle.reaudit.specs.ByNode.{IsByNode};
-ghost use Rattle.reaudit.specs.Parts.{IsPart};
+ghost use Rattle.judged_rows.specs.ByNode.{IsByNode};
+ghost use Rattle.judged_rows.specs.Parts.{IsPart};
 
 use crate::atomic::atomic_rows;
-use crate::by_node::{ByNode, by_node};
-use crate::parts::{Part, joined};
 use judge_core::{Judgement, Outcomes, infos_of};
+use judged_rows::{ByNode, Part, atomic_part, by_node, composite_part, joined_parts};
 use rule_core::{RuleBook, RuleInfo};
-use snap_tree::{List, NodeId, OutOfMemory, Tree};
+use snap_tree::{List, OutOfMemory, Tree};
 use std::alloc::Global;
 
 /// The outcomes of a page by a book of rules under a list of judgements. The count of judgings rises by
@@ -28,7 +26,7 @@ pub fn audit_page<B: RuleBook>(
     let infos = infos_of(alloc, book)?;
     let by_node = by_node(alloc, js)?;
     let parts = parts_of(alloc, book, infos.as_slice(), tree, &by_node)?;
-    let rows = joined(alloc, parts)?;
+    let rows = joined_parts(alloc, parts)?;
     Ok(Outcomes {
         rows: List::from_vec(rows),
     })
@@ -70,27 +68,9 @@ fn part_of<B: RuleBook>(
         ≤ B.calls book.old + judgings (record { infos = info.now ∷ []; means = B.book.means }) tree.now }
 {
     if info.is_atomic() {
-        Ok(Part {
-            info: *info,
-            rows: atomic_rows(alloc, book, tree, by_node, info.no)?,
-            nodes: List::from_vec(Vec::new(alloc)),
-        })
+        let rows = atomic_rows(alloc, book, tree, by_node, info.no)?;
+        Ok(atomic_part(alloc, info, rows))
     } else {
-        Ok(Part {
-            info: *info,
-            rows: List::from_vec(Vec::new(alloc)),
-            nodes: List::from_vec(nodes_of(alloc, tree)?),
-        })
+        composite_part(alloc, info, tree)
     }
-}
-
-// The numbers of a page's nodes, in document order.
-fn nodes_of(alloc: Global, tree: &Tree) -> Result<Vec<NodeId>, OutOfMemory>
-    ensures { IfOk result (λ nodes. nodes.items ≡ map (λ row. row.id) (rows_of tree.now.trees)) }
-{
-    let mut nodes = Vec::with_capacity(alloc, tree.rows().len())?;
-    for row in tree.rows() {
-        nodes.push(row.id)?;
-    }
-    Ok(nodes)
 }

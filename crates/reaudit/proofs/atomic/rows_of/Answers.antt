@@ -1,9 +1,8 @@
 use Rattle.std.proofs.Common.{◌∙◌, [], ◌∷◌, ◌++◌, ap, sym, map}
-use Rattle.std.specs.Vec.Iter.{into_iter_items, into_iter_len}
 use Rattle.std.proofs.lemmas.Iterator.Adapters.{YieldsList-from_vec}
 use Rattle.std.proofs.lemmas.Iterator.Consumers.{YieldsList-end}
 use Rattle.std.proofs.lemmas.List.{map-append}
-use Rattle.reaudit.proofs.Merged.{map_id}
+use Rattle.judged_rows.proofs.Merged.{map_id}
 use Rattle.reaudit.proofs.Verdicts.{verdict_row}
 use Rattle.reaudit.proofs.atomic.rows_of.Goals as goal
 

@@ -1,7 +1,7 @@
 use Rattle.std.proofs.Common.{◌≡◌, List, map}
 use Rattle.judge_core.specs.declared.judgement.Judgement.{Judgement}
 use Rattle.judge_core.specs.Outcomes.{row_of}
-use Rattle.reaudit.specs.ByNode.{IsByNode}
+use Rattle.judged_rows.specs.ByNode.{IsByNode}
 use Rattle.reaudit.proofs.atomic.rows_of.Given as goal
 
 abbrev pub invariant-loop-found : goal.invariant-loop-found

@@ -1,7 +1,7 @@
 use Rattle.std.proofs.Common.{◌∙◌, ap}
 use Rattle.rule_core.specs.Infos.{rise}
 use Rattle.rule_core.specs.Books.{Book}
-use Rattle.reaudit.proofs.AgainLaws.{orderly_rise}
+use Rattle.judged_rows.proofs.Anew.{orderly_rise}
 use Rattle.reaudit.proofs.judged.after_judgement.Goals as goal
 
 pub returns : goal.returns

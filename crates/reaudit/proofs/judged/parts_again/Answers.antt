@@ -1,8 +1,8 @@
 use Rattle.std.proofs.Common.{[], ◌∷◌, ◌++◌, ◌∙◌, sym, subst, arith}
 use Rattle.std.specs.List.{AllByRecursion}
-use Rattle.reaudit.specs.Parts.{IsPart}
-use Rattle.reaudit.proofs.PartLaws.{all_more, infos_more}
-use Rattle.reaudit.proofs.AgainLaws.{next_rule}
+use Rattle.judged_rows.specs.Parts.{IsPart}
+use Rattle.judged_rows.proofs.PartLaws.{all_more, infos_more}
+use Rattle.judged_rows.proofs.Anew.{next_rule}
 use Rattle.reaudit.proofs.judged.parts_again.Goals as goal
 
 pub loop-info-preserved : goal.loop-info-preserved

@@ -5,8 +5,8 @@ use Rattle.rule_core.specs.Infos.{rise}
 use Rattle.rule_core.specs.Books.{Book}
 use Rattle.judge_core.specs.declared.judgement.Judgement.{Judgement}
 use Rattle.judge_core.specs.Outcomes.{rule_rows, outcomes}
-use Rattle.reaudit.specs.ByNode.{IsByNode}
-use Rattle.reaudit.specs.Parts.{IsPart}
+use Rattle.judged_rows.specs.ByNode.{IsByNode}
+use Rattle.judged_rows.specs.Parts.{IsPart}
 use Rattle.reaudit.proofs.judged.parts_again.Given as goal
 
 abbrev pub invariant-loop-info : goal.invariant-loop-info

@@ -1,7 +1,7 @@
 use Rattle.std.proofs.Common.{◌≡◌, List, map, take}
 use Rattle.judge_core.specs.declared.judgement.Judgement.{Judgement}
-use Rattle.reaudit.specs.ByNode.{IsByNode}
-use Rattle.reaudit.specs.Again.{again}
+use Rattle.judged_rows.specs.ByNode.{IsByNode}
+use Rattle.judged_rows.specs.Again.{again}
 use Rattle.reaudit.proofs.judged.rows_again.Given as goal
 
 abbrev pub invariant-loop-row : goal.invariant-loop-row

@@ -1,7 +1,7 @@
 use Rattle.std.proofs.Common.{◌≡◌, [], ◌∷◌, ◌++◌, sym, subst, arith}
 use Rattle.std.specs.List.{AllByRecursion}
-use Rattle.reaudit.specs.Parts.{IsPart}
-use Rattle.reaudit.proofs.PartLaws.{all_more, infos_more}
+use Rattle.judged_rows.specs.Parts.{IsPart}
+use Rattle.judged_rows.proofs.PartLaws.{all_more, infos_more}
 use Rattle.reaudit.proofs.Judgings.{judged_more, judged_within}
 use Rattle.reaudit.proofs.page.parts_of.Goals as goal
 

@@ -2,8 +2,8 @@ use Rattle.std.proofs.Common.{◌≡◌, ◌+◌, ◌≤◌, List, map, take}
 use Rattle.std.specs.List.{AllByRecursion}
 use Rattle.judge_core.specs.declared.judgement.Judgement.{Judgement}
 use Rattle.judge_core.specs.Outcomes.{judgings}
-use Rattle.reaudit.specs.ByNode.{IsByNode}
-use Rattle.reaudit.specs.Parts.{IsPart}
+use Rattle.judged_rows.specs.ByNode.{IsByNode}
+use Rattle.judged_rows.specs.Parts.{IsPart}
 use Rattle.reaudit.proofs.page.parts_of.Given as goal
 
 abbrev pub invariant-loop-info : goal.invariant-loop-info

@@ -1,0 +1,4 @@
+pub mod Merged
+pub mod Latest
+pub mod PartLaws
+pub mod Anew

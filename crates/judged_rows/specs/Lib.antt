@@ -1,0 +1,4 @@
+pub mod ByNode
+pub mod Merging
+pub mod Parts
+pub mod Again

@@ -1,6 +1,0 @@
-use Rattle.std.proofs.Common.{take}
-use Rattle.reaudit.specs.ByNode.{IsByNode}
-use Rattle.reaudit.proofs.by_node.by_node.Given as goal
-
-abbrev pub invariant-loop-judgement : goal.invariant-loop-judgement
-invariant-loop-judgement l = IsByNode (take l.judgement-index l.js) l.by_node

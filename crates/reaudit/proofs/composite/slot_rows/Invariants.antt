@@ -1,7 +1,0 @@
-use Rattle.std.proofs.Common.{◌≡◌, take}
-use Rattle.std.specs.List.{filter_map}
-use Rattle.reaudit.specs.Merging.{slot_row}
-use Rattle.reaudit.proofs.composite.slot_rows.Given as goal
-
-abbrev pub invariant-loop-slot : goal.invariant-loop-slot
-invariant-loop-slot l = l.rows.items ≡ filter_map (slot_row l.rule) (take l.slot-index l.slots)
