@@ -22,9 +22,9 @@ use Rattle.judge_core.specs.Outcomes.{row_of, atomic_row}
 use Rattle.judged_rows.specs.Again.{again}
 use Rattle.keys.specs.Keys.{Key}
 use Rattle.keys.specs.Same.{same, all_same}
-use Rattle.locality.specs.Reach.{class_keys, agrees, is_held, is_affected}
-use Rattle.locality.specs.Local.{AreVersions, IsLocal}
-use Rattle.locality.proofs.Affecting.{keeps_the_rest}
+use Rattle.rule_core.specs.Reach.{class_keys, agrees, is_held, is_affected}
+use Rattle.rule_core.specs.Local.{AreVersions, IsLocal}
+use Rattle.rule_core.proofs.Affecting.{keeps_the_rest}
 use Rattle.page_changes.specs.declared.flags.Flags.{Flags}
 use Rattle.page_changes.specs.Flags.{flags_of}
 use Rattle.engine.specs.declared.known.Known.{Known}

@@ -8,8 +8,8 @@ use Rattle.rule_core.specs.Books.{Book}
 use Rattle.rule_core.specs.Infos.{is_atomic}
 use Rattle.rule_core.specs.Pages.{node_count}
 use Rattle.judge_core.specs.Outcomes.{judgings}
-use Rattle.locality.specs.Reach.{affected_nodes, affected}
-use Rattle.locality.proofs.Affecting.{counts_by_rule}
+use Rattle.rule_core.specs.Reach.{affected_nodes, affected}
+use Rattle.rule_core.proofs.Affecting.{counts_by_rule}
 use Rattle.engine.specs.Costs.{affected_cost, whole_cost}
 
 -- one rule more

@@ -5,7 +5,7 @@ use Rattle.rule_core.specs.declared.info.RuleInfo.{RuleInfo}
 use Rattle.rule_core.specs.Books.{Book}
 use Rattle.rule_core.specs.Infos.{is_atomic}
 use Rattle.rule_core.specs.Pages.{node_count}
-use Rattle.locality.specs.Reach.{affected_nodes}
+use Rattle.rule_core.specs.Reach.{affected_nodes}
 
 -- of an atomic rule, the nodes on which the edit affects it
 abbrev pub affected_cost : Book → Document → Document → RuleInfo → ℕ

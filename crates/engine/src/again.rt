@@ -8,8 +8,8 @@ ghost use Rattle.judge_core.specs.declared.judgement.Judgement.{Judgement};
 ghost use Rattle.judge_core.specs.Outcomes.{atomic_row, atomic_rows};
 ghost use Rattle.judged_rows.specs.Again.{again};
 ghost use Rattle.judged_rows.specs.ByNode.{IsByNode};
-ghost use Rattle.locality.specs.Reach.{is_affected, affected_nodes};
-ghost use Rattle.locality.specs.Local.{AreVersions};
+ghost use Rattle.rule_core.specs.Reach.{is_affected, affected_nodes};
+ghost use Rattle.rule_core.specs.Local.{AreVersions};
 ghost use Rattle.engine.specs.Before.{WereRows};
 ghost use Rattle.engine.specs.Known.{placed_of, ArePlaced, class_flag, has_to_judge};
 
@@ -17,7 +17,6 @@ use crate::before::{row_before, rows_before};
 use crate::known::{Known, Placed};
 use judge_core::OutRow;
 use judged_rows::{ByNode, push_row, row_again, row_of};
-use locality::LocalBook;
 use page_changes::Flags;
 use rule_core::{Class, RuleBook, RuleInfo, RuleNo};
 use snap_tree::{List, NodeId, OutOfMemory, Tree};
@@ -83,7 +82,7 @@ fn has_to_judge(info: &RuleInfo, known: Option<Known>, target: bool) -> bool
 }
 
 // The row of a rule on a node of the new page: judged where the edit reaches it, else the one that it had.
-fn placed_row<B: LocalBook>(
+fn placed_row<B: RuleBook>(
     alloc: Global,
     book: &mut B,
     info: &RuleInfo,
@@ -109,7 +108,7 @@ fn placed_row<B: LocalBook>(
 }
 
 // The rows of a rule on the nodes of the new page, by those that the nodes had.
-fn placed_rows<B: LocalBook>(
+fn placed_rows<B: RuleBook>(
     alloc: Global,
     book: &mut B,
     info: &RuleInfo,
@@ -145,7 +144,7 @@ fn well(tree: &Tree)
 /// page, under whatever judgements those are. The rule judges at most the nodes of the new page on which the edit
 /// affects it; and where the rows aren't those of the old page, never more than the nodes of the new page. Fails only
 /// for want of memory.
-pub fn atomic_again<B: LocalBook>(
+pub fn atomic_again<B: RuleBook>(
     alloc: Global,
     book: &mut B,
     info: &RuleInfo,

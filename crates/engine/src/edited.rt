@@ -4,7 +4,7 @@ ghost use Rattle.judge_core.specs.declared.judgement.Judgement.{Judgement};
 ghost use Rattle.judge_core.specs.Outcomes.{rule_rows, outcomes, judgings};
 ghost use Rattle.judged_rows.specs.ByNode.{IsByNode};
 ghost use Rattle.judged_rows.specs.Parts.{IsPart};
-ghost use Rattle.locality.specs.Reach.{affected};
+ghost use Rattle.rule_core.specs.Reach.{affected};
 ghost use Rattle.engine.specs.Known.{ArePlaced};
 ghost use Rattle.engine.specs.Costs.{affected_cost, whole_cost};
 
@@ -12,8 +12,7 @@ use crate::again::atomic_again;
 use crate::known::{Placed, known_nodes};
 use judge_core::{Judgement, OutRow, Outcomes, infos_of};
 use judged_rows::{ByNode, Part, atomic_part, by_node, composite_part, joined_parts, split_rule};
-use locality::LocalBook;
-use rule_core::RuleInfo;
+use rule_core::{RuleBook, RuleInfo};
 use snap_tree::{List, OutOfMemory, Tree};
 use std::alloc::Global;
 
@@ -21,7 +20,7 @@ use std::alloc::Global;
 /// whatever judgements, the answer is those of the new page under these judgements, as a full audit has them, and the
 /// count of judgings rises by at most the pairs of an atomic rule and a node that the edit affects. Whatever the rows,
 /// it rises by at most the atomic rules times the nodes of the new page. Fails only for want of memory.
-pub fn reaudit<B: LocalBook>(
+pub fn reaudit<B: RuleBook>(
     alloc: Global,
     book: &mut B,
     old: &Tree,
@@ -56,7 +55,7 @@ pub fn reaudit<B: LocalBook>(
 }
 
 // The part of each rule, by the rows that were found on the old page.
-fn parts_again<B: LocalBook>(
+fn parts_again<B: RuleBook>(
     alloc: Global,
     book: &mut B,
     infos: &[RuleInfo],
@@ -88,7 +87,7 @@ fn parts_again<B: LocalBook>(
 }
 
 // The part of a rule, by the rows that it had on the old page; a composite one needs none.
-fn part_again<B: LocalBook>(
+fn part_again<B: RuleBook>(
     alloc: Global,
     book: &mut B,
     info: &RuleInfo,

@@ -93,6 +93,8 @@ impl RuleBook for Meeting {
     ghost few = { Prim.search rules };
 
     ghost strange = { λ rule no page n. refl };
+
+    ghost local = { λ info at old new n versions k. refl };
 }
 
 fn between(own: &Flag, other: &Flag) -> Result<Meeting, OutOfMemory>

@@ -1,10 +1,11 @@
 -- A book for tests: what its rules say of a node stands in the attributes of the node.
 use Rattle.std.specs.Prelude.{ℕ, List, [], ◌∷◌, codes, if◌then◌else◌, bytes_eq, Option, None, option_map}
-use Rattle.std.specs.Option.{option_and_then}
 use Rattle.snap_tree.specs.declared.row.NodeId.{NodeId}
+use Rattle.snap_tree.specs.declared.row.Row.{Row}
 use Rattle.snap_tree.specs.Trees.{Document}
-use Rattle.snap_tree.specs.Lookups.{node}
-use Rattle.snap_tree.specs.Rows.{attribute}
+use Rattle.acc_tree.specs.declared.attributes.Attribute.{Attribute}
+use Rattle.acc_tree.specs.declared.attributes.Attribute.TheVariants as attribute
+use Rattle.acc_tree.specs.Seen.{attr}
 use Rattle.rule_core.specs.declared.info.RuleInfo.{RuleInfo}
 use Rattle.rule_core.specs.declared.info.Class.TheVariants.{SelfOnly, Whole}
 use Rattle.rule_core.specs.declared.reason.Reason.TheVariants.{Met, NoName, JudgeHeading}
@@ -13,24 +14,28 @@ use Rattle.rule_core.specs.declared.verdict.Verdict.{Verdict}
 use Rattle.rule_core.specs.Findings.{passed, failed, cant_tell, verdict_of}
 use Rattle.rule_core.specs.Infos.{atomic}
 use Rattle.rule_core.specs.Books.{Entry}
+use Rattle.rule_sights.specs.Nodes.{said_alone}
 
 abbrev pub finding_in : List ℕ → Finding
 finding_in value =
     if bytes_eq value (codes "passed") then passed Met else (if bytes_eq value (codes "failed") then failed NoName else cant_tell JudgeHeading)
 
 -- a rule's verdict on a node with its attribute: its evidence is the value
-abbrev pub marked : List ℕ → Document → NodeId → Option Verdict
-marked name page n = option_and_then (λ row. option_map (λ value. verdict_of (finding_in value) value) (attribute name row)) (node page.trees n)
+abbrev pub mark_verdict : Attribute → Row → Option Verdict
+mark_verdict name row = option_map (λ value. verdict_of (finding_in value) value) (attr name row)
+
+abbrev pub marked : Attribute → Document → NodeId → Option Verdict
+marked name = said_alone (mark_verdict name)
 
 abbrev pub composite : ℕ → List ℕ → List ℕ → RuleInfo
 composite number id inputs = record { no = record { 0 = number }; id = id; applies = Whole; expects = Whole; inputs = inputs }
 
--- a composite rule before its inputs, which are the rules on the attributes a, b and c, and one after them
+-- a composite rule before its inputs, which are the rules on the attributes alt, title and lang, and one after them
 abbrev pub marks : List Entry
 marks =
     record { info = composite 1 (codes "merge1") (3 ∷ 4 ∷ 5 ∷ 0 ∷ []); says = λ page n. None }
-    ∷ record { info = atomic 3 (codes "attr0a") SelfOnly SelfOnly; says = marked (codes "a") }
-    ∷ record { info = atomic 4 (codes "attr0b") SelfOnly SelfOnly; says = marked (codes "b") }
-    ∷ record { info = atomic 5 (codes "attr0c") SelfOnly SelfOnly; says = marked (codes "c") }
+    ∷ record { info = atomic 3 (codes "attr0a") SelfOnly SelfOnly; says = marked attribute.Alt }
+    ∷ record { info = atomic 4 (codes "attr0b") SelfOnly SelfOnly; says = marked attribute.Title }
+    ∷ record { info = atomic 5 (codes "attr0c") SelfOnly SelfOnly; says = marked attribute.Lang }
     ∷ record { info = composite 9 (codes "merge2") (5 ∷ 3 ∷ 0 ∷ 0 ∷ []); says = λ page n. None }
     ∷ []

@@ -1,13 +1,16 @@
 ghost use Rattle.std.specs.Prelude.{◌≡◌, IfOk, slice_get};
 ghost use Rattle.rule_core.specs.declared.info.Class.TheVariants.{Whole};
-ghost use Rattle.fixture_rules.specs.Marks.{marked, finding_in, composite};
+ghost use Rattle.acc_tree.specs.Seen.{seen_row};
+ghost use Rattle.fixture_rules.specs.Marks.{mark_verdict, marked, finding_in, composite};
 
+use acc_tree::{Attribute, attr};
 use rule_core::{Class, Finding, Reason, RuleBook, RuleInfo, RuleNo, Verdict};
-use snap_tree::{NodeId, OutOfMemory, Tree};
+use rule_sights::row_of;
+use snap_tree::{NodeId, OutOfMemory, Row, Tree};
 use std::alloc::Global;
 use std::marker::Model;
 
-/// A book of which a node's attributes a, b and c say what rules 3, 4 and 5 find there: that it passed,
+/// A book of which a node's attributes alt, title and lang say what rules 3, 4 and 5 find there: that it passed,
 /// that it failed, or by any other value that a person has to judge. The value is the evidence. Rule 1
 /// merges them all, rule 9 the third and the first. Contracts see the book as the number of its judgings
 /// so far, which at the greatest `u64` stays.
@@ -61,17 +64,28 @@ fn finding_in(value: &str) -> Finding
     }
 }
 
-fn marked(alloc: Global, tree: &Tree, name: &str, n: NodeId) -> Result<Option<Verdict>, OutOfMemory>
-    ensures { IfOk result (λ verdict. verdict ≡ marked name.now tree.now n) }
+fn mark_verdict(alloc: Global, row: &Row, name: Attribute) -> Result<Option<Verdict>, OutOfMemory>
+    ensures { IfOk result (λ verdict. verdict ≡ mark_verdict name (seen_row row.now)) }
 {
-    let Some(row) = tree.node(n) else {
-        return Ok(None);
-    };
-    match row.attribute(name) {
+    match attr(row, name) {
         Some(value) => {
             let verdict = finding_in(value.as_str()).verdict(alloc, value)?;
             Ok(Some(verdict))
         }
+        None => Ok(None),
+    }
+}
+
+fn marked(
+    alloc: Global,
+    tree: &Tree,
+    name: Attribute,
+    n: NodeId,
+) -> Result<Option<Verdict>, OutOfMemory>
+    ensures { IfOk result (λ verdict. verdict ≡ marked name tree.now n) }
+{
+    match row_of(tree, n) {
+        Some(row) => mark_verdict(alloc, row, name),
         None => Ok(None),
     }
 }
@@ -82,6 +96,7 @@ impl RuleBook for Marks {
     ghost use Rattle.rule_core.specs.Books.{book_of};
     ghost use Rattle.rule_core.specs.BookLaws.{said_strange};
     ghost use Rattle.fixture_rules.specs.Marks.{marks};
+    ghost use Rattle.fixture_rules.specs.Local.{marks_local};
 
     ghost book = { book_of marks };
 
@@ -107,9 +122,9 @@ impl RuleBook for Marks {
     ) -> Result<Option<Verdict>, OutOfMemory> {
         self.calls = counts::next(self.calls);
         match rule.0 {
-            3 => marked(alloc, tree, "a", n),
-            4 => marked(alloc, tree, "b", n),
-            5 => marked(alloc, tree, "c", n),
+            3 => marked(alloc, tree, Attribute::Alt, n),
+            4 => marked(alloc, tree, Attribute::Title, n),
+            5 => marked(alloc, tree, Attribute::Lang, n),
             _ => Ok(None),
         }
     }
@@ -123,4 +138,6 @@ impl RuleBook for Marks {
     ghost few = { Prim.search rules };
 
     ghost strange = { said_strange marks };
+
+    ghost local = { marks_local };
 }

@@ -14,7 +14,7 @@ use Rattle.fixture_sites.specs.declared.asks.Ask.{Ask}
 use Rattle.fixture_sites.specs.declared.asks.Ask.TheVariants as ask
 
 abbrev pub edit_of : Alter → Edit
-edit_of (alter.Mark n value) = edit.SetAttr (record { 0 = n }) (codes "a") value.now
+edit_of (alter.Mark n value) = edit.SetAttr (record { 0 = n }) (codes "alt") value.now
 edit_of (alter.Say n text) = edit.SetText (record { 0 = n }) text.now
 edit_of (alter.Cut n) = edit.Remove (record { 0 = n })
 

@@ -18,7 +18,7 @@ pub type Nodes = &'static [Node<'static>];
 /// An edit of a page.
 #[derive(Clone, Copy, Debug)]
 pub enum Alter {
-    /// The attribute a of a node gets a value.
+    /// The attribute alt of a node gets a value.
     Mark(u32, &'static str),
     /// A text becomes another.
     Say(u32, &'static str),
@@ -62,7 +62,7 @@ fn edit_of(alloc: Global, alter: Alter) -> Result<Edit, OutOfMemory>
     match alter {
         Alter::Mark(n, value) => Ok(Edit::SetAttr {
             node: NodeId(n),
-            name: Text::from_str(alloc, "a")?,
+            name: Text::from_str(alloc, "alt")?,
             value: Text::from_str(alloc, value)?,
         }),
         Alter::Say(n, text) => Ok(Edit::SetText {

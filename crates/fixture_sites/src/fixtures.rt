@@ -15,8 +15,8 @@ use std::alloc::Global;
 /// rules that merge it.
 pub const PAGE: Nodes = &[
     Html(0, "div", &[]),
-    Html(1, "div", &[("a", "x")]),
-    Html(1, "div", &[("b", "passed")]),
+    Html(1, "div", &[("alt", "x")]),
+    Html(1, "div", &[("title", "passed")]),
 ];
 
 /// What that page comes to.

@@ -20,9 +20,9 @@ use Rattle.rule_sights.specs.Targets.{is_target}
 use Rattle.keys.specs.Classes.{is_root}
 use Rattle.keys.specs.Laws.{itself, alone}
 use Rattle.keys.proofs.Agreeing.{parts}
-use Rattle.locality.specs.Reach.{Says, class_keys}
-use Rattle.locality.specs.Local.{IsLocal}
-use Rattle.locality.proofs.Targets.{IsKept, by_classes, by_itself}
+use Rattle.rule_core.specs.Reach.{Says, class_keys}
+use Rattle.rule_core.specs.Local.{IsLocal}
+use Rattle.rule_core.proofs.Targets.{IsKept, by_classes, by_itself}
 use Rattle.law_forms.specs.Telling.{Tells}
 use Rattle.law_forms.proofs.Told.{alone_told}
 

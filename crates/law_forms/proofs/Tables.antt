@@ -9,8 +9,8 @@ use Rattle.snap_tree.specs.Trees.{Document}
 use Rattle.rule_core.specs.declared.info.RuleInfo.{RuleInfo}
 use Rattle.rule_core.specs.Books.{Entry, infos_of, said}
 use Rattle.rule_core.specs.Infos.{is_atomic, rise, differ, is_id, has_atomic_inputs}
-use Rattle.locality.specs.Reach.{Says}
-use Rattle.locality.specs.Local.{IsLocal}
+use Rattle.rule_core.specs.Reach.{Says}
+use Rattle.rule_core.specs.Local.{IsLocal}
 use Rattle.law_forms.specs.Tables.{IsLocalEntry, IsLocalTable}
 
 -- what is said by an info's number is local

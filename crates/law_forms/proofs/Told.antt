@@ -15,7 +15,7 @@ use Rattle.keys.proofs.Agreeing.{parts}
 use Rattle.keys.proofs.Again.{looks}
 use Rattle.keys.proofs.Classes.{sub_sight}
 use Rattle.keys.proofs.Looking.{alone_looks, table_looks, titles_look, metas_look, whole_looks}
-use Rattle.locality.specs.Reach.{class_keys}
+use Rattle.rule_core.specs.Reach.{class_keys}
 use Rattle.law_forms.specs.Telling.{Tells}
 
 pub alone_told : (class : Class) → Tells class alone

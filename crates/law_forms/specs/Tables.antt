@@ -3,7 +3,7 @@ use Rattle.std.specs.Prelude.{◌≡◌, List, true, IsTrue}
 use Rattle.std.specs.List.{AllByRecursion}
 use Rattle.rule_core.specs.Books.{Entry, infos_of, book_of}
 use Rattle.rule_core.specs.Infos.{is_atomic, is_orderly}
-use Rattle.locality.specs.Local.{IsLocal, IsLocalBook}
+use Rattle.rule_core.specs.Local.{IsLocal, IsLocalBook}
 
 -- an atomic rule is local
 abbrev pub IsLocalEntry : Entry → Type 0

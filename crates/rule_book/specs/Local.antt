@@ -1,13 +1,13 @@
 -- The book of the thirty rules is local: each atomic rule of it is.
 use Rattle.std.proofs.Common.{refl}
 use Rattle.rule_core.specs.Books.{book_of}
-use Rattle.locality.specs.Local.{IsLocalBook}
+use Rattle.rule_core.specs.Local.{IsLocalBook}
 use Rattle.law_forms.proofs.Tables.{table_local}
-use Rattle.page_laws.proofs.Rules.{title_local, descriptive_local as title_descriptive_local, language_local, known_local, parts_local, viewport_local, delay_local}
-use Rattle.page_laws.proofs.Bypassing.{heading_local as heading_to_start_local, landmark_local, skip_link_local, collapse_local}
-use Rattle.name_laws.specs.Rules.{button_local, link_local, image_local, image_button_local, form_field_local, iframe_local, heading_local, svg_image_local, descriptive_local}
-use Rattle.aria_laws.proofs.Rules.{autocomplete_local, role_local, attribute_local, value_local, states_local, owned_local, hidden_local}
-use Rattle.table_laws.proofs.Rules.{references_local, headers_local}
+use Rattle.rules_page.proofs.Local.{title_local, descriptive_local as title_descriptive_local, language_local, known_local, parts_local, viewport_local, delay_local}
+use Rattle.rules_bypass.proofs.Local.{heading_local as heading_to_start_local, landmark_local, skip_link_local, collapse_local}
+use Rattle.rules_names.proofs.Local.{button_local, link_local, image_local, image_button_local, form_field_local, iframe_local, heading_local, svg_image_local, descriptive_local}
+use Rattle.rules_aria.proofs.Local.{autocomplete_local, role_local, attribute_local, value_local, states_local, owned_local, hidden_local}
+use Rattle.rules_tables.proofs.Local.{references_local, headers_local}
 use Rattle.rule_book.specs.Book.{thirty}
 
 pub thirty_local : IsLocalBook (book_of thirty)

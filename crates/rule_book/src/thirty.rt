@@ -6,7 +6,6 @@ ghost use Rattle.rule_book.specs.Book.{thirty};
 
 use crate::table::infos;
 use counts::next;
-use locality::LocalBook;
 use rule_core::{NodeVerdict, Rule, RuleBook, RuleInfo, RuleNo, Verdict};
 use rules_aria::{
     AriaAttributeIsDefined, AriaValueIsValid, AutocompleteIsValid, HasRequiredStates,
@@ -153,6 +152,7 @@ impl RuleBook for Thirty {
     ghost use Rattle.rule_core.specs.Books.{book_of};
     ghost use Rattle.rule_core.specs.BookLaws.{said_strange};
     ghost use Rattle.rule_book.specs.Book.{thirty};
+    ghost use Rattle.rule_book.specs.Local.{thirty_local};
 
     ghost book = { book_of thirty };
 
@@ -192,10 +192,6 @@ impl RuleBook for Thirty {
     ghost few = { Prim.search rules };
 
     ghost strange = { said_strange thirty };
-}
-
-impl LocalBook for Thirty {
-    ghost use Rattle.rule_book.specs.Local.{thirty_local};
 
     ghost local = { thirty_local };
 }

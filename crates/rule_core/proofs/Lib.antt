@@ -1,3 +1,5 @@
 pub mod WordLaws
 pub mod Shortness
 pub mod Gathering
+pub mod Targets
+pub mod Affecting

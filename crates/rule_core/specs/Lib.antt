@@ -5,3 +5,5 @@ pub mod Pages
 pub mod Words
 pub mod Brief
 pub mod Findings
+pub mod Reach
+pub mod Local

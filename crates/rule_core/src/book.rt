@@ -5,6 +5,7 @@ ghost use Rattle.snap_tree.specs.Trees.{Document};
 ghost use Rattle.rule_core.specs.declared.info.RuleNo.{RuleNo};
 ghost use Rattle.rule_core.specs.Books.{Book};
 ghost use Rattle.rule_core.specs.Infos.{is_orderly, has_atomic};
+ghost use Rattle.rule_core.specs.Local.{IsLocalBook};
 ghost use Rattle.rule_core.specs.Pages.{page_verdicts, node_count};
 
 use crate::info::{RuleInfo, RuleNo};
@@ -75,4 +76,8 @@ pub trait RuleBook {
 
     // The book says nothing by a number that is no atomic rule of it.
     ghost strange: { (rule : RuleNo) → has_atomic book.infos rule.0 ≡ false → (page : Document) (n : NodeId) → book.means rule page n ≡ None };
+
+    // Each rule of the book says the same of a node on two versions of a page that agree on all that its classes
+    // look at, so code over any book may keep a verdict from one version of a page to the next.
+    ghost local: { IsLocalBook book };
 }

@@ -3,6 +3,7 @@ ghost use Rattle.snap_tree.specs.declared.row.NodeId.{NodeId};
 ghost use Rattle.snap_tree.specs.Trees.{Document};
 ghost use Rattle.rule_core.specs.declared.info.RuleInfo.{RuleInfo};
 ghost use Rattle.rule_core.specs.declared.verdict.Verdict.{Verdict};
+ghost use Rattle.rule_core.specs.Local.{IsLocal};
 ghost use Rattle.rule_core.specs.Pages.{page_verdicts};
 
 use crate::info::RuleInfo;
@@ -40,4 +41,11 @@ pub trait Rule {
         }
         Ok(verdicts)
     }
+
+    /// The law of locality. It does nothing: the clause is what it is for.
+    ///
+    /// On two versions of a page that agree on all that the rule looks at, by the two classes of its info, it says
+    /// the same of the node, with the same evidence.
+    fn law_of_locality(&self)
+        ensures { IsLocal described means };
 }

@@ -2,3 +2,6 @@ pub mod Beginning
 pub mod Joining
 pub mod Stopping
 pub mod Judged
+pub mod AttributesTold
+pub mod ReferencesTold
+pub mod Local

@@ -76,4 +76,7 @@ impl Rule for AriaAttributeIsDefined {
             None => Ok(None),
         }
     }
+
+    #[tactic(auto, using(crate::proofs::Local::attribute_local))]
+    fn law_of_locality(&self) {}
 }

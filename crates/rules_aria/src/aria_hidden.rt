@@ -94,4 +94,7 @@ impl Rule for HiddenHoldsNoFocus {
             None => Ok(None),
         }
     }
+
+    #[tactic(auto, using(crate::proofs::Local::hidden_local))]
+    fn law_of_locality(&self) {}
 }

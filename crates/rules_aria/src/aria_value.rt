@@ -121,4 +121,7 @@ impl Rule for AriaValueIsValid {
             None => Ok(None),
         }
     }
+
+    #[tactic(auto, using(crate::proofs::Local::value_local))]
+    fn law_of_locality(&self) {}
 }

@@ -298,4 +298,7 @@ impl Rule for AutocompleteIsValid {
             None => Ok(None),
         }
     }
+
+    #[tactic(auto, using(crate::proofs::Local::autocomplete_local))]
+    fn law_of_locality(&self) {}
 }

@@ -99,4 +99,7 @@ impl Rule for OwnsRequiredElements {
             None => Ok(None),
         }
     }
+
+    #[tactic(auto, using(crate::proofs::Local::owned_local))]
+    fn law_of_locality(&self) {}
 }

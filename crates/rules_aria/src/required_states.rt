@@ -98,4 +98,7 @@ impl Rule for HasRequiredStates {
             None => Ok(None),
         }
     }
+
+    #[tactic(auto, using(crate::proofs::Local::states_local))]
+    fn law_of_locality(&self) {}
 }

@@ -94,4 +94,7 @@ impl Rule for RoleIsValid {
             None => Ok(None),
         }
     }
+
+    #[tactic(auto, using(crate::proofs::Local::role_local))]
+    fn law_of_locality(&self) {}
 }

@@ -1,3 +1,4 @@
 pub mod Fragments
 pub mod Stopping
 pub mod Judged
+pub mod Local

@@ -29,4 +29,7 @@ impl Rule for HasCollapse {
             None => Ok(None),
         }
     }
+
+    #[tactic(auto, using(crate::proofs::Local::collapse_local))]
+    fn law_of_locality(&self) {}
 }

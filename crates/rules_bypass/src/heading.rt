@@ -28,4 +28,7 @@ impl Rule for HasHeadingToStart {
             None => Ok(None),
         }
     }
+
+    #[tactic(auto, using(crate::proofs::Local::heading_local))]
+    fn law_of_locality(&self) {}
 }

@@ -28,4 +28,7 @@ impl Rule for HasLandmark {
             None => Ok(None),
         }
     }
+
+    #[tactic(auto, using(crate::proofs::Local::landmark_local))]
+    fn law_of_locality(&self) {}
 }

@@ -29,4 +29,7 @@ impl Rule for HasSkipLink {
             None => Ok(None),
         }
     }
+
+    #[tactic(auto, using(crate::proofs::Local::skip_link_local))]
+    fn law_of_locality(&self) {}
 }

@@ -61,4 +61,7 @@ impl Rule for ButtonHasName {
     fn judge_page(&self, alloc: Global, tree: &Tree) -> Result<Vec<NodeVerdict>, OutOfMemory> {
         judge_in_turn(self, alloc, tree)
     }
+
+    #[tactic(auto, using(crate::proofs::Local::button_local))]
+    fn law_of_locality(&self) {}
 }

@@ -67,4 +67,7 @@ impl Rule for FormFieldHasName {
     fn judge_page(&self, alloc: Global, tree: &Tree) -> Result<Vec<NodeVerdict>, OutOfMemory> {
         judge_in_turn(self, alloc, tree)
     }
+
+    #[tactic(auto, using(crate::proofs::Local::form_field_local))]
+    fn law_of_locality(&self) {}
 }

@@ -51,4 +51,7 @@ impl Rule for HeadingHasName {
     fn judge_page(&self, alloc: Global, tree: &Tree) -> Result<Vec<NodeVerdict>, OutOfMemory> {
         judge_in_turn(self, alloc, tree)
     }
+
+    #[tactic(auto, using(crate::proofs::Local::heading_local))]
+    fn law_of_locality(&self) {}
 }

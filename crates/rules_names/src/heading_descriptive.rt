@@ -85,4 +85,7 @@ impl Rule for HeadingIsDescriptive {
     fn judge_page(&self, alloc: Global, tree: &Tree) -> Result<Vec<NodeVerdict>, OutOfMemory> {
         judge_in_turn(self, alloc, tree)
     }
+
+    #[tactic(auto, using(crate::proofs::Local::descriptive_local))]
+    fn law_of_locality(&self) {}
 }

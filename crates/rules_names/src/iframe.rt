@@ -50,4 +50,7 @@ impl Rule for IframeHasName {
     fn judge_page(&self, alloc: Global, tree: &Tree) -> Result<Vec<NodeVerdict>, OutOfMemory> {
         judge_in_turn(self, alloc, tree)
     }
+
+    #[tactic(auto, using(crate::proofs::Local::iframe_local))]
+    fn law_of_locality(&self) {}
 }

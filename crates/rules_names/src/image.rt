@@ -100,4 +100,7 @@ impl Rule for ImageHasName {
     fn judge_page(&self, alloc: Global, tree: &Tree) -> Result<Vec<NodeVerdict>, OutOfMemory> {
         judge_in_turn(self, alloc, tree)
     }
+
+    #[tactic(auto, using(crate::proofs::Local::image_local))]
+    fn law_of_locality(&self) {}
 }

@@ -60,4 +60,7 @@ impl Rule for LinkHasName {
     fn judge_page(&self, alloc: Global, tree: &Tree) -> Result<Vec<NodeVerdict>, OutOfMemory> {
         judge_in_turn(self, alloc, tree)
     }
+
+    #[tactic(auto, using(crate::proofs::Local::link_local))]
+    fn law_of_locality(&self) {}
 }

@@ -2,3 +2,8 @@ pub mod Seeing
 pub mod Saturating
 pub mod Cutting
 pub mod Judged
+pub mod TitleAmong
+pub mod TitleTold
+pub mod FirstMeta
+pub mod MetasTold
+pub mod Local

@@ -30,4 +30,7 @@ impl Rule for PageHasLang {
         let finding = filled(lang, Reason::NoLang, Reason::EmptyLang);
         Ok(Some(finding.verdict_on(alloc, lang)?))
     }
+
+    #[tactic(auto, using(crate::proofs::Local::language_local))]
+    fn law_of_locality(&self) {}
 }

@@ -40,4 +40,7 @@ impl Rule for LanguageIsKnown {
             None => Ok(None),
         }
     }
+
+    #[tactic(auto, using(crate::proofs::Local::known_local))]
+    fn law_of_locality(&self) {}
 }

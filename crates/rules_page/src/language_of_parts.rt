@@ -84,4 +84,7 @@ impl Rule for LanguageOfPartIsKnown {
             None => Ok(None),
         }
     }
+
+    #[tactic(auto, using(crate::proofs::Local::parts_local))]
+    fn law_of_locality(&self) {}
 }

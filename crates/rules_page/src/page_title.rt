@@ -82,4 +82,7 @@ impl Rule for PageHasTitle {
         let finding = filled(title.as_ref(), Reason::NoTitle, Reason::EmptyTitle);
         Ok(Some(finding.verdict_on(alloc, title.as_ref())?))
     }
+
+    #[tactic(auto, using(crate::proofs::Local::title_local))]
+    fn law_of_locality(&self) {}
 }

@@ -158,4 +158,7 @@ impl Rule for PageHasNoDelay {
             None => Ok(None),
         }
     }
+
+    #[tactic(auto, using(crate::proofs::Local::delay_local))]
+    fn law_of_locality(&self) {}
 }

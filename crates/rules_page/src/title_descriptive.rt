@@ -55,4 +55,7 @@ impl Rule for TitleIsDescriptive {
             None => Ok(None),
         }
     }
+
+    #[tactic(auto, using(crate::proofs::Local::descriptive_local))]
+    fn law_of_locality(&self) {}
 }

@@ -233,4 +233,7 @@ impl Rule for ViewportAllowsZoom {
             None => Ok(None),
         }
     }
+
+    #[tactic(auto, using(crate::proofs::Local::viewport_local))]
+    fn law_of_locality(&self) {}
 }

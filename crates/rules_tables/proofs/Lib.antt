@@ -14,3 +14,5 @@ pub mod Naming
 pub mod RoleOfCell
 pub mod Deciding
 pub mod Judged
+pub mod CellTold
+pub mod Local

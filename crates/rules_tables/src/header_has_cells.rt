@@ -144,4 +144,7 @@ impl Rule for HeaderHasCells {
         }
         Ok(verdicts)
     }
+
+    #[tactic(auto, using(crate::proofs::Local::headers_local))]
+    fn law_of_locality(&self) {}
 }

@@ -146,4 +146,7 @@ impl Rule for HeadersReferToCells {
         }
         Ok(verdicts)
     }
+
+    #[tactic(auto, using(crate::proofs::Local::references_local))]
+    fn law_of_locality(&self) {}
 }

@@ -9,11 +9,11 @@ use std::test::Fail;
 // A page on which documents' order isn't that of the numbers.
 static PAGE: [Node; 6] = [
     (1, &[]),
-    (9, &[("a", "x")]),
-    (4, &[("a", "passed"), ("b", "failed")]),
-    (7, &[("c", "failed")]),
+    (9, &[("alt", "x")]),
+    (4, &[("alt", "passed"), ("title", "failed")]),
+    (7, &[("lang", "failed")]),
     (8, &[]),
-    (2, &[("b", "y"), ("c", "z")]),
+    (2, &[("title", "y"), ("lang", "z")]),
 ];
 
 // Its rows without a judgement.

@@ -1,12 +1,11 @@
-use crate::judged::{agrees, all_keep, compared, whole};
+use crate::judged::{agrees, compared, info_of, pages_keep, whole};
 use fixture_pages::page_in;
-use rules_names::LinkHasName;
-use snap_tree::{NodeId, Tree};
+use snap_tree::NodeId;
 use std::alloc::Global;
 use std::test::Fail;
 
-// A page, and pages that one edit makes of it.
-type Edited = (&'static str, &'static [&'static str]);
+/// A page, and pages that one edit makes of it.
+pub(crate) type Edited = (&'static str, &'static [&'static str]);
 
 // Pages of the edits' tests, with each single edit that is accepted on them, but for those at a limit, which stand in
 // `limits`; and two more.
@@ -100,18 +99,8 @@ const IN_NAV: &str =
 const OUR_SHOP: &str =
     "1 0 html;2 1 head;3 2 title;4 3 #Our~shop;5 1 body;6 5 nav;7 6 a href=/basket aria-labelledby=basket;8 7 img alt=;9 5 h2 id=basket;10 9 #Basket;11 5 p;12 11 #Three~things";
 
-/// Whether each of the nine rules says the same of each node, where the pages agree on what it looks at.
-pub(crate) fn pages_keep(alloc: Global, old: &Tree, new: &Tree) -> Result<bool, Fail> {
-    let pair = compared(alloc, whole(old), new)?;
-    for row in old.rows() {
-        if !all_keep(alloc, &pair, row.id)? {
-            return Ok(false);
-        }
-    }
-    Ok(true)
-}
-
-fn each_keeps(alloc: Global, edited: &Edited) -> Result<(), Fail> {
+/// Fails with the first pair on which a rule says another thing although the pages agree on what it looks at.
+pub(crate) fn each_keeps(alloc: Global, edited: &Edited) -> Result<(), Fail> {
     let (before, afters) = *edited;
     let old = page_in(alloc, before)?;
     for after in afters {
@@ -147,10 +136,13 @@ static LINKED: [(&str, bool); 8] = [
 fn a_link_looks_at_these(rt: HostRuntime) -> Result<(), Fail> {
     let alloc = rt.alloc();
     let old = page_in(alloc, BASKET)?;
+    let Some(links) = info_of(9) else {
+        return Err(Fail::from("rule 9"));
+    };
     for (after, wanted) in LINKED.as_slice() {
         let new = page_in(alloc, after)?;
         let pair = compared(alloc, whole(&old), &new)?;
-        if agrees(alloc, &LinkHasName, &pair, NodeId(7))? != *wanted {
+        if agrees(alloc, &links, &pair, NodeId(7))? != *wanted {
             return Err(Fail::from(*after));
         }
     }

@@ -1,10 +1,7 @@
-use crate::reach::{Part, Place, add_class};
+use crate::reach::{Less, Place, add_class};
 use crate::values::{Key, add_part, value};
-use rule_core::{Auto, Rule, Verdict};
-use rules_names::{
-    ButtonHasName, FormFieldHasName, HeadingHasName, HeadingIsDescriptive, IframeHasName,
-    ImageButtonHasName, ImageHasName, LinkHasName, SvgImageHasName,
-};
+use rule_book::{Thirty, infos};
+use rule_core::{Auto, Class, RuleBook, RuleInfo, Verdict};
 use snap_tree::{NodeId, Tree};
 use std::alloc::Global;
 use std::test::Fail;
@@ -28,8 +25,9 @@ fn shown(alloc: Global, verdict: &Option<Verdict>) -> Result<String, Fail> {
 }
 
 // What a rule says of a node, as a text; no character where it isn't a target.
-fn said<R: Rule>(alloc: Global, rule: &R, tree: &Tree, n: NodeId) -> Result<String, Fail> {
-    let verdict = rule.judge(alloc, tree, n)?;
+fn said(alloc: Global, info: &RuleInfo, tree: &Tree, n: NodeId) -> Result<String, Fail> {
+    let mut book = Thirty::new();
+    let verdict = book.judge(alloc, tree, info.no, n)?;
     shown(alloc, &verdict)
 }
 
@@ -62,7 +60,7 @@ fn note(
     Ok(())
 }
 
-/// A page, of which a part may be left out, and another.
+/// A page, of whose reach something may be smaller, and another.
 pub(crate) fn compared<'a>(alloc: Global, old: Place<'a>, new: &'a Tree) -> Result<Pair<'a>, Fail> {
     let mut frames = Vec::new(alloc);
     let mut own = Vec::new(alloc);
@@ -91,7 +89,9 @@ fn agree_at(alloc: Global, pair: &Pair<'_>, key: Key<'_>) -> Result<bool, Fail> 
         Key::Frame(n) => Ok(!holds(pair.frames.as_slice(), n)),
         Key::Own(n) => Ok(!holds(pair.own.as_slice(), n)),
         Key::Kids(n) => Ok(!holds(pair.kids.as_slice(), n)),
-        Key::Id(_) | Key::LabelFor(_) => Ok(!differs(alloc, pair.old.tree, pair.new, key)?),
+        Key::Id(_) | Key::LabelFor(_) | Key::Tagged(_) => {
+            Ok(!differs(alloc, pair.old.tree, pair.new, key)?)
+        }
     }
 }
 
@@ -104,51 +104,85 @@ fn agree(alloc: Global, pair: &Pair<'_>, keys: &[Key<'_>]) -> Result<bool, Fail>
     Ok(true)
 }
 
+fn applies(info: &RuleInfo, less: Less) -> Class {
+    match less {
+        Less::Applies(class) => class,
+        _ => info.applies,
+    }
+}
+
+fn expects(info: &RuleInfo, less: Less) -> Class {
+    match less {
+        Less::Expects(class) => class,
+        _ => info.expects,
+    }
+}
+
 /// Whether two pages agree on all that a rule looks at, of a node.
-pub(crate) fn agrees<R: Rule>(
+pub(crate) fn agrees(
     alloc: Global,
-    rule: &R,
+    info: &RuleInfo,
     pair: &Pair<'_>,
     n: NodeId,
 ) -> Result<bool, Fail> {
-    let info = rule.info();
+    let place = pair.old;
     let mut keys = Vec::new(alloc);
-    add_class(&mut keys, pair.old, info.applies, n)?;
-    if !said(alloc, rule, pair.old.tree, n)?.is_empty() {
-        add_class(&mut keys, pair.old, info.expects, n)?;
+    add_class(&mut keys, place, applies(info, place.less), n)?;
+    if !said(alloc, info, place.tree, n)?.is_empty() {
+        add_class(&mut keys, place, expects(info, place.less), n)?;
     }
     agree(alloc, pair, keys.as_slice())
 }
 
-// Whether the rule says the same of the node on both, where they agree.
-fn keeps<R: Rule>(alloc: Global, rule: &R, pair: &Pair<'_>, n: NodeId) -> Result<bool, Fail> {
-    if !agrees(alloc, rule, pair, n)? {
+/// Whether a rule says the same of a node on both pages, where they agree on what it looks at.
+pub(crate) fn keeps(
+    alloc: Global,
+    info: &RuleInfo,
+    pair: &Pair<'_>,
+    n: NodeId,
+) -> Result<bool, Fail> {
+    let before = said(alloc, info, pair.old.tree, n)?;
+    let after = said(alloc, info, pair.new, n)?;
+    if before.as_str() == after.as_str() {
         return Ok(true);
     }
-    let before = said(alloc, rule, pair.old.tree, n)?;
-    let after = said(alloc, rule, pair.new, n)?;
-    Ok(before.as_str() == after.as_str())
+    Ok(!agrees(alloc, info, pair, n)?)
 }
 
-/// Whether each of the nine rules does.
-pub(crate) fn all_keep(alloc: Global, pair: &Pair<'_>, n: NodeId) -> Result<bool, Fail> {
-    Ok(
-        keeps(alloc, &ButtonHasName, pair, n)?
-            & keeps(alloc, &LinkHasName, pair, n)?
-            & keeps(alloc, &ImageHasName, pair, n)?
-            & keeps(alloc, &ImageButtonHasName, pair, n)?
-            & keeps(alloc, &FormFieldHasName, pair, n)?
-            & keeps(alloc, &IframeHasName, pair, n)?
-            & keeps(alloc, &HeadingHasName, pair, n)?
-            & keeps(alloc, &SvgImageHasName, pair, n)?
-            & keeps(alloc, &HeadingIsDescriptive, pair, n)?,
-    )
+fn all_keep(alloc: Global, pair: &Pair<'_>, n: NodeId) -> Result<bool, Fail> {
+    for info in infos() {
+        if !keeps(alloc, info, pair, n)? {
+            return Ok(false);
+        }
+    }
+    Ok(true)
 }
 
-/// The page, with nothing left out of what is looked at.
+/// Whether each rule says the same of each node, where the pages agree on what it looks at.
+pub(crate) fn pages_keep(alloc: Global, old: &Tree, new: &Tree) -> Result<bool, Fail> {
+    let pair = compared(alloc, whole(old), new)?;
+    for row in old.rows() {
+        if !all_keep(alloc, &pair, row.id)? {
+            return Ok(false);
+        }
+    }
+    Ok(true)
+}
+
+/// What the rule of a number says of itself.
+pub(crate) fn info_of(number: u16) -> Option<RuleInfo> {
+    for info in infos() {
+        if info.no.0 == number {
+            return Some(*info);
+        }
+    }
+    None
+}
+
+/// The page, with nothing made smaller.
 pub(crate) fn whole(tree: &Tree) -> Place<'_> {
     Place {
         tree,
-        without: Part::Nothing,
+        less: Less::Nothing,
     }
 }

@@ -1,5 +1,6 @@
-//! Tests of locality: over pairs of a page and one edit of it, whatever a rule on names looks at is listed by a plain
-//! program, and where its values are the same the rule says the same. There is no call of its own.
+//! Tests of locality over all rules: over pairs of a page and one edit of it, whatever a rule looks at by its two classes is
+//! listed by a plain program, and where its values are the same the rule says the same; where a class is made smaller, it
+//! doesn't. There is no call of its own.
 #![tactic(auto)]
 
 #[cfg(test)]
@@ -8,6 +9,8 @@ mod edited;
 mod judged;
 #[cfg(test)]
 mod limits;
+#[cfg(test)]
+mod parts;
 #[cfg(test)]
 mod reach;
 #[cfg(test)]

@@ -1,6 +1,6 @@
 //! Pages of the edits' tests that are at a limit, each with what single edits that are accepted make of it.
 
-use crate::edited::pages_keep;
+use crate::judged::pages_keep;
 use fixture_pages::page_in;
 use std::alloc::{AllocError, Global};
 use std::test::Fail;

@@ -5,50 +5,65 @@ use rule_core::Class;
 use snap_tree::{MOST_DEPTH, NodeId, Row, Tree, next_word};
 use std::alloc::AllocError;
 
-/// A part of what is looked at, which a smaller reach leaves out.
+/// What a smaller reach is, in the place of that by the classes of a rule.
 #[derive(Clone, Copy, Debug, PartialEq, Eq)]
-pub(crate) enum Part {
-    /// Nothing: the reach is whole.
+pub(crate) enum Less {
+    /// No smaller.
     Nothing,
-    /// The frames of the nodes above.
+    /// The applicability has this class.
+    Applies(Class),
+    /// The expectations have this class.
+    Expects(Class),
+    /// The frame of the node itself is left out.
+    Frame,
+    /// What the node has of its own is left out.
+    Own,
+    /// The frames of the nodes above are left out.
     FramesAbove,
-    /// Which the children of a node are.
+    /// Which the children of a node are is left out.
     Kids,
-    /// The id that finds nothing.
+    /// An id that finds nothing is left out.
     LostIds,
-    /// The labels that are found by their `for`.
+    /// The labels that are found by their `for` are left out.
     LabelsFound,
-    /// All but the node by itself: the class Self in the place of Sub.
-    Inside,
 }
 
-/// A page, with the part that is left out.
+/// A page, with what is smaller.
 #[derive(Clone, Copy)]
 pub(crate) struct Place<'a> {
     pub(crate) tree: &'a Tree,
-    pub(crate) without: Part,
+    pub(crate) less: Less,
 }
 
-fn add_self(keys: &mut Vec<Key<'_>>, place: Place<'_>, n: NodeId) -> Result<(), AllocError> {
-    keys.push(Key::Frame(n))?;
-    keys.push(Key::Own(n))?;
+fn add_above(keys: &mut Vec<Key<'_>>, place: Place<'_>, n: NodeId) -> Result<(), AllocError> {
+    if place.less == Less::FramesAbove {
+        return Ok(());
+    }
     let mut above = place.tree.parent(n);
     for _ in 0..MOST_DEPTH {
         let Some(parent) = above else {
             return Ok(());
         };
-        if place.without != Part::FramesAbove {
-            keys.push(Key::Frame(parent))?;
-        }
+        keys.push(Key::Frame(parent))?;
         above = place.tree.parent(parent);
     }
     Ok(())
 }
 
+fn add_self(keys: &mut Vec<Key<'_>>, place: Place<'_>, n: NodeId) -> Result<(), AllocError> {
+    if place.less != Less::Frame {
+        keys.push(Key::Frame(n))?;
+    }
+    if place.less != Less::Own {
+        keys.push(Key::Own(n))?;
+    }
+    add_above(keys, place, n)
+}
+
 fn add_node(keys: &mut Vec<Key<'_>>, place: Place<'_>, n: NodeId) -> Result<(), AllocError> {
     keys.push(Key::Frame(n))?;
     keys.push(Key::Own(n))?;
-    if place.without != Part::Kids {
+    if place.less != Less::Kids {
         keys.push(Key::Kids(n))?;
     }
     Ok(())
@@ -61,14 +76,18 @@ fn rows_below<'a>(tree: &'a Tree, n: NodeId) -> &'a [Row] {
     }
 }
 
-// The node by itself, and its subtree.
-fn add_found(keys: &mut Vec<Key<'_>>, place: Place<'_>, n: NodeId) -> Result<(), AllocError> {
-    add_self(keys, place, n)?;
+fn add_tree(keys: &mut Vec<Key<'_>>, place: Place<'_>, n: NodeId) -> Result<(), AllocError> {
     add_node(keys, place, n)?;
     for row in rows_below(place.tree, n) {
         add_node(keys, place, row.id)?;
     }
     Ok(())
+}
+
+// The node by itself, and its subtree.
+fn add_found(keys: &mut Vec<Key<'_>>, place: Place<'_>, n: NodeId) -> Result<(), AllocError> {
+    add_above(keys, place, n)?;
+    add_tree(keys, place, n)
 }
 
 fn add_word<'a>(
@@ -77,7 +96,7 @@ fn add_word<'a>(
     word: &'a str,
 ) -> Result<(), AllocError> {
     let found = place.tree.by_id(word);
-    if found.is_some() | (place.without != Part::LostIds) {
+    if found.is_some() | (place.less != Less::LostIds) {
         keys.push(Key::Id(word))?;
     }
     match found {
@@ -107,34 +126,45 @@ fn add_labels<'a>(
 ) -> Result<(), AllocError> {
     keys.push(Key::Id(id))?;
     keys.push(Key::LabelFor(id))?;
+    if place.less == Less::LabelsFound {
+        return Ok(());
+    }
     for row in place.tree.rows() {
-        if is_label_for(row, id) && place.without != Part::LabelsFound {
+        if is_label_for(row, id) {
             add_found(keys, place, row.id)?;
         }
     }
     Ok(())
 }
 
-fn is_label(tree: &Tree, n: NodeId) -> bool {
+fn is_html(tree: &Tree, n: NodeId, tag: &str) -> bool {
     match tree.node(n) {
-        Some(row) => row.is_html("label"),
+        Some(row) => row.is_html(tag),
         None => false,
     }
 }
 
-// The nearest label around a node.
-fn add_around(keys: &mut Vec<Key<'_>>, place: Place<'_>, n: NodeId) -> Result<(), AllocError> {
-    let mut above = place.tree.parent(n);
+// The nearest node above that has this tag.
+fn nearest(tree: &Tree, n: NodeId, tag: &str) -> Option<NodeId> {
+    let mut above = tree.parent(n);
     for _ in 0..MOST_DEPTH {
         let Some(parent) = above else {
-            return Ok(());
+            return None;
         };
-        if is_label(place.tree, parent) {
-            return add_found(keys, place, parent);
+        if is_html(tree, parent, tag) {
+            return Some(parent);
         }
-        above = place.tree.parent(parent);
+        above = tree.parent(parent);
     }
-    Ok(())
+    None
+}
+
+// The nearest label around a node.
+fn add_around(keys: &mut Vec<Key<'_>>, place: Place<'_>, n: NodeId) -> Result<(), AllocError> {
+    match nearest(place.tree, n, "label") {
+        Some(label) => add_found(keys, place, label),
+        None => Ok(()),
+    }
 }
 
 static REFERENCES: [AriaAttr; 5] = [
@@ -174,16 +204,70 @@ fn add_sub<'a>(keys: &mut Vec<Key<'a>>, place: Place<'a>, n: NodeId) -> Result<(
     Ok(())
 }
 
-/// Adds what a class looks at, of the two that rules on names have.
+fn add_table(keys: &mut Vec<Key<'_>>, place: Place<'_>, n: NodeId) -> Result<(), AllocError> {
+    match nearest(place.tree, n, "table") {
+        Some(table) => add_tree(keys, place, table),
+        None => Ok(()),
+    }
+}
+
+fn is_root(tree: &Tree, n: NodeId) -> bool {
+    match tree.node(n) {
+        Some(row) => row.parent.is_none(),
+        None => false,
+    }
+}
+
+fn add_titles(keys: &mut Vec<Key<'_>>, place: Place<'_>, n: NodeId) -> Result<(), AllocError> {
+    if !is_root(place.tree, n) {
+        return Ok(());
+    }
+    keys.push(Key::Tagged("title"))?;
+    for row in place.tree.rows() {
+        if row.is_html("title") {
+            add_tree(keys, place, row.id)?;
+        }
+    }
+    Ok(())
+}
+
+fn add_metas(keys: &mut Vec<Key<'_>>, tree: &Tree, n: NodeId) -> Result<(), AllocError> {
+    if !is_html(tree, n, "meta") {
+        return Ok(());
+    }
+    keys.push(Key::Tagged("meta"))?;
+    for row in tree.rows() {
+        if row.is_html("meta") {
+            keys.push(Key::Own(row.id))?;
+        }
+    }
+    Ok(())
+}
+
+fn add_whole(keys: &mut Vec<Key<'_>>, place: Place<'_>, n: NodeId) -> Result<(), AllocError> {
+    if !is_root(place.tree, n) {
+        return Ok(());
+    }
+    for row in place.tree.rows() {
+        add_node(keys, place, row.id)?;
+    }
+    Ok(())
+}
+
+/// Adds what a class looks at.
 pub(crate) fn add_class<'a>(
     keys: &mut Vec<Key<'a>>,
     place: Place<'a>,
     class: Class,
     n: NodeId,
 ) -> Result<(), AllocError> {
-    if class == Class::Sub && place.without != Part::Inside {
-        add_sub(keys, place, n)
-    } else {
-        add_self(keys, place, n)
+    add_self(keys, place, n)?;
+    match class {
+        Class::SelfOnly => Ok(()),
+        Class::Sub => add_sub(keys, place, n),
+        Class::Table => add_table(keys, place, n),
+        Class::Title => add_titles(keys, place, n),
+        Class::Metas => add_metas(keys, place.tree, n),
+        Class::Whole => add_whole(keys, place, n),
     }
 }

@@ -11,6 +11,7 @@ pub(crate) enum Key<'a> {
     Kids(NodeId),
     Id(&'a str),
     LabelFor(&'a str),
+    Tagged(&'a str),
 }
 
 static LOOKED_AT: [&str; 24] = [
@@ -163,6 +164,15 @@ fn add_labels(alloc: Global, text: &mut String, tree: &Tree, id: &str) -> Result
     Ok(())
 }
 
+fn add_tagged(alloc: Global, text: &mut String, tree: &Tree, tag: &str) -> Result<(), AllocError> {
+    for row in tree.rows() {
+        if row.is_html(tag) {
+            add_number(alloc, text, row.id)?;
+        }
+    }
+    Ok(())
+}
+
 fn add_node(
     alloc: Global,
     text: &mut String,
@@ -193,6 +203,7 @@ pub(crate) fn value(alloc: Global, tree: &Tree, key: Key) -> Result<String, Allo
             }
         }
         Key::LabelFor(id) => add_labels(alloc, &mut text, tree, id)?,
+        Key::Tagged(tag) => add_tagged(alloc, &mut text, tree, tag)?,
     }
     Ok(text)
 }

@@ -68,9 +68,9 @@ static ROLES: [Option<MemberRole>; 6] = [
 
 // A page of which two rules leave something open.
 const OPEN: Nodes = &[
-    Html(0, "div", &[("c", "y")]),
-    Html(1, "div", &[("a", "x"), ("b", "failed")]),
-    Html(2, "div", &[("a", "y")]),
+    Html(0, "div", &[("lang", "y")]),
+    Html(1, "div", &[("alt", "x"), ("title", "failed")]),
+    Html(2, "div", &[("alt", "y")]),
 ];
 
 static SENT: [Nodes; 4] = [PAGE, OPEN, ASTRAY, OPEN];

@@ -4,7 +4,7 @@ use Rattle.std.specs.List.{filter_map}
 use Rattle.std.specs.Option.{option_to_list}
 use Rattle.judge_core.proofs.Lists.{filter_map_more}
 use Rattle.judge_core.specs.Outcomes.{atomic_row}
-use Rattle.locality.specs.Reach.{is_affected}
+use Rattle.rule_core.specs.Reach.{is_affected}
 use Rattle.engine.specs.declared.known.Placed.{Placed}
 use Rattle.engine.proofs.Counts.{length-filter-take, count_more}
 use Rattle.engine.proofs.Placing.{placed_at, affected_in, rows_are}

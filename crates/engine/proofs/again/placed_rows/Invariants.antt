@@ -5,8 +5,8 @@ use Rattle.snap_tree.specs.Trees.{Document}
 use Rattle.judge_core.specs.declared.judgement.Judgement.{Judgement}
 use Rattle.judge_core.specs.Outcomes.{atomic_row}
 use Rattle.judged_rows.specs.ByNode.{IsByNode}
-use Rattle.locality.specs.Reach.{is_affected}
-use Rattle.locality.specs.Local.{AreVersions}
+use Rattle.rule_core.specs.Reach.{is_affected}
+use Rattle.rule_core.specs.Local.{AreVersions}
 use Rattle.engine.specs.Known.{ArePlaced}
 use Rattle.engine.specs.Before.{WereRows}
 use Rattle.engine.proofs.again.placed_rows.Given as goal

@@ -1,3 +1,0 @@
-pub mod Attributes
-pub mod References
-pub mod Rules

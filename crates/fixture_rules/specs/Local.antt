@@ -1,0 +1,21 @@
+-- The book of marks is local: each of its rules looks at the node itself.
+use Rattle.std.proofs.Common.{refl}
+use Rattle.acc_tree.specs.declared.attributes.Attribute.{Attribute}
+use Rattle.acc_tree.specs.declared.attributes.Attribute.TheVariants as attribute
+use Rattle.rule_core.specs.declared.info.RuleInfo.{RuleInfo}
+use Rattle.rule_core.specs.Books.{book_of}
+use Rattle.rule_core.specs.Local.{IsLocal, IsLocalBook}
+use Rattle.law_forms.proofs.Resting.{kept_alone, by_applicability}
+use Rattle.law_forms.proofs.Tables.{table_local}
+use Rattle.fixture_rules.specs.Marks.{mark_verdict, marked, marks}
+
+mark_local : (info : RuleInfo) (name : Attribute) → IsLocal info (marked name)
+mark_local info name = by_applicability info (marked name) (kept_alone info.applies (mark_verdict name))
+
+-- of a composite rule the book itself says nothing
+pub marks_local : IsLocalBook (book_of marks)
+marks_local =
+    table_local marks refl (
+      λ is old new n versions k. refl,
+      (λ is. mark_local _ attribute.Alt, (λ is. mark_local _ attribute.Title, (λ is. mark_local _ attribute.Lang, (λ is old new n versions k. refl, tt)))),
+    )

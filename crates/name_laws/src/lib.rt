@@ -1,7 +1,0 @@
-//! The law of locality of the nine rules on names: each says the same of a node on two versions of a page that agree
-//! on what its classes look at. Start with [`laws_of_rules`].
-#![tactic(auto)]
-
-mod laws;
-
-pub use laws::laws_of_rules;

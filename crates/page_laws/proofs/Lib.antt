@@ -1,4 +1,0 @@
-pub mod Titles
-pub mod Metas
-pub mod Rules
-pub mod Bypassing

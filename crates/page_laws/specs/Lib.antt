@@ -1,2 +1,0 @@
-pub mod Titles
-pub mod Metas
