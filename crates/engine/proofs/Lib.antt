@@ -2,3 +2,4 @@ pub mod Counts
 pub mod Placing
 pub mod Earlier
 pub mod Kept
+pub mod Sums

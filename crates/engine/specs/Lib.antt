@@ -1,2 +1,3 @@
 pub mod Known
 pub mod Before
+pub mod Costs

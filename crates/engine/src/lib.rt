@@ -1,10 +1,12 @@
-//! How an atomic rule has its rows on a page again after an edit: what the edit doesn't reach stays as it was found,
-//! and the rest is judged. Start with [`atomic_again`].
+//! The audit of a page after an edit: what the edit doesn't reach stays as it was found, and the rest is judged. Start
+//! with [`reaudit`].
 #![tactic(auto)]
 
 mod again;
 mod before;
+mod edited;
 mod known;
 
 pub use again::atomic_again;
+pub use edited::reaudit;
 pub use known::{Known, Placed, known_nodes};

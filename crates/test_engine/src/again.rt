@@ -1,0 +1,56 @@
+ghost use Rattle.std.specs.Prelude.{◌≡◌, IfOk};
+
+use engine::reaudit;
+use fixture_pages::page_in;
+use judge_core::{Judgement, OutRow};
+use reaudit::audit_page;
+use rule_book::Thirty;
+use rule_core::{Auto, RuleBook};
+use snap_tree::{Text, Tree};
+use std::alloc::Global;
+use std::test::Fail;
+
+/// The pages of two texts.
+pub(crate) fn versions(alloc: Global, before: &str, after: &str) -> Result<(Tree, Tree), Fail>
+    ensures { IfOk result (λ pages. pages.0.address ≡ pages.1.address) }
+{
+    let old = page_in(alloc, before)?;
+    let new = page_in(alloc, after)?;
+    Ok((old, new))
+}
+
+fn judgement(alloc: Global, row: &OutRow) -> Result<Judgement, Fail> {
+    Ok(Judgement {
+        rule: row.rule,
+        node: row.node,
+        verdict: Auto::Passed,
+        hand: Text::from_str(alloc, "eve")?,
+        note: Text::new(alloc),
+        evidence: row.evidence.copy(alloc)?,
+    })
+}
+
+// A judgement of each outcome that is open.
+fn judged(alloc: Global, rows: &[OutRow]) -> Result<Vec<Judgement>, Fail> {
+    let mut js = Vec::new(alloc);
+    for row in rows {
+        if row.auto == Auto::CantTell {
+            js.push(judgement(alloc, row)?)?;
+        }
+    }
+    Ok(js)
+}
+
+/// What the audit after an edit costs, and whether its outcomes are those of a full audit. What was open on the old page
+/// is judged by then.
+pub(crate) fn audited_again(alloc: Global, old: &Tree, new: &Tree) -> Result<(u64, bool), Fail>
+    requires { old.now.address ≡ new.now.address }
+{
+    let mut full = Thirty::new();
+    let before = audit_page(alloc, &mut full, old, &[])?;
+    let js = judged(alloc, before.rows.as_slice())?;
+    let anew = audit_page(alloc, &mut full, new, js.as_slice())?;
+    let mut book = Thirty::new();
+    let again = reaudit(alloc, &mut book, old, new, &before, js.as_slice())?;
+    Ok((book.calls(), again == anew))
+}
