@@ -39,34 +39,34 @@ edited_fits page hand rev tree kept p named within address fits is =
     let web = subst IsWebAddress address fits.address in
     subst FitsPage (sym is) (record { head = record { page = named; rev = within }; address = web })
 
-pub edits_by : (book : Book) (site : List ℕ) (put : PagePut) (result : Result Decided Refusal) → IsTrue (is_name site) → FitsPage put.page
-    → Agrees ⊥ result (storing book site put.page.head.rev put) → Edits site result
-edits_by book site put (Ok d) named fits agrees =
-    let P : Decision → Type 0 = Edits site in
-    subst P agrees ((one_fits site put.page.head.rev put named fits.head.rev fits, refl), tt)
-edits_by book site put (Err r) named fits stands =
+pub edits_by : (book : Book) (site page : List ℕ) (put : PagePut) (result : Result Decided Refusal) → IsTrue (is_name site) → FitsPage put.page → put.page.head.page ≡ page
+    → Agrees ⊥ result (storing book site put.page.head.rev put) → Edits site page result
+edits_by book site page put (Ok d) named fits is agrees =
+    let P : Decision → Type 0 = Edits site page in
+    subst P agrees ((one_fits site put.page.head.rev put named fits.head.rev fits, refl), is)
+edits_by book site page put (Err r) named fits is stands =
     let P : Refusal → Type 0 = λ r. Stands ⊥ r (storing book site put.page.head.rev put) in
-    λ is. subst P is stands
+    λ fault. subst P fault stands
 
 -- a refusal that stands where no keeper is asked
-pub edits_refused : (site : List ℕ) (r : Refusal) (decision : Decision) → Stands ⊥ r decision → Edits site (Err r)
-edits_refused site r decision stands =
+pub edits_refused : (site page : List ℕ) (r : Refusal) (decision : Decision) → Stands ⊥ r decision → Edits site page (Err r)
+edits_refused site page r decision stands =
     let P : Refusal → Type 0 = λ r. Stands ⊥ r decision in
     λ is. subst P is stands
 
 -- ---- an edit that is answered
 
-no_fault_of : (site : List ℕ) (result : Result Decided Refusal) → Edits site result → IsErrOf result refusal.KeeperFault → ⊥
-no_fault_of site (Ok d) e is = cc
-no_fault_of site (Err r) e is = e (let same : r ≡ refusal.KeeperFault = cc in same)
+no_fault_of : (site page : List ℕ) (result : Result Decided Refusal) → Edits site page result → IsErrOf result refusal.KeeperFault → ⊥
+no_fault_of site page (Ok d) e is = cc
+no_fault_of site page (Err r) e is = e (let same : r ≡ refusal.KeeperFault = cc in same)
 
 change_fits : (site : List ℕ) (change : Option Change) → IfSome change (λ c. Fits c × PutsInto site c) → IfSome change Fits
 change_fits site None is = tt
 change_fits site (Some c) is = is.0
 
-all_fit : (site : List ℕ) (result : Result Decided Refusal) → Edits site result → IfOk result (λ d. IfSome d.change Fits)
-all_fit site (Ok d) e = change_fits site d.change e.0
-all_fit site (Err r) e = tt
+all_fit : (site page : List ℕ) (result : Result Decided Refusal) → Edits site page result → IfOk result (λ d. IfSome d.change Fits)
+all_fit site page (Ok d) e = change_fits site d.change e.0
+all_fit site page (Err r) e = tt
 
 there_of : (site : List ℕ) (t : Tables) → IsSome (kept_site site t) → (change : Option Change) → IfSome change (λ c. Fits c × PutsInto site c) → IfSome change (λ c. IfSome (Some t) (IsThere c))
 there_of site t kept None is = tt
@@ -79,58 +79,45 @@ there_in : (o : Option KeptSite) (s : Site) → option_map (λ (k : KeptSite). k
 there_in None s is = cc
 there_in (Some k) s is = refl
 
-all_there : (site : List ℕ) (new : Option Tables) → ((t : Tables) → new ≡ Some t → IsSome (kept_site site t)) → (result : Result Decided Refusal) → Edits site result
+all_there : (site page : List ℕ) (new : Option Tables) → ((t : Tables) → new ≡ Some t → IsSome (kept_site site t)) → (result : Result Decided Refusal) → Edits site page result
     → IfOk result (λ d. IfSome d.change (λ change. IfSome new (IsThere change)))
-all_there site None kept (Ok d) e = untold d.change
-all_there site None kept (Err r) e = tt
-all_there site (Some t) kept (Ok d) e = there_of site t (kept t refl) d.change e.0
-all_there site (Some t) kept (Err r) e = tt
+all_there site page None kept (Ok d) e = untold d.change
+all_there site page None kept (Err r) e = tt
+all_there site page (Some t) kept (Ok d) e = there_of site t (kept t refl) d.change e.0
+all_there site page (Some t) kept (Err r) e = tt
 
-stored_accepted : (r : Reply) → IsStored r → IsAccepted r
-stored_accepted (reply.Stored s) is = tt
-stored_accepted (reply.Site site) is = absurd is
-stored_accepted (reply.Member user held) is = absurd is
-stored_accepted (reply.Page p) is = absurd is
-stored_accepted (reply.Dropped page) is = absurd is
-stored_accepted (reply.Imported pages) is = absurd is
-stored_accepted (reply.Judged rule node outcome) is = absurd is
-stored_accepted (reply.Outcomes p) is = absurd is
-stored_accepted (reply.Report p) is = absurd is
-stored_accepted (reply.Earl p) is = absurd is
-stored_accepted (reply.Names t) is = absurd is
-stored_accepted (reply.SiteReport s) is = absurd is
-stored_accepted (reply.SiteEarl s) is = absurd is
-stored_accepted (reply.SiteCsv s) is = absurd is
-stored_accepted (reply.Refused r) is = absurd is
+stored_accepted : (page : List ℕ) (r : Reply) → IsStored page r → IsAccepted r
+stored_accepted name (reply.Stored s) is = tt
+stored_accepted name other is = absurd is
 
-all_accepted : (site : List ℕ) (result : Result Decided Refusal) → Edits site result → Accepts result
-all_accepted site (Ok d) e = stored_accepted d.reply e.1
-all_accepted site (Err r) e = tt
+all_accepted : (site page : List ℕ) (result : Result Decided Refusal) → Edits site page result → Accepts result
+all_accepted site page (Ok d) e = stored_accepted page d.reply e.1
+all_accepted site page (Err r) e = tt
 
 module _ (book : Book) (site caller page : List ℕ) (rev : ℕ) (edits : List Edit) where
   abbrev editing : Request
   editing = record { caller = caller; command = command.EditPage site page rev edits }
 
   -- an edit rests on what is kept, whatever that is
-  all_firm : (new : Option Tables) (result : Result Decided Refusal) → Edits site result → IfOk result (IsFirm book editing new)
-  all_firm new (Ok d) e = inr (inl (inr (tt, e.1)))
+  all_firm : (new : Option Tables) (result : Result Decided Refusal) → Edits site page result → IfOk result (IsFirm book editing new)
+  all_firm new (Ok d) e = inr (inl (inr e.1))
   all_firm new (Err r) e = tt
 
   pub decides_edit : (old new : Option Tables) (before now : ℕ) (s : Site) (kept : KeptPage) (result : Result Decided Refusal)
       → FindsWhole needed.Editor caller site page old new before now (Ok (s, kept))
-      → (IsTrueTo book kept → Agrees ⊥ result (edit_page book site caller page rev edits s (page_state kept))) → Edits site result
+      → (IsTrueTo book kept → Agrees ⊥ result (edit_page book site caller page rev edits s (page_state kept))) → Edits site page result
       → Decides book editing old new before now result
   decides_edit old new before now s kept result finds agrees e = record {
-    reads = only_read old new before now (let r : Result (Site × KeptPage) Refusal = Ok (s, kept) in r) result (λ is. absurd (no_fault_of site result e is)) finds.reads;
+    reads = only_read old new before now (let r : Result (Site × KeptPage) Refusal = Ok (s, kept) in r) result (λ is. absurd (no_fault_of site page result e is)) finds.reads;
     agrees =
         λ t told sound.
         let f = finds.found t told in
         agrees_with result (edit_page book site caller page rev edits s (page_state kept)) _
         (found_next book editing needed.Editor site page (λ s p. edit_page book site caller page rev edits s p) (λ t. refl) t s (page_state kept) f.0 f.1)
         (agrees (found_is_true book t sound site page kept f.1 f.2));
-    fits = all_fit site result e;
-    there = all_there site new (λ t told. there_in (kept_site site t) s (finds.found t told).0.kept) result e;
-    accepted = all_accepted site result e;
+    fits = all_fit site page result e;
+    there = all_there site page new (λ t told. there_in (kept_site site t) s (finds.found t told).0.kept) result e;
+    accepted = all_accepted site page result e;
     firm = all_firm new result e;
   }
 

@@ -33,7 +33,8 @@ use Rattle.desk_core.specs.Reading.{answered, site_page}
 use Rattle.desk_core.specs.Soundness as soundness
 use Rattle.desk_core.specs.Soundness.{IsSound}
 use Rattle.desk_core.specs.Runs.{Fails, Answers}
-use Rattle.desk_core.specs.Costs.{IsEdit}
+use Rattle.desk_core.specs.declared.command.Command.{Command}
+use Rattle.desk_core.specs.declared.command.Command.TheVariants.{EditPage}
 
 -- a refusal is what is decided, unless there was no memory, or the keeper met a fault where one may be met
 abbrev pub Stands : Type 0 → Refusal → Decision → Type 0
@@ -62,14 +63,19 @@ IsJudged other = ⊥
 abbrev pub Judges : Result Decided Refusal → Type 0
 Judges result = IfOk result (λ d. IsJudged d.reply)
 
--- the reply to a page that was put or edited
-abbrev pub IsStored : Reply → Type 0
-IsStored (Stored stored) = Unit {0}
-IsStored other = ⊥
+-- the reply to a page of this name that was put or edited
+abbrev pub IsStored : List ℕ → Reply → Type 0
+IsStored page (Stored stored) = stored.page ≡ page
+IsStored page other = ⊥
+
+-- the reply to an edit that was carried out
+abbrev pub IsEdited : Command → Reply → Type 0
+IsEdited (EditPage site page rev edits) reply = IsStored page reply
+IsEdited other reply = ⊥
 
 -- the reply to a judgement or to an edit, which are decided by the outcomes that are kept
 abbrev pub RestsOnKept : Request → Reply → Type 0
-RestsOnKept request reply = IsJudged reply ⊎ (IsEdit request.command × IsStored reply)
+RestsOnKept request reply = IsJudged reply ⊎ IsEdited request.command reply
 
 -- a change puts pages into this site
 abbrev pub PutsInto : List ℕ → Change → Type 0
@@ -77,9 +83,9 @@ PutsInto site (PutPages s counter pages) = s ≡ site
 PutsInto site other = ⊥
 
 -- an edit of a page of this site is answered, whatever outcomes are kept: by no fault of the keeper's, and with a change that fits
-abbrev pub Edits : List ℕ → Result Decided Refusal → Type 0
-Edits site (Ok d) = IfSome d.change (λ change. Fits change × PutsInto site change) × IsStored d.reply
-Edits site (Err refusal) = refusal ≡ KeeperFault → ⊥
+abbrev pub Edits : List ℕ → List ℕ → Result Decided Refusal → Type 0
+Edits site page (Ok d) = IfSome d.change (λ change. Fits change × PutsInto site change) × IsStored page d.reply
+Edits site page (Err refusal) = refusal ≡ KeeperFault → ⊥
 
 -- What is decided of tables, sound or not: no change, or a judgement or an edit, or what the definition decides of them.
 abbrev pub IsFirm : Book → Request → Option Tables → Decided → Type 0

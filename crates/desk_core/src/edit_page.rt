@@ -56,7 +56,7 @@ fn edit_there<B: RuleBook>(
     requires fits { FitsPage kept.now.page }
     ensures decided { IsTrueTo B.book kept.now → Agrees ⊥ result (edit_page B.book sent.site caller.now
         sent.page sent.rev edits.now site.now (page_state kept.now)) }
-    ensures edits { Edits sent.site result }
+    ensures edits { Edits sent.site sent.page result }
     ensures counted { IsTrueTo B.book kept.now → sum_by B.calls books.new ≤ sum_by B.calls books.old
         + edit_pairs B.book edits.now (page_state kept.now) }
     ensures most { sum_by B.calls books.new ≤ sum_by B.calls books.old
@@ -85,7 +85,7 @@ fn decide<B: RuleBook>(
     requires fits { FitsPage kept.now.page }
     ensures decided { IsTrueTo B.book kept.now → Agrees ⊥ result (edit_page B.book sent.site caller.now
         sent.page sent.rev edits.now site.now (page_state kept.now)) }
-    ensures edits { Edits sent.site result }
+    ensures edits { Edits sent.site sent.page result }
     ensures counted { IsTrueTo B.book kept.now → sum_by B.calls books.new ≤ sum_by B.calls books.old
         + edit_pairs B.book edits.now (page_state kept.now) }
     ensures most { sum_by B.calls books.new ≤ sum_by B.calls books.old

@@ -79,7 +79,7 @@ pub fn edited<B: RuleBook>(
     requires fits { FitsPage kept.now.page }
     ensures decided { IsTrueTo B.book kept.now → Agrees ⊥ result
         (renewed B.book sent.site caller.now sent.page counter kept.now.judgements tree) }
-    ensures edits { Edits sent.site result }
+    ensures edits { Edits sent.site sent.page result }
     ensures counted { IsTrueTo B.book kept.now → sum_by B.calls books.new
         ≤ sum_by B.calls books.old + length (affected B.book kept.now.page.tree tree) }
     ensures most { sum_by B.calls books.new ≤ sum_by B.calls books.old + judgings B.book tree }

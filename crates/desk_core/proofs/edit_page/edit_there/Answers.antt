@@ -43,4 +43,4 @@ pub returns-in-Err-clause-edits : goal.returns-in-Err-clause-edits
 returns-in-Err-clause-edits g c =
     let book : Book = g.B.RuleBook.book in
     let sent = c.args.sent in
-    edits_refused sent.site c.in-Err.refusal _ (c.in-Err.ensures.refused (renewed book sent.site c.args.caller.now sent.page c.args.site.now.counter c.args.kept.now.judgements))
+    edits_refused sent.site sent.page c.in-Err.refusal _ (c.in-Err.ensures.refused (renewed book sent.site c.args.caller.now sent.page c.args.site.now.counter c.args.kept.now.judgements))
