@@ -92,7 +92,7 @@ PutFits p = FitsPage p.page
 abbrev pub Apart : PagePut → PagePut → Type 0
 Apart p q = p.page.head.page ≡ q.page.head.page → ⊥
 
-one_fits : (site : List ℕ) (counter : ℕ) (put : PagePut) → IsTrue (is_name site) → counter ≤ MOST_REVISION → PutFits put → FitsPages site counter (put ∷ [])
+pub one_fits : (site : List ℕ) (counter : ℕ) (put : PagePut) → IsTrue (is_name site) → counter ≤ MOST_REVISION → PutFits put → FitsPages site counter (put ∷ [])
 one_fits site counter put named within fits = record {
   name = named;
   within = within;

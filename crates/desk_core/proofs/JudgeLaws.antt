@@ -69,7 +69,7 @@ err_no_fault (Err s) r decision same stands is =
 
 -- a judgement is one, whatever is kept
 judged_firm : (book : Book) (request : Request) (new : Option Tables) (result : Result Decided Refusal) → Judges result → IfOk result (IsFirm book request new)
-judged_firm book request new (Ok d) judges = inr (inl judges)
+judged_firm book request new (Ok d) judges = inr (inl (inl judges))
 judged_firm book request new (Err r) judges = tt
 
 module _ (book : Book) (site caller page : List ℕ) (rule : RuleNo) (node : NodeId) (verdict : Auto) (seen note : List ℕ) where

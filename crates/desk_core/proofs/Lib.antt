@@ -3,6 +3,7 @@ pub mod Deciding
 pub mod Fitted
 pub mod Ways
 pub mod Kept
+pub mod KeptEdits
 pub mod Onward
 pub mod ImportLaws
 pub mod BuiltParts

@@ -17,7 +17,7 @@ use Rattle.desk_core.specs.Steps.{Request, site_of, decided, stepped}
 use Rattle.desk_core.specs.Fitting.{FitsRequest}
 use Rattle.desk_core.specs.Soundness.{IsSound, made}
 use Rattle.desk_core.specs.Runs.{Fails, Answers}
-use Rattle.desk_core.specs.Serving.{Stands, IsAccepted, IsJudged, IsFirm, IsDone, Decides, Commits, TurnsBy, OthersStay, Serves}
+use Rattle.desk_core.specs.Serving.{Stands, IsAccepted, RestsOnKept, IsFirm, IsDone, Decides, Commits, TurnsBy, OthersStay, Serves}
 use Rattle.desk_core.proofs.Views.{changes_seen}
 use Rattle.desk_core.proofs.Keeping.{keeps_sound}
 use Rattle.desk_core.proofs.Deciding.{brought}
@@ -145,7 +145,7 @@ module _ (book : Book) (request : Request) where
 
   -- whether the tables are sound or not
   changed_by : (old mid new : Option Tables) (at now : ℕ) (d : Decided) (reply : Reply) → Stays old mid → IsFirm book request mid d → Ends d mid new at now reply
-      → (s t : Tables) → old ≡ Some s → new ≡ Some t → (t ≡ s) ⊎ (IsJudged reply ⊎ IsDone book request reply s t)
+      → (s t : Tables) → old ≡ Some s → new ≡ Some t → (t ≡ s) ⊎ (RestsOnKept request reply ⊎ IsDone book request reply s t)
   changed_by old mid new at now d reply stays firm (inr is) s t was told = inl (sym (same_tables s t old was (stays t (is.1 t told))))
   changed_by old mid new at now d reply stays firm (inl is) s t was told = of firm
     where
@@ -155,9 +155,9 @@ module _ (book : Book) (request : Request) where
       same : s ≡ from.0
       same = same_tables s from.0 old was (stays from.0 from.1)
 
-      of : IsFirm book request mid d → (t ≡ s) ⊎ (IsJudged reply ⊎ IsDone book request reply s t)
+      of : IsFirm book request mid d → (t ≡ s) ⊎ (RestsOnKept request reply ⊎ IsDone book request reply s t)
       of (inl none) = inl (from.2 ∙ (ap (λ (c : Option Change). made c from.0) none ∙ sym same))
-      of (inr (inl judged)) = inr (inl (subst IsJudged (sym is.0) judged))
+      of (inr (inl rests)) = inr (inl (subst (RestsOnKept request) (sym is.0) rests))
       of (inr (inr decides)) =
           inr
           (inr

@@ -14,6 +14,7 @@ use Rattle.keep_core.specs.Tables.{Tables, kept_site, site_of, kept_page, pages_
 use Rattle.keep_core.specs.Fits.{Fits, FitsSite, FitsPage, IsThere}
 use Rattle.keep_core.specs.Keeping.{Stays, Turns}
 use Rattle.keep_core.specs.declared.change.Change.{Change}
+use Rattle.keep_core.specs.declared.change.Change.TheVariants.{PutPages}
 use Rattle.desk_core.specs.declared.decided.Decided.{Decided}
 use Rattle.desk_core.specs.declared.refusal.Needed.{Needed}
 use Rattle.desk_core.specs.declared.refusal.Needed.TheVariants.{Editor}
@@ -21,7 +22,7 @@ use Rattle.desk_core.specs.declared.look.Survey.{Survey}
 use Rattle.desk_core.specs.declared.refusal.Refusal.{Refusal}
 use Rattle.desk_core.specs.declared.refusal.Refusal.TheVariants.{NotAllowed, KeeperFault, OutOfMemory}
 use Rattle.desk_core.specs.declared.reply.Reply.{Reply}
-use Rattle.desk_core.specs.declared.reply.Reply.TheVariants.{Judged, Refused}
+use Rattle.desk_core.specs.declared.reply.Reply.TheVariants.{Judged, Stored, Refused}
 use Rattle.desk_core.specs.Refusals.{Decision}
 use Rattle.desk_core.specs.State.{PageState, SiteState, page_state, state_of, site_at}
 use Rattle.desk_core.specs.Rights.{may, role_of, entering, on_page}
@@ -32,6 +33,8 @@ use Rattle.desk_core.specs.Reading.{answered, site_page}
 use Rattle.desk_core.specs.Soundness as soundness
 use Rattle.desk_core.specs.Soundness.{IsSound}
 use Rattle.desk_core.specs.Runs.{Fails, Answers}
+use Rattle.desk_core.specs.declared.command.Command.{Command}
+use Rattle.desk_core.specs.declared.command.Command.TheVariants.{EditPage}
 
 -- a refusal is what is decided, unless there was no memory, or the keeper met a fault where one may be met
 abbrev pub Stands : Type 0 → Refusal → Decision → Type 0
@@ -60,10 +63,34 @@ IsJudged other = ⊥
 abbrev pub Judges : Result Decided Refusal → Type 0
 Judges result = IfOk result (λ d. IsJudged d.reply)
 
--- What is decided of tables, sound or not: no change, or a judgement, or what the definition decides of them.
+-- the reply to a page of this name that was put or edited
+abbrev pub IsStored : List ℕ → Reply → Type 0
+IsStored page (Stored stored) = stored.page ≡ page
+IsStored page other = ⊥
+
+-- the reply to an edit that was carried out
+abbrev pub IsEdited : Command → Reply → Type 0
+IsEdited (EditPage site page rev edits) reply = IsStored page reply
+IsEdited other reply = ⊥
+
+-- the reply to a judgement or to an edit, which are decided by the outcomes that are kept
+abbrev pub RestsOnKept : Request → Reply → Type 0
+RestsOnKept request reply = IsJudged reply ⊎ IsEdited request.command reply
+
+-- a change puts pages into this site
+abbrev pub PutsInto : List ℕ → Change → Type 0
+PutsInto site (PutPages s counter pages) = s ≡ site
+PutsInto site other = ⊥
+
+-- an edit of a page of this site is answered, whatever outcomes are kept: by no fault of the keeper's, and with a change that fits
+abbrev pub Edits : List ℕ → List ℕ → Result Decided Refusal → Type 0
+Edits site page (Ok d) = IfSome d.change (λ change. Fits change × PutsInto site change) × IsStored page d.reply
+Edits site page (Err refusal) = refusal ≡ KeeperFault → ⊥
+
+-- What is decided of tables, sound or not: no change, or a judgement or an edit, or what the definition decides of them.
 abbrev pub IsFirm : Book → Request → Option Tables → Decided → Type 0
 IsFirm book request tables d =
-    (d.change ≡ None) ⊎ (IsJudged d.reply ⊎ ((t : Tables) → tables ≡ Some t → decided book request (state_of t) ≡ Ok d))
+    (d.change ≡ None) ⊎ (RestsOnKept request d.reply ⊎ ((t : Tables) → tables ≡ Some t → decided book request (state_of t) ≡ Ok d))
 
 -- tables are only read, and a keeper's fault is one that was counted
 pub record OnlyReads {A : Type 0} (old new : Option Tables) (before now : ℕ) (result : Result A Refusal) : Type 0 where
@@ -161,6 +188,16 @@ pub record FindsKept (leave : Needed) (caller site page : List ℕ) (old new : O
       → (s : Site) × IsIn leave caller site s t × (page_in site page t ≡ Some (page_state kept)) × (outcomes_of site page t ≡ kept.outcomes))
   pub refused : RefusesPage leave caller site page new result
 
+-- the same with the site's row
+pub record FindsWhole (leave : Needed) (caller site page : List ℕ) (old new : Option Tables) (before now : ℕ) (result : Result (Site × KeptPage) Refusal) : Type 0 where
+  pub reads : OnlyReads old new before now result
+  pub fits : IfOk result (λ found. FitsPage found.1.page)
+  pub found :
+      IfOk result (λ found.
+      (t : Tables) → new ≡ Some t
+      → IsIn leave caller site found.0 t × (page_in site page t ≡ Some (page_state found.1)) × (outcomes_of site page t ≡ found.1.outcomes))
+  pub refused : RefusesPage leave caller site page new result
+
 -- the outcomes that are kept of a page are those of its tree and judgements
 abbrev pub IsTrueTo : Book → KeptPage → Type 0
 IsTrueTo book kept = kept.outcomes.rows ≡ outcomes book kept.page.tree kept.judgements
@@ -198,14 +235,14 @@ pub record IsDone (book : Book) (request : Request) (reply : Reply) (s t : Table
   pub became : t ≡ soundness.made d.change s
 
 -- A request is served: where the tables that are told were sound, they are sound, the reply is the machine's, and the rows of all
--- other sites stay. Sound or not, a request that is refused leaves the tables, and they change only by a judgement or by what the
--- definition decides. Whether they are told or not, the keeper's fault is answered only where it was counted.
+-- other sites stay. Sound or not, a request that is refused leaves the tables, and they change only by a judgement, by an edit or by
+-- what the definition decides. Whether they are told or not, the keeper's fault is answered only where it was counted.
 pub record Serves (book : Book) (request : Request) (old new : Option Tables) (before now : ℕ) (reply : Reply) : Type 0 where
   pub told :
       (t : Tables) → new ≡ Some t → (s : Tables) × (old ≡ Some s) × (IsSound book s → IsSound book t × Answers book (state_of s) request reply (state_of t) before now)
   pub others : (s t : Tables) → old ≡ Some s → new ≡ Some t → IsSound book s → OthersStay (steps.site_of request.command) s t
   pub refused : (refusal : Refusal) → reply ≡ Refused refusal → Stays old new
-  pub changed : (s t : Tables) → old ≡ Some s → new ≡ Some t → (t ≡ s) ⊎ (IsJudged reply ⊎ IsDone book request reply s t)
+  pub changed : (s t : Tables) → old ≡ Some s → new ≡ Some t → (t ≡ s) ⊎ (RestsOnKept request reply ⊎ IsDone book request reply s t)
   pub never_falls : before ≤ now
   pub failed : reply ≡ Refused KeeperFault → Rose before now
 

@@ -5,19 +5,20 @@ ghost use Rattle.keep_core.specs.Names.{is_name};
 ghost use Rattle.desk_core.specs.declared.command.Command.TheVariants.{EditPage};
 ghost use Rattle.desk_core.specs.Refusals.{Decision};
 ghost use Rattle.desk_core.specs.Pages.{has_revisions, edited, edit_page};
-ghost use Rattle.desk_core.specs.Costs.{edit_judgings, command_judgings};
-ghost use Rattle.desk_core.specs.State.{state_of, site_at};
-ghost use Rattle.desk_core.specs.Serving.{Agrees, Decides, Stands};
+ghost use Rattle.desk_core.specs.Costs.{edit_judgings, edit_pairs, command_judgings, most_judgings};
+ghost use Rattle.desk_core.specs.State.{state_of, site_at, page_state};
+ghost use Rattle.desk_core.specs.Serving.{Agrees, Decides, Edits, IsTrueTo, Stands};
+ghost use Rattle.desk_core.specs.Soundness.{IsSound};
+ghost use Rattle.keep_core.specs.Fits.{FitsPage};
 ghost use Rattle.keep_core.specs.Tables.{Tables};
 
 use crate::decided::Decided;
-use crate::look::find;
-use crate::page_state::PageState;
+use crate::look::find_whole;
 use crate::refusal::{Limit, Needed, Refusal};
-use crate::renewing::renewed;
+use crate::renewing::edited;
 use crate::room::has_revision;
 use crate::sent::Sent;
-use keep_core::{Keeper, Site};
+use keep_core::{Keeper, KeptPage, Site};
 use rule_core::RuleBook;
 use snap_edit::{Edit, EditFault, apply};
 use snap_tree::{List, Text, Tree};
@@ -45,20 +46,27 @@ fn edit_there<B: RuleBook>(
     sent: Sent,
     edits: &[Edit],
     site: &Site,
-    kept: &PageState,
+    kept: &KeptPage,
 ) -> Result<Decided, Refusal>
     requires some { 0 < length books.old }
     requires revision { has_revisions site.now.counter 1 ≡ true }
     requires current { sent.rev ≡ kept.now.page.head.rev }
-    ensures decided { Agrees ⊥ result (edit_page B.book sent.site caller.now sent.page sent.rev edits.now
-        site.now kept.now) }
-    ensures counted { sum_by B.calls books.new ≤ sum_by B.calls books.old
-        + edit_judgings B.book edits.now kept.now }
+    requires site { IsTrue (is_name sent.site) }
+    requires page { IsTrue (is_name sent.page) }
+    requires fits { FitsPage kept.now.page }
+    ensures decided { IsTrueTo B.book kept.now → Agrees ⊥ result (edit_page B.book sent.site caller.now
+        sent.page sent.rev edits.now site.now (page_state kept.now)) }
+    ensures edits { Edits sent.site sent.page result }
+    ensures counted { IsTrueTo B.book kept.now → sum_by B.calls books.new ≤ sum_by B.calls books.old
+        + edit_pairs B.book edits.now (page_state kept.now) }
+    ensures most { sum_by B.calls books.new ≤ sum_by B.calls books.old
+        + edit_judgings B.book edits.now (page_state kept.now) }
     ensures others { drop 1 books.new ≡ drop 1 books.old }
 {
-    let tree = edit_tree(alloc, &kept.page.tree, edits)?;
-    let js = kept.judgements.as_slice();
-    renewed(alloc, books, caller, sent, site.counter, js, tree)
+    match edit_tree(alloc, &kept.page.tree, edits) {
+        Ok(tree) => edited(alloc, books, caller, sent, site.counter, kept, tree),
+        Err(refusal) => Err(refusal),
+    }
 }
 
 // What is decided on edits of a page that was found.
@@ -69,13 +77,19 @@ fn decide<B: RuleBook>(
     sent: Sent,
     edits: &[Edit],
     site: &Site,
-    kept: &PageState,
+    kept: &KeptPage,
 ) -> Result<Decided, Refusal>
-    requires { 0 < length books.old }
-    ensures decided { Agrees ⊥ result (edit_page B.book sent.site caller.now sent.page sent.rev edits.now
-        site.now kept.now) }
-    ensures counted { sum_by B.calls books.new ≤ sum_by B.calls books.old
-        + edit_judgings B.book edits.now kept.now }
+    requires some { 0 < length books.old }
+    requires site { IsTrue (is_name sent.site) }
+    requires page { IsTrue (is_name sent.page) }
+    requires fits { FitsPage kept.now.page }
+    ensures decided { IsTrueTo B.book kept.now → Agrees ⊥ result (edit_page B.book sent.site caller.now
+        sent.page sent.rev edits.now site.now (page_state kept.now)) }
+    ensures edits { Edits sent.site sent.page result }
+    ensures counted { IsTrueTo B.book kept.now → sum_by B.calls books.new ≤ sum_by B.calls books.old
+        + edit_pairs B.book edits.now (page_state kept.now) }
+    ensures most { sum_by B.calls books.new ≤ sum_by B.calls books.old
+        + edit_judgings B.book edits.now (page_state kept.now) }
     ensures others { drop 1 books.new ≡ drop 1 books.old }
 {
     if !has_revision(site.counter) {
@@ -93,7 +107,7 @@ fn decide<B: RuleBook>(
     edit_there(alloc, books, caller, sent, edits, site, kept)
 }
 
-/// Edits the page that the sender saw.
+/// Edits the page that the sender saw. Its outcomes are found anew from its kept ones: only what the edits reach is judged.
 pub fn edit_page<K: Keeper, B: RuleBook>(
     alloc: Global,
     books: &mut [B],
@@ -108,26 +122,32 @@ pub fn edit_page<K: Keeper, B: RuleBook>(
     ensures decides { Decides B.book
         (record { caller = caller.now; command = EditPage sent.site sent.page sent.rev edits })
         (K.tables keeper.old) (K.tables keeper.new) (K.faults keeper.old) (K.faults keeper.new) result }
-    ensures counted { (t : Tables) → K.tables keeper.new ≡ Some t → sum_by B.calls books.new ≤ sum_by B.calls books.old
+    ensures counted { (t : Tables) → K.tables keeper.new ≡ Some t → IsSound B.book t
+        → sum_by B.calls books.new ≤ sum_by B.calls books.old
         + command_judgings B.book (EditPage sent.site sent.page sent.rev edits)
+        (site_at sent.site (state_of t)) }
+    ensures most { (t : Tables) → K.tables keeper.new ≡ Some t → sum_by B.calls books.new ≤ sum_by B.calls books.old
+        + most_judgings B.book (EditPage sent.site sent.page sent.rev edits)
         (site_at sent.site (state_of t)) }
     ensures others { drop 1 books.new ≡ drop 1 books.old }
 {
-    let found = find(
+    match find_whole(
         alloc,
         keeper,
         Needed::Editor,
         caller,
         &sent.site,
         &sent.page,
-    )?;
-    decide(
-        alloc,
-        books,
-        caller,
-        sent,
-        edits.as_slice(),
-        &found.0,
-        &found.1,
-    )
+    ) {
+        Ok(found) => decide(
+            alloc,
+            books,
+            caller,
+            sent,
+            edits.as_slice(),
+            &found.0,
+            &found.1,
+        ),
+        Err(refusal) => Err(refusal),
+    }
 }

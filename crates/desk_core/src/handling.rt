@@ -32,12 +32,13 @@ use std::thread::Threads;
 /// change are the machine's, and the rows of all other sites stay. Or the request fails: with `KeeperFault`,
 /// where the keeper's count of faults rose in this request, which holds of tables that aren't told too, or
 /// with `OutOfMemory`. Whatever it is refused with, the tables stay, sound or not; and sound or not they change
-/// only by a judgement or by what the machine decides.
+/// only by a judgement, by an edit or by what the machine decides.
 ///
 /// The books judge at most: where rows make trees, each atomic rule on each node of a page that is put or
-/// imported, accepted or not; of an edited page the same, where the edits can be carried out; and for every
-/// other request nothing. What an edited page costs is said where the tables are told. Only an import uses
-/// other books than the first.
+/// imported, accepted or not; of an edited page, where the edits can be carried out, the pairs of an atomic rule
+/// and a node that they affect; and for every other request nothing. What an edited page costs is said where the
+/// tables are told and sound, and where they are told, sound or not, it is no more than the whole edited page.
+/// Only an import uses other books than the first.
 pub fn handle<R: Threads + Sync, K: Keeper, B: RuleBook + Send>(
     rt: &R,
     alloc: Global,

@@ -1,4 +1,4 @@
-ghost use Rattle.desk_core.specs.Serving.{Finds, FindsKept, FindsPage, FindsShown, Looks, Surveys};
+ghost use Rattle.desk_core.specs.Serving.{Finds, FindsKept, FindsPage, FindsShown, FindsWhole, Looks, Surveys};
 
 use crate::enter::enter;
 use crate::page_state::PageState;
@@ -97,6 +97,28 @@ pub fn find_shown<K: Keeper>(
     Ok((found, outcomes))
 }
 
+/// The page with its judgements and its outcomes, and the site's row.
+pub fn find_whole<K: Keeper>(
+    alloc: Global,
+    keeper: &mut K,
+    needed: Needed,
+    caller: &Text,
+    site: &Text,
+    page: &Text,
+) -> Result<(Site, KeptPage), Refusal>
+    ensures { FindsWhole needed caller.now site.now page.now (K.tables keeper.old) (K.tables keeper.new)
+        (K.faults keeper.old) (K.faults keeper.new) result }
+{
+    let found = find(alloc, keeper, needed, caller, site, page)?;
+    let outcomes = keeper.outcomes(alloc, site, page)?;
+    let kept = KeptPage {
+        page: found.1.page,
+        judgements: found.1.judgements,
+        outcomes,
+    };
+    Ok((found.0, kept))
+}
+
 /// The page with its judgements and its outcomes.
 pub fn find_kept<K: Keeper>(
     alloc: Global,
@@ -109,13 +131,8 @@ pub fn find_kept<K: Keeper>(
     ensures { FindsKept needed caller.now site.now page.now (K.tables keeper.old) (K.tables keeper.new)
         (K.faults keeper.old) (K.faults keeper.new) result }
 {
-    let found = find(alloc, keeper, needed, caller, site, page)?;
-    let outcomes = keeper.outcomes(alloc, site, page)?;
-    Ok(KeptPage {
-        page: found.1.page,
-        judgements: found.1.judgements,
-        outcomes,
-    })
+    let found = find_whole(alloc, keeper, needed, caller, site, page)?;
+    Ok(found.1)
 }
 
 /// A site in which the caller may put pages, before one of this name is put.

@@ -1,11 +1,14 @@
 ghost use Rattle.std.specs.Prelude.{◌≡◌, ◌+◌, ◌<◌, ◌≤◌, drop, length, map, sum_by, IfOk};
 ghost use Rattle.judge_core.specs.Outcomes.{outcomes, judgings};
+ghost use Rattle.rule_core.specs.Reach.{affected};
 ghost use Rattle.desk_core.specs.Pages.{page_put, stored, stored_by};
+ghost use Rattle.desk_core.specs.Serving.{IsTrueTo};
 
 use crate::reply::Stored;
 use crate::summaries::summary_of;
+use engine::reaudit;
 use judge_core::{Judgement, Outcomes, infos_of};
-use keep_core::{Page, PageHead, PagePut};
+use keep_core::{KeptPage, Page, PageHead, PagePut};
 use reaudit::audit_page;
 use rule_core::{RuleBook, RuleInfo};
 use snap_tree::{OutOfMemory, Text, Tree};
@@ -24,6 +27,58 @@ pub fn audit_by_first<B: RuleBook>(
     ensures others { drop 1 books.new ≡ drop 1 books.old }
 {
     audit_page(alloc, &mut books[0], tree, js)
+}
+
+/// The outcomes of an edited page by the first of some books, by the outcomes of the page before.
+pub fn reaudit_by_first<B: RuleBook>(
+    alloc: Global,
+    books: &mut [B],
+    old: &Tree,
+    new: &Tree,
+    rows: &Outcomes,
+    js: &[Judgement],
+) -> Result<Outcomes, OutOfMemory>
+    requires some { 0 < length books.old }
+    requires address { old.now.address ≡ new.now.address }
+    ensures rows { rows.now.rows ≡ outcomes B.book old.now js.now
+        → IfOk result (λ o. o.rows ≡ outcomes B.book new.now js.now) }
+    ensures counted { rows.now.rows ≡ outcomes B.book old.now js.now
+        → sum_by B.calls books.new ≤ sum_by B.calls books.old + length (affected B.book old.now new.now) }
+    ensures most { sum_by B.calls books.new ≤ sum_by B.calls books.old + judgings B.book new.now }
+    ensures others { drop 1 books.new ≡ drop 1 books.old }
+{
+    reaudit(alloc, &mut books[0], old, new, rows, js)
+}
+
+/// A page as it is put where its tree was edited: its outcomes come of those that are kept.
+pub fn page_edited<B: RuleBook>(
+    alloc: Global,
+    books: &mut [B],
+    page: Text,
+    rev: u64,
+    hand: &Text,
+    kept: &KeptPage,
+    tree: Tree,
+) -> Result<PagePut, OutOfMemory>
+    requires some { 0 < length books.old }
+    requires address { kept.now.page.tree.address ≡ tree.address }
+    ensures page { IfOk result (λ put. put.page
+        ≡ record { head = record { page = page; rev = rev; hand = hand.now }; tree = tree }) }
+    ensures put { IsTrueTo B.book kept.now → IfOk result (λ put. put
+        ≡ page_put B.book page rev hand.now tree kept.now.judgements) }
+    ensures counted { IsTrueTo B.book kept.now → sum_by B.calls books.new
+        ≤ sum_by B.calls books.old + length (affected B.book kept.now.page.tree tree) }
+    ensures most { sum_by B.calls books.new ≤ sum_by B.calls books.old + judgings B.book tree }
+    ensures others { drop 1 books.new ≡ drop 1 books.old }
+{
+    let js = kept.judgements.as_slice();
+    let outcomes = reaudit_by_first(alloc, books, &kept.page.tree, &tree, &kept.outcomes, js)?;
+    let hand = hand.copy(alloc)?;
+    let head = PageHead { page, rev, hand };
+    Ok(PagePut {
+        page: Page { head, tree },
+        outcomes,
+    })
 }
 
 /// A page as it is put: with its new revision, who sent it, and its outcomes under its judgements.

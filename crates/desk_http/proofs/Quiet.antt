@@ -54,7 +54,7 @@ use Rattle.desk_core.specs.Steps.{Request, site_of, read_page, read_site, decisi
 use Rattle.desk_core.specs.Fitting.{FitsEntry, FitsEntries, FitsParts, FitsRequest}
 use Rattle.desk_core.specs.Changes.{after}
 use Rattle.desk_core.specs.Soundness as soundness
-use Rattle.desk_core.specs.Serving.{IsJudged, IsDone}
+use Rattle.desk_core.specs.Serving.{IsJudged, IsEdited, RestsOnKept, IsDone}
 use Rattle.desk_core.specs.declared.decided.Decided.{Decided}
 use Rattle.http_replies.specs.Made.{is_short, are_few, is_made}
 
@@ -227,14 +227,22 @@ judged_made : (r : Reply) → IsJudged r → is_made r ≡ false → ⊥
 judged_made (reply.Judged rule node outcome) judged unmade = true≢false unmade
 judged_made other judged unmade = absurd judged
 
+-- and so is that to an edit
+edited_made : (book : Book) (c : Command) (r : Reply) → FitsParts book c → IsEdited c r → is_made r ≡ false → ⊥
+edited_made book (command.EditPage site page rev edits) (reply.Stored s) fits same unmade =
+    true≢false (sym (short_name page fits.named) ∙ (ap is_short (sym same) ∙ unmade))
+edited_made book (command.EditPage site page rev edits) other fits same unmade = absurd same
+edited_made book other r fits same unmade = absurd same
+
 done_calm : (book : Book) (q : Request) (s t : Tables) (r : Reply) (d : Decided) → Quiet (Ok d) → is_made r ≡ false → r ≡ d.reply → t ≡ soundness.made d.change s → t ≡ s
 done_calm book q s t r d (inl none) unmade is became = became ∙ ap (λ change. soundness.made change s) none
 done_calm book q s t r d (inr made) unmade is became = absurd (true≢false (sym made ∙ (sym (ap is_made is) ∙ unmade)))
 
 -- it comes with the tables kept, whether they are sound or not
-pub unmade_stays : (book : Book) (q : Request) (s t : Tables) (r : Reply) → FitsRequest book q → is_made r ≡ false → (t ≡ s) ⊎ (IsJudged r ⊎ IsDone book q r s t) → t ≡ s
+pub unmade_stays : (book : Book) (q : Request) (s t : Tables) (r : Reply) → FitsRequest book q → is_made r ≡ false → (t ≡ s) ⊎ (RestsOnKept q r ⊎ IsDone book q r s t) → t ≡ s
 unmade_stays book q s t r fits unmade (inl same) = same
-unmade_stays book q s t r fits unmade (inr (inl judged)) = absurd (judged_made r judged unmade)
+unmade_stays book q s t r fits unmade (inr (inl (inl judged))) = absurd (judged_made r judged unmade)
+unmade_stays book q s t r fits unmade (inr (inl (inr edited))) = absurd (edited_made book q.command r fits.parts edited unmade)
 unmade_stays book q s t r fits unmade (inr (inr done)) =
     let quiet : Quiet (decided book q (state_of s)) = decision_quiet book q.caller q.command (site_at (site_of q.command) (state_of s)) fits.site fits.parts in
     done_calm book q s t r done.d (subst Quiet done.is_decided quiet) unmade done.answered done.became

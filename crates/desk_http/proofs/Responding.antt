@@ -60,7 +60,7 @@ replied : (book : Book) (q : Request) (closes : Bool) (old new : Option Tables) 
 replied book q closes old new from to calls now_calls reply bytes served costs others printed = record {
   reply = reply;
   bytes_are = printed;
-  told = λ t is. let s = served.told t is in (s.0, s.1, λ sound. let z = s.2 sound in (z.0, (z.1, costs.told s.0 t s.1 is)));
+  told = λ t is. let s = served.told t is in (s.0, s.1, λ sound. let z = s.2 sound in (z.0, (z.1, costs.told s.0 t s.1 is sound)));
   never_falls = served.never_falls;
   failed = served.failed;
   refused = served.refused;
@@ -90,7 +90,7 @@ unprinted book q closes old new from to calls now_calls reply bytes fits unmade 
         s.1,
         λ sound.
             let z = s.2 sound in
-            (z.0, (answers_full book (state_of s.0) (state_of t) q reply from to fits unmade z.1, costs.told s.0 t s.1 is)),
+            (z.0, (answers_full book (state_of s.0) (state_of t) q reply from to fits unmade z.1, costs.told s.0 t s.1 is sound)),
       );
   never_falls = served.never_falls;
   failed = no_fault from to;

@@ -70,7 +70,7 @@ edit_page-requires-clause-page g c = (fits_at c.in-EditPage.is c.requires.fits).
 
 pub returns-in-EditPage-clause-counted : goal.returns-in-EditPage-clause-counted
 returns-in-EditPage-clause-counted g c =
-    costs_at c.in-EditPage.is (costs_edit _ _ _ _ _ _ _ _ _ c.edit_page.ensures.decides.reads.stays c.edit_page.ensures.counted)
+    costs_at c.in-EditPage.is (costs_edit _ _ _ _ _ _ _ _ _ c.edit_page.ensures.decides.reads.stays c.edit_page.ensures.counted c.edit_page.ensures.most)
 
 pub returns-in-Judge-clause-decided : goal.returns-in-Judge-clause-decided
 returns-in-Judge-clause-decided g c = decides_at c.in-Judge.is c.judge.ensures

@@ -1,16 +1,12 @@
-use Rattle.std.proofs.Common.{sym, arith}
 use Rattle.desk_core.proofs.look.find_kept.Goals as goal
 
 pub returns : goal.returns
 returns g c = record {
   reads = record {
-    stays = λ t told. c.in_ok-found.ensures.reads.stays t (c.in_ok-outcomes.ensures.reads.stays t told);
-    never_falls = omega (arith, c.in_ok-found.ensures.reads.never_falls, c.in_ok-outcomes.ensures.faults.never_falls);
+    stays = c.in_ok-found.ensures.reads.stays;
+    never_falls = c.in_ok-found.ensures.reads.never_falls;
     failed = λ e. cc;
   };
-  found =
-      λ t told.
-      let f = c.in_ok-found.ensures.found t (c.in_ok-outcomes.ensures.reads.stays t told) in
-      (c.in_ok-found.found.0, f.0, f.1, sym (c.in_ok-outcomes.ensures.reads.answers t told));
+  found = λ t told. let f = c.in_ok-found.ensures.found t told in (c.in_ok-found.found.0, f.0, f.1, f.2);
   refused = tt;
 }
