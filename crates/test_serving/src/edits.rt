@@ -23,7 +23,7 @@ const EDITS: &str = "/edits";
 const JUDGEMENTS: &str = "/judgements";
 
 // A button that gets hidden.
-static HIDING: Script = (
+const HIDING: Script = (
     r#"[{"n":1,"p":null,"tag":"html","attrs":[["lang","en"]]},{"n":2,"p":1,"tag":"body"},{"n":3,"p":2,"tag":"button","f":"rvft"},{"n":4,"p":3,"text":"Go"}]"#,
     29 * 4,
     &[
@@ -52,7 +52,7 @@ static HIDING: Script = (
 );
 
 // Nothing that is looked at, and a paragraph more, on the same page.
-static ADDING: Script = (
+const ADDING: Script = (
     r#"[{"n":1,"p":null,"tag":"html","attrs":[["lang","en"]]},{"n":2,"p":1,"tag":"body"},{"n":3,"p":2,"tag":"button","f":"rvft"},{"n":4,"p":3,"text":"Go"}]"#,
     29 * 4,
     &[
@@ -76,7 +76,7 @@ static ADDING: Script = (
 );
 
 // An id that moves to an earlier element.
-static FINDING: Script = (
+const FINDING: Script = (
     r#"[{"n":1,"p":null,"tag":"html"},{"n":2,"p":1,"tag":"body"},{"n":10,"p":2,"tag":"a","attrs":[["href","/"],["aria-labelledby","t"]]},{"n":40,"p":2,"tag":"p","attrs":[["id","t"]]},{"n":41,"p":40,"text":"Old"}]"#,
     29 * 5,
     &[(
@@ -91,7 +91,7 @@ static FINDING: Script = (
 );
 
 // Headings that change places.
-static MOVING: Script = (
+const MOVING: Script = (
     r#"[{"n":1,"p":null,"tag":"html"},{"n":2,"p":1,"tag":"body"},{"n":5,"p":2,"tag":"h2"},{"n":6,"p":5,"text":"A"},{"n":7,"p":2,"tag":"div"},{"n":8,"p":7,"tag":"h2"},{"n":9,"p":8,"text":"B"}]"#,
     29 * 7,
     &[
@@ -117,7 +117,7 @@ static MOVING: Script = (
 );
 
 // A heading that is judged, and whose text is edited and edited back.
-static JUDGING: Script = (
+const JUDGING: Script = (
     r#"[{"n":1,"p":null,"tag":"html"},{"n":2,"p":1,"tag":"body"},{"n":7,"p":2,"tag":"h1"},{"n":8,"p":7,"text":"Opening hours"}]"#,
     29 * 4,
     &[
