@@ -186,3 +186,29 @@ pub(crate) fn whole(tree: &Tree) -> Place<'_> {
         less: Less::Nothing,
     }
 }
+
+fn is_affected(
+    alloc: Global,
+    info: &RuleInfo,
+    pair: &Pair<'_>,
+    n: NodeId,
+) -> Result<bool, Fail> {
+    if pair.old.tree.node(n).is_none() {
+        return Ok(true);
+    }
+    Ok(!agrees(alloc, info, pair, n)?)
+}
+
+/// How many pairs of an atomic rule and a node of the new page an edit affects.
+pub(crate) fn affected(alloc: Global, old: &Tree, new: &Tree) -> Result<u64, Fail> {
+    let pair = compared(alloc, whole(old), new)?;
+    let mut count: u64 = 0;
+    for info in infos() {
+        for row in new.rows() {
+            if info.is_atomic() && is_affected(alloc, info, &pair, row.id)? {
+                count = count.saturating_add(1);
+            }
+        }
+    }
+    Ok(count)
+}

@@ -1,8 +1,13 @@
 //! Tests of locality over all rules: over pairs of a page and one edit of it, whatever a rule looks at by its two classes is
 //! listed by a plain program, and where its values are the same the rule says the same; where a class is made smaller, it
-//! doesn't. There is no call of its own.
+//! doesn't; the audit after an edit judges what that program finds affected, and what was counted by hand. There is no call
+//! of its own.
 #![tactic(auto)]
 
+#[cfg(test)]
+mod again;
+#[cfg(test)]
+mod costs;
 #[cfg(test)]
 mod edited;
 #[cfg(test)]
@@ -10,7 +15,11 @@ mod judged;
 #[cfg(test)]
 mod limits;
 #[cfg(test)]
+mod links;
+#[cfg(test)]
 mod parts;
+#[cfg(test)]
+mod random;
 #[cfg(test)]
 mod reach;
 #[cfg(test)]

@@ -1,0 +1,218 @@
+//! Pages at random, each with edits at random: the audit after the edits has the outcomes of a full one, and judges the
+//! pairs of a rule and a node that a plain program finds affected.
+
+ghost use Rattle.std.specs.Prelude.{◌≡◌, IfOk, IfSome};
+
+use crate::again::audited_again;
+use crate::judged::affected;
+use fixture_dice::Dice;
+use fixture_pages::{facts, page_in, row_in};
+use snap_edit::{Edit, EditFault, apply};
+use snap_tree::{List, NodeId, OutOfMemory, Row, Text, Tree};
+use std::alloc::{AllocError, Global};
+use std::test::Fail;
+
+// So many pages, of at most so many nodes, with at most so many edits each.
+const PAGES: u32 = 3_000;
+
+const MOST_NODES: u32 = 14;
+
+const MOST_EDITS: u64 = 3;
+
+static TAGS: [&str; 16] = [
+    "p", "div", "button", "a", "h2", "label", "input", "table", "tr", "td", "th", "title", "meta",
+    "img", "main", "svg:svg",
+];
+
+static ATTRIBUTES: [&str; 24] = [
+    "id=a",
+    "id=b",
+    "aria-labelledby=a",
+    "aria-labelledby=a~b",
+    "aria-describedby=b",
+    "aria-owns=c",
+    "for=a",
+    "alt=x",
+    "title=t",
+    "role=list",
+    "role=listitem",
+    "role=none",
+    "aria-hidden=true",
+    "aria-label=n",
+    "aria-expanded=true",
+    "lang=xx",
+    "href=/x",
+    "class=c",
+    "headers=a",
+    "scope=col",
+    "http-equiv=refresh",
+    "content=5",
+    "type=image",
+    "autocomplete=name",
+];
+
+// Names and values of attributes that edits set and take out.
+static NAMES: [&str; 12] = [
+    "id",
+    "aria-labelledby",
+    "for",
+    "alt",
+    "role",
+    "aria-hidden",
+    "lang",
+    "href",
+    "class",
+    "headers",
+    "content",
+    "aria-owns",
+];
+
+static VALUES: [&str; 8] = ["a", "b", "a b", "true", "list", "xx", "5", ""];
+
+static WORDS: [&str; 4] = ["One", "Two", "Go", ""];
+
+// The row of a number below a parent: a text, or an element with an attribute or none.
+fn row_text(alloc: Global, dice: &mut Dice, n: u32, parent: u32) -> Result<String, AllocError> {
+    if dice.below(4) == 0 {
+        let word = dice.pick(&WORDS, "Go");
+        return format!(in alloc; "{n} {parent} #{word}");
+    }
+    let tag = dice.pick(&TAGS, "p");
+    let mut row = format!(in alloc; "{n} {parent} {tag}")?;
+    if dice.below(3) > 0 {
+        row.push(' ')?;
+        row.push_str(dice.pick(&ATTRIBUTES, "id=a"))?;
+    }
+    if dice.below(3) == 0 {
+        row.push_str(" !rvft")?;
+    }
+    Ok(row)
+}
+
+// The number of the last of some nodes; that of the root where there are none.
+fn last_of(open: &[u32]) -> u32 {
+    match open.last() {
+        Some(n) => *n,
+        None => 1,
+    }
+}
+
+// A page's text: each node stands below the last element before it, or below one that is above that.
+fn page_text(alloc: Global, dice: &mut Dice) -> Result<String, AllocError> {
+    let mut text = String::from_str(alloc, "1 0 html")?;
+    let mut open = Vec::new(alloc);
+    open.push(1)?;
+    for n in 2..MOST_NODES {
+        let depth = dice.below(open.len() as u64);
+        open.truncate((depth as usize).saturating_add(1));
+        let row = row_text(alloc, dice, n, last_of(open.as_slice()))?;
+        text.push(';')?;
+        text.push_str(row.as_str())?;
+        if row.as_str().split_once('#').is_none() {
+            open.push(n)?;
+        }
+    }
+    Ok(text)
+}
+
+fn number(dice: &mut Dice) -> NodeId {
+    let n = dice.below(u64::from(MOST_NODES));
+    NodeId(n as u32)
+}
+
+fn place(dice: &mut Dice) -> u32 {
+    dice.below(3) as u32
+}
+
+fn picked(alloc: Global, dice: &mut Dice, texts: &[&'static str]) -> Result<Text, OutOfMemory> {
+    Text::from_str(alloc, dice.pick(texts, "a"))
+}
+
+// A row that is put in.
+fn inserted(alloc: Global, dice: &mut Dice) -> Result<List<Row>, Fail> {
+    let n = dice.below(4).saturating_add(60);
+    let text = row_text(alloc, dice, n as u32, 0)?;
+    let mut rows = Vec::new(alloc);
+    rows.push(row_in(alloc, text.as_str())?)?;
+    Ok(List::from_vec(rows))
+}
+
+fn edit(alloc: Global, dice: &mut Dice) -> Result<Edit, Fail> {
+    let node = number(dice);
+    match dice.below(8) {
+        0 | 1 => Ok(Edit::SetAttr {
+            node,
+            name: picked(alloc, dice, &NAMES)?,
+            value: picked(alloc, dice, &VALUES)?,
+        }),
+        2 => Ok(Edit::DropAttr {
+            node,
+            name: picked(alloc, dice, &NAMES)?,
+        }),
+        3 => Ok(Edit::SetText {
+            node,
+            text: picked(alloc, dice, &WORDS)?,
+        }),
+        4 => Ok(Edit::SetFacts {
+            node,
+            facts: facts(dice.pick(&["", "rv", "rvft"], "rv")),
+        }),
+        5 => Ok(Edit::Insert {
+            parent: node,
+            place: place(dice),
+            rows: inserted(alloc, dice)?,
+        }),
+        6 => Ok(Edit::Remove { node }),
+        _ => Ok(Edit::Move {
+            node,
+            parent: number(dice),
+            place: place(dice),
+        }),
+    }
+}
+
+fn edits(alloc: Global, dice: &mut Dice) -> Result<Vec<Edit>, Fail> {
+    let mut edits = Vec::new(alloc);
+    for _ in 0..=dice.below(MOST_EDITS) {
+        edits.push(edit(alloc, dice)?)?;
+    }
+    Ok(edits)
+}
+
+// The page after edits; None where they can't be carried out.
+fn edited(alloc: Global, old: &Tree, edits: &[Edit]) -> Result<Option<Tree>, OutOfMemory>
+    ensures { IfOk result (λ new. IfSome new (λ t. t.address ≡ old.now.address)) }
+{
+    match apply(alloc, old, edits) {
+        Ok(new) => Ok(Some(new)),
+        Err(EditFault::At { .. }) => Ok(None),
+        Err(EditFault::OutOfMemory) => Err(OutOfMemory),
+    }
+}
+
+// Whether a page was edited; fails where the audit after that isn't as it has to be.
+fn is_edited(alloc: Global, dice: &mut Dice) -> Result<bool, Fail> {
+    let text = page_text(alloc, dice)?;
+    let old = page_in(alloc, text.as_str())?;
+    let edits = edits(alloc, dice)?;
+    let Some(new) = edited(alloc, &old, edits.as_slice())? else {
+        return Ok(false);
+    };
+    let (cost, same) = audited_again(alloc, &old, &new)?;
+    if same & (cost == affected(alloc, &old, &new)?) {
+        Ok(true)
+    } else {
+        Err(Fail::from((text, cost)))
+    }
+}
+
+#[test]
+fn an_edit_judges_what_it_affects(rt: HostRuntime) -> Result<(), Fail> {
+    let mut dice = Dice::new(2026);
+    let mut count = 0;
+    for _ in 0..PAGES {
+        count += u32::from(is_edited(rt.alloc(), &mut dice)?);
+    }
+    assert!(rt; count >= 1_000);
+    Ok(())
+}
