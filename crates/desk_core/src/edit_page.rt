@@ -56,13 +56,9 @@ fn edit_there<B: RuleBook>(
         + edit_judgings B.book edits.now kept.now }
     ensures others { drop 1 books.new ≡ drop 1 books.old }
 {
-    match edit_tree(alloc, &kept.page.tree, edits) {
-        Ok(tree) => {
-            let js = kept.judgements.as_slice();
-            renewed(alloc, books, caller, sent, site.counter, js, tree)
-        }
-        Err(refusal) => Err(refusal),
-    }
+    let tree = edit_tree(alloc, &kept.page.tree, edits)?;
+    let js = kept.judgements.as_slice();
+    renewed(alloc, books, caller, sent, site.counter, js, tree)
 }
 
 // What is decided on edits of a page that was found.
@@ -117,23 +113,21 @@ pub fn edit_page<K: Keeper, B: RuleBook>(
         (site_at sent.site (state_of t)) }
     ensures others { drop 1 books.new ≡ drop 1 books.old }
 {
-    match find(
+    let found = find(
         alloc,
         keeper,
         Needed::Editor,
         caller,
         &sent.site,
         &sent.page,
-    ) {
-        Ok(found) => decide(
-            alloc,
-            books,
-            caller,
-            sent,
-            edits.as_slice(),
-            &found.0,
-            &found.1,
-        ),
-        Err(refusal) => Err(refusal),
-    }
+    )?;
+    decide(
+        alloc,
+        books,
+        caller,
+        sent,
+        edits.as_slice(),
+        &found.0,
+        &found.1,
+    )
 }
