@@ -1,5 +1,5 @@
 -- What is decided on a request that isn't refused has a reply that is no refusal.
-use Rattle.std.proofs.Common.{ℕ, ◌+◌, ◌==◌, List, length, Bool, true, false, not, Option, Some, None, Result, Ok, Err, subst}
+use Rattle.std.proofs.Common.{ℕ, ◌==◌, List, length, Bool, true, false, not, Option, Some, None, Result, Ok, Err, subst}
 use Rattle.std.specs.Option.{option_map_or}
 use Rattle.std.specs.Str.{bytes_eq}
 use Rattle.snap_tree.specs.declared.row.Raw.{Raw}

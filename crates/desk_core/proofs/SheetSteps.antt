@@ -1,13 +1,11 @@
 -- The sheet that a site's pages make, and the ways in which there is none.
-use Rattle.std.proofs.Common.{◌≡◌, ℕ, ◌≤◌, List, Option, Some, Result, Ok, Err, IsErrAnd, sym, subst}
+use Rattle.std.proofs.Common.{◌≡◌, ℕ, ◌≤◌, List, Option, Some, Ok}
 use Rattle.rule_core.specs.Books.{Book}
-use Rattle.keep_core.specs.declared.fault.KeepFault.{KeepFault}
 use Rattle.keep_core.specs.declared.site.Site.{Site}
 use Rattle.keep_core.specs.Tables.{Tables}
 use Rattle.keep_core.specs.Keeping.{Stays}
 use Rattle.kept_pages.specs.KeptPages.{site_pages}
 use Rattle.desk_core.specs.declared.refusal.Needed.TheVariants.{Reader}
-use Rattle.desk_core.specs.declared.refusal.Refusal.{Refusal}
 use Rattle.desk_core.specs.declared.reply.Sheet.{Sheet}
 use Rattle.desk_core.specs.Serving.{IsIn}
 use Rattle.desk_core.specs.Sheets.{ReadsSheet}

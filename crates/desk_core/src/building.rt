@@ -58,14 +58,10 @@ fn joined(
 ) -> Result<Vec<PageWork>, Refusal>
     ensures { (ones others : List Placed) → Builds ones first → Builds others later → Builds (ones ++ others) result }
 {
-    match (first, later) {
-        (Ok(mut all), Ok(mut others)) => {
-            all.append(&mut others)?;
-            Ok(all)
-        }
-        (Ok(_), Err(refusal)) => Err(refusal),
-        (Err(refusal), _) => Err(refusal),
-    }
+    let mut all = first?;
+    let mut others = later?;
+    all.append(&mut others)?;
+    Ok(all)
 }
 
 // The pages that entries make, one after another.

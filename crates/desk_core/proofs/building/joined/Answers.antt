@@ -1,16 +1,20 @@
-use Rattle.std.proofs.Common.{subst}
+use Rattle.std.proofs.Common.{◌++◌, subst}
 use Rattle.desk_core.specs.Building.{Builds}
 use Rattle.desk_core.proofs.BuiltParts.{refused_first, refused_later, builds_both}
+use Rattle.desk_core.proofs.Onward.{refused_so}
 use Rattle.desk_core.proofs.building.joined.Goals as goal
 
-pub returns-in_ok-append-in-Ok-Ok : goal.returns-in_ok-append-in-Ok-Ok
-returns-in_ok-append-in-Ok-Ok c ones others first later =
-    builds_both ones others c.in-Ok-Ok.all c.in-Ok-Ok.others c.append.new.self (subst (Builds ones) c.in-Ok-Ok.is-0 first) (subst (Builds others) c.in-Ok-Ok.is-1 later)
-    c.in_ok-append-in-Ok-Ok.ensures.items
+pub returns : goal.returns
+returns c ones others first later =
+    builds_both ones others c.in_ok-all.all c.in_ok-others.others c.append.new.self (subst (Builds ones) c.in_ok-all.was first) (subst (Builds others) c.in_ok-others.was later)
+    c.in_ok-append.ensures.items
 
-pub returns-in-Ok-Err : goal.returns-in-Ok-Err
-returns-in-Ok-Err c ones others first later =
-    refused_later ones others _ c.in-Ok-Err.refusal (subst (Builds ones) c.in-Ok-Err.is-0 first) (subst (Builds others) c.in-Ok-Err.is-1 later)
+pub returns-in_err-others : goal.returns-in_err-others
+returns-in_err-others c ones others first later =
+    refused_so (Builds (ones ++ others)) _ c.in_err-others.field-0.0 c.from_residual-in_err-others.ensures.1
+    (refused_later ones others _ c.in_err-others.field-0.0 (subst (Builds ones) c.in_ok-all.was first) (subst (Builds others) c.in_err-others.was later))
 
-pub returns-in-Err-default : goal.returns-in-Err-default
-returns-in-Err-default c ones others first later = refused_first ones others c.in-Err-default.refusal (subst (Builds ones) c.in-Err-default.is-0 first)
+pub returns-in_err-all : goal.returns-in_err-all
+returns-in_err-all c ones others first later =
+    refused_so (Builds (ones ++ others)) _ c.in_err-all.field-0.0 c.from_residual.ensures.1
+    (refused_first ones others c.in_err-all.field-0.0 (subst (Builds ones) c.in_err-all.was first))
