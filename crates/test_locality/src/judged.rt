@@ -187,12 +187,7 @@ pub(crate) fn whole(tree: &Tree) -> Place<'_> {
     }
 }
 
-fn is_affected(
-    alloc: Global,
-    info: &RuleInfo,
-    pair: &Pair<'_>,
-    n: NodeId,
-) -> Result<bool, Fail> {
+fn is_affected(alloc: Global, info: &RuleInfo, pair: &Pair<'_>, n: NodeId) -> Result<bool, Fail> {
     if pair.old.tree.node(n).is_none() {
         return Ok(true);
     }

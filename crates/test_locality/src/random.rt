@@ -12,8 +12,10 @@ use snap_tree::{List, NodeId, OutOfMemory, Row, Text, Tree};
 use std::alloc::{AllocError, Global};
 use std::test::Fail;
 
-// So many pages, of at most so many nodes, with at most so many edits each.
-const PAGES: u32 = 3_000;
+// So many pages a test, of at most so many nodes, with at most so many edits each; at least so many of them are edited.
+const PAGES: u32 = 320;
+
+const FEWEST: u64 = 240;
 
 const MOST_NODES: u32 = 14;
 
@@ -171,14 +173,6 @@ fn edit(alloc: Global, dice: &mut Dice) -> Result<Edit, Fail> {
     }
 }
 
-fn edits(alloc: Global, dice: &mut Dice) -> Result<Vec<Edit>, Fail> {
-    let mut edits = Vec::new(alloc);
-    for _ in 0..=dice.below(MOST_EDITS) {
-        edits.push(edit(alloc, dice)?)?;
-    }
-    Ok(edits)
-}
-
 // The page after edits; None where they can't be carried out.
 fn edited(alloc: Global, old: &Tree, edits: &[Edit]) -> Result<Option<Tree>, OutOfMemory>
     ensures { IfOk result (λ new. IfSome new (λ t. t.address ≡ old.now.address)) }
@@ -190,29 +184,62 @@ fn edited(alloc: Global, old: &Tree, edits: &[Edit]) -> Result<Option<Tree>, Out
     }
 }
 
+// Edits that can be carried out.
+fn edits(alloc: Global, dice: &mut Dice, old: &Tree) -> Result<Vec<Edit>, Fail> {
+    let mut edits = Vec::new(alloc);
+    for _ in 0..=dice.below(MOST_EDITS) {
+        edits.push(edit(alloc, dice)?)?;
+        if edited(alloc, old, edits.as_slice())?.is_none() {
+            let _ = edits.pop();
+        }
+    }
+    Ok(edits)
+}
+
 // Whether a page was edited; fails where the audit after that isn't as it has to be.
 fn is_edited(alloc: Global, dice: &mut Dice) -> Result<bool, Fail> {
     let text = page_text(alloc, dice)?;
     let old = page_in(alloc, text.as_str())?;
-    let edits = edits(alloc, dice)?;
+    let edits = edits(alloc, dice, &old)?;
     let Some(new) = edited(alloc, &old, edits.as_slice())? else {
         return Ok(false);
     };
     let (cost, same) = audited_again(alloc, &old, &new)?;
     if same & (cost == affected(alloc, &old, &new)?) {
-        Ok(true)
+        Ok(!edits.is_empty())
     } else {
         Err(Fail::from((text, cost)))
     }
 }
 
+fn pages_are_edited(alloc: Global, seed: u64) -> Result<(), Fail> {
+    let mut dice = Dice::new(seed);
+    let mut count: u64 = 0;
+    for _ in 0..PAGES {
+        count = count.saturating_add(u64::from(is_edited(alloc, &mut dice)?));
+    }
+    if count < FEWEST {
+        return Err(Fail::from(("few pages are edited", count)));
+    }
+    Ok(())
+}
+
 #[test]
 fn an_edit_judges_what_it_affects(rt: HostRuntime) -> Result<(), Fail> {
-    let mut dice = Dice::new(2026);
-    let mut count = 0;
-    for _ in 0..PAGES {
-        count += u32::from(is_edited(rt.alloc(), &mut dice)?);
-    }
-    assert!(rt; count >= 1_000);
-    Ok(())
+    pages_are_edited(rt.alloc(), 2026)
+}
+
+#[test]
+fn an_edit_judges_what_it_affects_on_other_pages(rt: HostRuntime) -> Result<(), Fail> {
+    pages_are_edited(rt.alloc(), 11)
+}
+
+#[test]
+fn an_edit_judges_what_it_affects_on_more_pages(rt: HostRuntime) -> Result<(), Fail> {
+    pages_are_edited(rt.alloc(), 29)
+}
+
+#[test]
+fn an_edit_judges_what_it_affects_on_the_last_pages(rt: HostRuntime) -> Result<(), Fail> {
+    pages_are_edited(rt.alloc(), 7)
 }
