@@ -4,6 +4,9 @@
 #![tactic(auto)]
 
 mod calls;
+mod changes;
+mod checks;
 mod reads;
+mod writes;
 
 pub use calls::{read_heads, read_judgements, read_outcomes, read_page, read_site};
