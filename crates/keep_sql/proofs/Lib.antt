@@ -1,3 +1,4 @@
 pub mod Ready
 pub mod Checking
 pub mod Wholes
+pub mod FitLemmas

@@ -6,6 +6,7 @@
 mod calls;
 mod changes;
 mod checks;
+mod fitting;
 mod reads;
 mod writes;
 

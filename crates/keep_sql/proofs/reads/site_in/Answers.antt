@@ -20,7 +20,7 @@ returns-clause-reads g c clean ready =
     c.as_slice-2.ensures.value ∙ second.0 ∙ ap (λ n. members_at n (stored s1.now.trees)) c.as_str-2.ensures
     ∙ ap (λ (d : Database). members_at c.args.site.now (stored d.trees)) first.1.0.now_is in
     subst (λ rows. IfOk c.site.result (λ found. site_shown c.args.site.now rows (members_at c.args.site.now (stored s0.now.trees)) ≡ Some found)) counters
-    (subst (λ rows. IfOk c.site.result (λ found. site_shown c.args.site.now c.as_slice.result.now rows ≡ Some found)) members c.site.ensures)
+    (subst (λ rows. IfOk c.site.result (λ found. site_shown c.args.site.now c.as_slice.result.now rows ≡ Some found)) members c.site.ensures.reads)
 
 pub returns-clause-same : goal.returns-clause-same
 returns-clause-same g c clean ready =
