@@ -2,3 +2,4 @@ pub mod Ready
 pub mod Checking
 pub mod Wholes
 pub mod FitLemmas
+pub mod KeepLemmas

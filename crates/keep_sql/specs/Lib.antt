@@ -2,3 +2,4 @@ pub mod Reading
 pub mod Writing
 pub mod Keeper
 pub mod Fitting
+pub mod Preparing
