@@ -1,1 +1,5 @@
 pub mod Ready
+pub mod Checking
+pub mod Wholes
+pub mod FitLemmas
+pub mod KeepLemmas

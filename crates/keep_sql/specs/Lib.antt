@@ -1,1 +1,5 @@
 pub mod Reading
+pub mod Writing
+pub mod Keeper
+pub mod Fitting
+pub mod Preparing

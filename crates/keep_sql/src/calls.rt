@@ -1,8 +1,9 @@
 //! What is read of a store, each in a transaction of its own that is dropped.
 
-ghost use Rattle.std.specs.Prelude.{◌≡◌, false};
+ghost use Rattle.std.specs.Prelude.{◌≡◌, false, IfOk, IfSome};
 ghost use Rattle.sqlite.specs.Held.{state};
 ghost use Rattle.sqlite.specs.State.{Survives};
+ghost use Rattle.keep_core.specs.Fits.{FitsSite, FitsPage, FitsHeads};
 ghost use Rattle.keep_sql.specs.Reading.{site_in, page_in, heads_in, judgements_in, outcomes_in, ReadsStore, LeavesStore};
 
 use crate::reads;
@@ -22,6 +23,7 @@ pub fn read_site<S: Alter>(
     requires idle { conn.old.in_transaction ≡ false }
     ensures idle { conn.new.in_transaction ≡ false }
     ensures reads { ReadsStore (site_in site.now) (state S.Store conn.old) (state S.Store conn.new) result }
+    ensures fits { IfOk result (λ found. IfSome found FitsSite) }
     ensures leaves { LeavesStore (state S.Store conn.old) (state S.Store conn.new) }
     ensures survives { Survives (state S.Store conn.old) (state S.Store conn.new) (λ _. ⊥) }
 {
@@ -40,6 +42,7 @@ pub fn read_page<S: Alter>(
     requires idle { conn.old.in_transaction ≡ false }
     ensures idle { conn.new.in_transaction ≡ false }
     ensures reads { ReadsStore (page_in site.now page.now) (state S.Store conn.old) (state S.Store conn.new) result }
+    ensures fits { IfOk result (λ found. IfSome found FitsPage) }
     ensures leaves { LeavesStore (state S.Store conn.old) (state S.Store conn.new) }
     ensures survives { Survives (state S.Store conn.old) (state S.Store conn.new) (λ _. ⊥) }
 {
@@ -57,6 +60,7 @@ pub fn read_heads<S: Alter>(
     requires idle { conn.old.in_transaction ≡ false }
     ensures idle { conn.new.in_transaction ≡ false }
     ensures reads { ReadsStore (heads_in site.now) (state S.Store conn.old) (state S.Store conn.new) result }
+    ensures fits { IfOk result FitsHeads }
     ensures leaves { LeavesStore (state S.Store conn.old) (state S.Store conn.new) }
     ensures survives { Survives (state S.Store conn.old) (state S.Store conn.new) (λ _. ⊥) }
 {

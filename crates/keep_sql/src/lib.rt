@@ -4,6 +4,13 @@
 #![tactic(auto)]
 
 mod calls;
+mod changes;
+mod checks;
+mod fitting;
+mod keeper;
+mod preparing;
 mod reads;
+mod writes;
 
 pub use calls::{read_heads, read_judgements, read_outcomes, read_page, read_site};
+pub use keeper::{Prepared, SqlKeeper};

@@ -5,6 +5,7 @@ use Rattle.sqlite.specs.State.{HasCleanDisk}
 use Rattle.store_texts.specs.Stored.{stored, site_at, members_at}
 use Rattle.store_tables.specs.Told.{site_shown}
 use Rattle.keep_sql.proofs.Ready.{ready_same}
+use Rattle.keep_sql.proofs.Checking.{always, unchanged_through}
 use Rattle.keep_sql.proofs.reads.site_in.Goals as goal
 
 pub returns-clause-reads : goal.returns-clause-reads
@@ -19,4 +20,14 @@ returns-clause-reads g c clean ready =
     c.as_slice-2.ensures.value ∙ second.0 ∙ ap (λ n. members_at n (stored s1.now.trees)) c.as_str-2.ensures
     ∙ ap (λ (d : Database). members_at c.args.site.now (stored d.trees)) first.1.0.now_is in
     subst (λ rows. IfOk c.site.result (λ found. site_shown c.args.site.now rows (members_at c.args.site.now (stored s0.now.trees)) ≡ Some found)) counters
-    (subst (λ rows. IfOk c.site.result (λ found. site_shown c.args.site.now c.as_slice.result.now rows ≡ Some found)) members c.site.ensures)
+    (subst (λ rows. IfOk c.site.result (λ found. site_shown c.args.site.now c.as_slice.result.now rows ≡ Some found)) members c.site.ensures.reads)
+
+pub returns-clause-same : goal.returns-clause-same
+returns-clause-same g c clean ready =
+    let s0 = state g.S.Store c.args.tx.now.conn.now in
+    let s1 = state g.S.Store c.site_row.new.tx.conn.now in
+    let s2 = state g.S.Store c.site_members.new.tx.conn.now in
+    let clean1 : HasCleanDisk s1 = omega (arith, clean, c.site_members.ensures.survives.clean) in
+    let first = c.in_ok-counters.ensures.shown clean1 ready in
+    let second = c.in_ok-members.ensures.shown clean (ready_same s0 s1 ready first.1) in
+    always c.site.result (unchanged_through s0 s1 s2 first.1 second.1)

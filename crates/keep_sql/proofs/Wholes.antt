@@ -1,0 +1,91 @@
+-- Texts that make changes one after another.
+use Rattle.std.proofs.Common.{◌≡◌, ℕ, suc, zero, pos, ◌<◌, take, drop, Result, Ok, Err, OnOk, ◌+◌, List, [], ◌∷◌, ◌++◌, map, length, Option, Some, None, refl, sym, ap, ap₂, subst, ◌∙◌, arith, slice_get}
+use Rattle.std.proofs.lemmas.List.{take-append-drop}
+use Rattle.sqlite_value.specs.Order.{Row}
+use Rattle.sqlite_value.specs.declared.value.Value.TheVariants.{Int, Text}
+use Rattle.sqlite.specs.State.{State}
+use Rattle.named_rows.specs.ByName.{put_row, put_rows}
+use Rattle.sql_rows.specs.Tables.{name_at}
+use Rattle.sql_rows.proofs.Canon.{put_rows_append}
+use Rattle.rule_core.specs.Words.{word_of}
+use Rattle.judge_core.specs.declared.outcomes.OutRow.{OutRow}
+use Rattle.judge_core.specs.declared.outcomes.Outcomes.{Outcomes}
+use Rattle.store_texts.specs.Stored.{Stored, stored}
+use Rattle.store_texts.specs.declared.outcomes.OutcomeRow.{OutcomeRow}
+use Rattle.store_texts.specs.Changes.{IsReady, Makes, ChangesMembers, ChangesOutcomes, DropsOutcomes, AddsOutcome}
+use Rattle.store_texts.specs.Changes as texts
+use Rattle.store_tables.specs.Cells.{auto_number}
+use Rattle.store_tables.specs.Batches.{outcome_cells, outcomes_cells, outcome_rows}
+use Rattle.store_tables.proofs.Steps.{some_same}
+use Rattle.store_tables.proofs.Stepping.{changes_none, members_through, outcomes_through}
+use Rattle.keep_sql.specs.Reading.{rows_in}
+use Rattle.keep_sql.specs.Writing.{IsRowOf}
+
+-- one call after another
+pub makes_then : (A B C : Stored → Stored → Type 0) (a b c : State) → ((x y z : Stored) → A x y → B y z → C x z) → Makes A a b → Makes B b c → Makes C a c
+makes_then A B C a b c both first second = record { ready = second.ready; change = both (rows_in a) (rows_in b) (rows_in c) first.change second.change }
+
+pub makes_none : (C : Stored → Stored → Type 0) (a : State) → ((x : Stored) → C x x) → IsReady a → Makes C a a
+makes_none C a same ready = record { ready = ready; change = same (rows_in a) }
+
+pub members_then : (site : List ℕ) (f g : List Row → List Row) (a b c : State) → Makes (ChangesMembers site f) a b → Makes (ChangesMembers site g) b c → Makes (ChangesMembers site (λ rows. g (f rows))) a c
+members_then site f g a b c = makes_then (ChangesMembers site f) (ChangesMembers site g) (ChangesMembers site (λ rows. g (f rows))) a b c (λ x y z. members_through site x y z f g)
+
+pub members_none : (site : List ℕ) (a : State) → IsReady a → Makes (ChangesMembers site (λ rows. rows)) a a
+members_none site a = makes_none (ChangesMembers site (λ rows. rows)) a (λ x. (refl, changes_none (site ∷ []) x.members))
+
+pub outcomes_then : (site page : List ℕ) (f g : List Row → List Row) (a b c : State) → Makes (ChangesOutcomes site page f) a b → Makes (ChangesOutcomes site page g) b c
+    → Makes (ChangesOutcomes site page (λ rows. g (f rows))) a c
+outcomes_then site page f g a b c = makes_then (ChangesOutcomes site page f) (ChangesOutcomes site page g) (ChangesOutcomes site page (λ rows. g (f rows))) a b c (λ x y z. outcomes_through site x y z page f g)
+
+pub outcomes_none : (site page : List ℕ) (a : State) → IsReady a → Makes (ChangesOutcomes site page (λ rows. rows)) a a
+outcomes_none site page a = makes_none (ChangesOutcomes site page (λ rows. rows)) a (λ x. (refl, changes_none (site ∷ page ∷ []) x.outcomes))
+
+cells_append : (site page : List ℕ) (place next : ℕ) (xs ys : List OutRow) → next ≡ place + length xs → outcomes_cells site page place (xs ++ ys) ≡ outcomes_cells site page place xs ++ outcomes_cells site page next ys
+cells_append site page place next [] ys is = let same : place ≡ next = omega (arith, is) in ap (λ n. outcomes_cells site page n ys) same
+cells_append site page place next (x ∷ xs) ys is = ap (λ l. outcomes_cells site page place (x ∷ []) ++ l) (cells_append site page (suc place) next xs ys (omega (arith, is)))
+
+-- outcomes that are put in two halves
+pub halves : (site page : List ℕ) (place next : ℕ) (all xs ys : List OutRow) (a b c : State) → all ≡ xs ++ ys → next ≡ place + length xs
+    → Makes (ChangesOutcomes site page (put_rows (name_at 2) (outcomes_cells site page place xs))) a b → Makes (ChangesOutcomes site page (put_rows (name_at 2) (outcomes_cells site page next ys))) b c
+    → Makes (ChangesOutcomes site page (put_rows (name_at 2) (outcomes_cells site page place all))) a c
+halves site page place next all xs ys a b c is at first second =
+    let cells : outcomes_cells site page place all ≡ outcomes_cells site page place xs ++ outcomes_cells site page next ys = ap (outcomes_cells site page place) is ∙ cells_append site page place next xs ys at in
+    let puts : (λ (rows : List Row). put_rows (name_at 2) (outcomes_cells site page next ys) (put_rows (name_at 2) (outcomes_cells site page place xs) rows)) ≡ put_rows (name_at 2) (outcomes_cells site page place all) =
+    λ i rows. (sym (put_rows_append (name_at 2) (outcomes_cells site page place xs) (outcomes_cells site page next ys) rows) ∙ ap (λ l. put_rows (name_at 2) l rows) (sym cells)) i in
+    subst (λ f. Makes (ChangesOutcomes site page f) a c) puts
+    (outcomes_then site page (put_rows (name_at 2) (outcomes_cells site page place xs)) (put_rows (name_at 2) (outcomes_cells site page next ys)) a b c first second)
+
+pub onward : {A E P Q : Type 0} (r : Result A E) → (P → Q) → OnOk r P → OnOk r Q
+onward (Ok a) f p = f p
+onward (Err e) f p = tt
+
+pub outcome_added : (site page : List ℕ) (place : ℕ) (o : OutRow) (row : OutcomeRow) (a b : State) → IsRowOf place o row → Makes (AddsOutcome site page row) a b
+    → Makes (ChangesOutcomes site page (put_row (name_at 2) (outcome_cells site page place o))) a b
+outcome_added site page place o row a b is made =
+    let cells : texts.outcome_cells site page row ≡ outcome_cells site page place o =
+    λ i. Text site ∷ Text page ∷ Int (is.seq i) ∷ Int (is.rule i) ∷ Int (is.node i) ∷ Int (is.auto i) ∷ Text (is.reason i) ∷ Text (is.evidence i) ∷ Int (is.last i) ∷ Text (is.hand i) ∷ [] in
+    subst (λ (r : Row). Makes (ChangesOutcomes site page (put_row (name_at 2) r)) a b) cells made
+
+pub one_outcome : (site page : List ℕ) (place : ℕ) (all : List OutRow) (o : OutRow) (a b : State) → all ≡ o ∷ [] → Makes (ChangesOutcomes site page (put_row (name_at 2) (outcome_cells site page place o))) a b
+    → Makes (ChangesOutcomes site page (put_rows (name_at 2) (outcomes_cells site page place all))) a b
+one_outcome site page place all o a b is made = subst (λ (l : List OutRow). Makes (ChangesOutcomes site page (put_rows (name_at 2) (outcomes_cells site page place l))) a b) (sym is) made
+
+pub whole_outcomes : (site page : List ℕ) (outcomes : Outcomes) (rows : List OutRow) (a b c : State) → rows ≡ outcomes.rows → Makes (DropsOutcomes site page) a b
+    → Makes (ChangesOutcomes site page (put_rows (name_at 2) (outcomes_cells site page 1 rows))) b c → Makes (ChangesOutcomes site page (λ _. outcome_rows site page outcomes)) a c
+whole_outcomes site page outcomes rows a b c is first second =
+    subst (λ (l : List OutRow). Makes (ChangesOutcomes site page (λ _. put_rows (name_at 2) (outcomes_cells site page 1 l) [])) a c) is
+    (outcomes_then site page (λ _. []) (put_rows (name_at 2) (outcomes_cells site page 1 rows)) a b c first second)
+
+-- what holds of an answer that is Ok
+pub of_ok : {A E P : Type 0} (r : Result A E) (x : A) → r ≡ Ok x → OnOk r P → P
+of_ok (Ok a) x is p = p
+of_ok (Err e) x is p = let never : Err e ≡ Ok x = is in absurd cc
+
+pub single : {X : Type 0} (l : List X) (x : X) → Some x ≡ slice_get l 0 → length l < 2 → l ≡ x ∷ []
+single [] x is short = let never : Some x ≡ None = is in absurd cc
+single (y ∷ []) x is short = let same : x ≡ y = some_same x y is in ap (λ z. z ∷ []) (sym same)
+single (y ∷ z ∷ l) x is short = absurd (omega (arith, short))
+
+pub parts : {X : Type 0} (l front back : List X) (mid : ℕ) → front ≡ take mid l → back ≡ drop mid l → l ≡ front ++ back
+parts l front back mid is_front is_back = sym (take-append-drop mid l) ∙ ap₂ (λ a b. a ++ b) (sym is_front) (sym is_back)

@@ -1,0 +1,14 @@
+use Rattle.std.proofs.Common.{◌≡◌, sym, ap, ◌∙◌}
+use Rattle.keep_sql.specs.Keeper.{Keeper}
+use Rattle.keep_sql.proofs.KeepLemmas.{made_of, kept_of}
+use Rattle.keep_sql.proofs.keeper.SqlKeeperKeeper.apply.Goals as goal
+
+pub returns-in-Ok-clause-makes : goal.returns-in-Ok-clause-makes
+returns-in-Ok-clause-makes g c =
+    made_of g.S.Store c.self.inside.ready c.args.self.now.ready c.in-Some.conn c.make.new.conn c.in-Some.is (ap (λ (k : Keeper g.row.S.Denot). k.ready) (sym c.self.view_is) ∙ c.in-Some.is)
+    c.make.ensures.crash.clean c.self.invariant.ready_is c.args.batch.now.change c.requires.fits c.in-Ok.ensures.changes
+
+pub returns-in-Err-clause-makes : goal.returns-in-Err-clause-makes
+returns-in-Err-clause-makes g c =
+    kept_of g.S.Store c.self.inside.ready c.args.self.now.ready c.in-Some.conn c.make.new.conn c.in-Some.is (ap (λ (k : Keeper g.row.S.Denot). k.ready) (sym c.self.view_is) ∙ c.in-Some.is)
+    c.make.ensures.crash.clean c.self.invariant.ready_is c.args.batch.now.change c.in-Err.fault c.fault_of.result c.in-Err.ensures.changes

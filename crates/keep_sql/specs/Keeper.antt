@@ -1,0 +1,51 @@
+-- A keeper over a store.
+use Rattle.std.specs.Prelude.{◌≡◌, ◌≢◌, ℕ, Bool, false, ◌&&◌, if◌then◌else◌, Option, Some, None, IfSome, Result, Err, IsTrue, refl}
+use Rattle.std.specs.Coded.{Coded, code_by, coded×, coded_ℕ, coded_option}
+use Rattle.counts.specs.Counts.{Rose}
+use Rattle.sqlite.specs.Held.{Held, held_code, state}
+use Rattle.sqlite.specs.State.{State, HasCleanDisk}
+use Rattle.sqlite_trees.specs.declared.store.Store.{Ghosts}
+use Rattle.keep_core.specs.declared.fault.KeepFault.{KeepFault}
+use Rattle.keep_core.specs.declared.fault.KeepFault.TheVariants.{Failed}
+use Rattle.keep_core.specs.Tables.{Tables}
+use Rattle.store_texts.specs.Changes.{IsStore}
+use Rattle.store_tables.specs.Told.{tables_in}
+use Rattle.keep_sql.specs.Reading.{rows_in}
+
+-- the connection of a store that is ready, that of one that isn't yet, a store that was shut, and the count of faults
+pub record Keeper (S : Type 0) : Type 0 where
+  pub ready : Option (Held S)
+  pub waiting : Option (Held S)
+  pub shut : Option S
+  pub faults : ℕ
+
+abbrev pub keeper_code : {S : Type 0} → Coded S → Coded (Keeper S)
+keeper_code {S} store =
+    code_by (Option (Held S) × (Option (Held S) × (Option S × ℕ))) (coded× (coded_option (held_code store)) (coded× (coded_option (held_code store)) (coded× (coded_option store) coded_ℕ)))
+    (λ k. (k.ready, (k.waiting, (k.shut, k.faults)))) (λ p. record { ready = p.0; waiting = p.1.0; shut = p.1.1.0; faults = p.1.1.1 }) (λ _. refl)
+
+-- what is told of a store: what its rows tell, where it is open and clean
+abbrev pub told : State → Option Tables
+told s = if s.is_clean && s.is_open then tables_in (rows_in s) else None
+
+module _ {S : Type 0} (g : Ghosts S) where
+  -- no transaction is open, and a store that is open and clean has the tables
+  pub record IsWell (conn : Held S) : Type 0 where
+    pub idle : conn.in_transaction ≡ false
+    pub store : HasCleanDisk (state g conn) → IsTrue (state g conn).is_open → IsStore (state g conn)
+
+  pub record AreWell (ready waiting : Option (Held S)) : Type 0 where
+    pub ready_is : IfSome ready IsWell
+    pub idle : IfSome waiting (λ conn. conn.in_transaction ≡ false)
+
+  abbrev pub told_of : Option (Held S) → Option Tables
+  told_of None = None
+  told_of (Some conn) = told (state g conn)
+
+  -- before it is ready a keeper tells nothing
+  abbrev pub tables : Keeper S → Option Tables
+  tables k = told_of k.ready
+
+-- a call before it is ready fails
+abbrev pub WaitsFailing : {S A : Type 0} → Keeper S → Keeper S → Result A KeepFault → Type 0
+WaitsFailing old new result = old.ready ≡ None → (result ≡ Err Failed) × Rose old.faults new.faults

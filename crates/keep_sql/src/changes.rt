@@ -1,0 +1,199 @@
+//! Changes of what is kept, each of rows that read.
+
+ghost use Rattle.std.specs.Prelude.{◌≡◌, false};
+ghost use Rattle.std.specs.List.{All};
+ghost use Rattle.sqlite.specs.Held.{state};
+ghost use Rattle.sqlite.specs.State.{HasCleanDisk, Survives};
+ghost use Rattle.sql_rows.specs.Inside.{StaysInside};
+ghost use Rattle.keep_core.specs.declared.page.PagePut.{PagePut};
+ghost use Rattle.keep_core.specs.declared.change.Change.TheVariants as change;
+ghost use Rattle.keep_core.specs.Fits.{Fits, FitsPage};
+ghost use Rattle.store_tables.specs.Batches.{Applies, PutsPages, PutsEach, DropsWhole, ReadsPage};
+ghost use Rattle.keep_sql.specs.Writing.{MakesInside, PutsOver, ChangesStore, MayLeave};
+
+use crate::checks::{check_judged, check_kept, check_page, check_site, has_site};
+use crate::writes::{write_judgement, write_members, write_outcomes, write_page, write_site};
+use judge_core::{Judgement, Outcomes};
+use keep_core::{Change, PagePut, Site};
+use snap_tree::Text;
+use sqlite::{Alter, Connection, Transaction};
+use std::alloc::Global;
+use store_tables::StoreFault;
+use store_texts::{drop_judgements, drop_outcomes, drop_page};
+
+fn put_site<S: Alter>(
+    alloc: Global,
+    tx: &mut Transaction<'_, S>,
+    site: &Site,
+) -> Result<(), StoreFault>
+    ensures same_reference { tx.new.conn.ghost_name ≡ tx.old.conn.ghost_name }
+    ensures makes { MakesInside (Applies (change.PutSite site.now)) (state S.Store tx.old.conn.now) (state S.Store tx.new.conn.now) result }
+    ensures kept { HasCleanDisk (state S.Store tx.new.conn.now) → StaysInside (state S.Store tx.old.conn.now) (state S.Store tx.new.conn.now) result }
+    ensures survives { Survives (state S.Store tx.old.conn.now) (state S.Store tx.new.conn.now) (λ _. ⊥) }
+{
+    check_site(alloc, tx, &site.name)?;
+    let name = site.name.as_str();
+    write_site(tx, name, site.counter)?;
+    write_members(tx, name, site.members.as_slice())
+}
+
+// Puts a page over one that reads.
+fn put_one<S: Alter>(
+    alloc: Global,
+    tx: &mut Transaction<'_, S>,
+    site: &Text,
+    put: &PagePut,
+) -> Result<(), StoreFault>
+    requires fits { FitsPage put.now.page }
+    ensures same_reference { tx.new.conn.ghost_name ≡ tx.old.conn.ghost_name }
+    ensures makes { MakesInside (PutsOver site.now put.now) (state S.Store tx.old.conn.now) (state S.Store tx.new.conn.now) result }
+    ensures kept { HasCleanDisk (state S.Store tx.new.conn.now) → StaysInside (state S.Store tx.old.conn.now) (state S.Store tx.new.conn.now) result }
+    ensures survives { Survives (state S.Store tx.old.conn.now) (state S.Store tx.new.conn.now) (λ _. ⊥) }
+{
+    let page = &put.page.head.page;
+    check_page(alloc, tx, site, page)?;
+    write_page(alloc, tx, site.as_str(), &put.page)?;
+    write_outcomes(tx, site.as_str(), page.as_str(), &put.outcomes)
+}
+
+fn put_each<S: Alter>(
+    alloc: Global,
+    tx: &mut Transaction<'_, S>,
+    site: &Text,
+    puts: &[PagePut],
+) -> Result<(), StoreFault>
+    requires fits { All (λ (p : PagePut). FitsPage p.page) puts.now }
+    ensures same_reference { tx.new.conn.ghost_name ≡ tx.old.conn.ghost_name }
+    ensures makes { MakesInside (PutsEach site.now puts.now) (state S.Store tx.old.conn.now) (state S.Store tx.new.conn.now) result }
+    ensures kept { HasCleanDisk (state S.Store tx.new.conn.now) → StaysInside (state S.Store tx.old.conn.now) (state S.Store tx.new.conn.now) result }
+    ensures survives { Survives (state S.Store tx.old.conn.now) (state S.Store tx.new.conn.now) (λ _. ⊥) }
+{
+    let Some((first, rest)) = puts.split_first() else {
+        return Ok(());
+    };
+    put_one(alloc, tx, site, first)?;
+    put_each(alloc, tx, site, rest)
+}
+
+fn put_pages<S: Alter>(
+    alloc: Global,
+    tx: &mut Transaction<'_, S>,
+    site: &Text,
+    counter: u64,
+    puts: &[PagePut],
+) -> Result<(), StoreFault>
+    requires fits { All (λ (p : PagePut). FitsPage p.page) puts.now }
+    ensures same_reference { tx.new.conn.ghost_name ≡ tx.old.conn.ghost_name }
+    ensures makes { MakesInside (PutsPages site.now counter puts.now) (state S.Store tx.old.conn.now) (state S.Store tx.new.conn.now) result }
+    ensures kept { HasCleanDisk (state S.Store tx.new.conn.now) → StaysInside (state S.Store tx.old.conn.now) (state S.Store tx.new.conn.now) result }
+    ensures survives { Survives (state S.Store tx.old.conn.now) (state S.Store tx.new.conn.now) (λ _. ⊥) }
+{
+    check_kept(alloc, tx, site)?;
+    write_site(tx, site.as_str(), counter)?;
+    put_each(alloc, tx, site, puts)
+}
+
+// Takes a page out that reads, of a site that is there.
+fn take_page<S: Alter>(
+    alloc: Global,
+    tx: &mut Transaction<'_, S>,
+    site: &Text,
+    page: &Text,
+) -> Result<(), StoreFault>
+    ensures same_reference { tx.new.conn.ghost_name ≡ tx.old.conn.ghost_name }
+    ensures makes { MakesInside (λ old new. ReadsPage site.now page.now old × DropsWhole site.now page.now old new) (state S.Store tx.old.conn.now) (state S.Store tx.new.conn.now) result }
+    ensures kept { HasCleanDisk (state S.Store tx.new.conn.now) → StaysInside (state S.Store tx.old.conn.now) (state S.Store tx.new.conn.now) result }
+    ensures survives { Survives (state S.Store tx.old.conn.now) (state S.Store tx.new.conn.now) (λ _. ⊥) }
+{
+    check_page(alloc, tx, site, page)?;
+    let (site, page) = (site.as_str(), page.as_str());
+    drop_page(tx, site, page)?;
+    drop_judgements(tx, site, page)?;
+    drop_outcomes(tx, site, page)?;
+    Ok(())
+}
+
+fn take_out<S: Alter>(
+    alloc: Global,
+    tx: &mut Transaction<'_, S>,
+    site: &Text,
+    page: &Text,
+) -> Result<(), StoreFault>
+    ensures same_reference { tx.new.conn.ghost_name ≡ tx.old.conn.ghost_name }
+    ensures makes { MakesInside (Applies (change.DropPage site.now page.now)) (state S.Store tx.old.conn.now) (state S.Store tx.new.conn.now) result }
+    ensures kept { HasCleanDisk (state S.Store tx.new.conn.now) → StaysInside (state S.Store tx.old.conn.now) (state S.Store tx.new.conn.now) result }
+    ensures survives { Survives (state S.Store tx.old.conn.now) (state S.Store tx.new.conn.now) (λ _. ⊥) }
+{
+    if has_site(tx, site.as_str())? {
+        take_page(alloc, tx, site, page)
+    } else {
+        Ok(())
+    }
+}
+
+fn judge<S: Alter>(
+    alloc: Global,
+    tx: &mut Transaction<'_, S>,
+    site: &Text,
+    page: &Text,
+    judgement: &Judgement,
+    outcomes: &Outcomes,
+) -> Result<(), StoreFault>
+    ensures same_reference { tx.new.conn.ghost_name ≡ tx.old.conn.ghost_name }
+    ensures makes { MakesInside (Applies (change.AddJudgement site.now page.now judgement.now outcomes.now)) (state S.Store tx.old.conn.now) (state S.Store tx.new.conn.now) result }
+    ensures kept { HasCleanDisk (state S.Store tx.new.conn.now) → StaysInside (state S.Store tx.old.conn.now) (state S.Store tx.new.conn.now) result }
+    ensures survives { Survives (state S.Store tx.old.conn.now) (state S.Store tx.new.conn.now) (λ _. ⊥) }
+{
+    let place = check_judged(alloc, tx, site, page)?;
+    let (site, page) = (site.as_str(), page.as_str());
+    write_judgement(tx, site, page, place, judgement)?;
+    write_outcomes(tx, site, page, outcomes)
+}
+
+/// Makes a change that fits, of rows that read.
+pub fn make_inside<S: Alter>(
+    alloc: Global,
+    tx: &mut Transaction<'_, S>,
+    change: &Change,
+) -> Result<(), StoreFault>
+    requires fits { Fits change.now }
+    ensures same_reference { tx.new.conn.ghost_name ≡ tx.old.conn.ghost_name }
+    ensures makes { MakesInside (Applies change.now) (state S.Store tx.old.conn.now) (state S.Store tx.new.conn.now) result }
+    ensures kept { HasCleanDisk (state S.Store tx.new.conn.now) → StaysInside (state S.Store tx.old.conn.now) (state S.Store tx.new.conn.now) result }
+    ensures survives { Survives (state S.Store tx.old.conn.now) (state S.Store tx.new.conn.now) (λ _. ⊥) }
+{
+    match change {
+        Change::PutSite { site } => put_site(alloc, tx, site),
+        Change::PutPages {
+            site,
+            counter,
+            pages,
+        } => put_pages(alloc, tx, site, *counter, pages.as_slice()),
+        Change::DropPage { site, page } => take_out(alloc, tx, site, page),
+        Change::AddJudgement {
+            site,
+            page,
+            judgement,
+            outcomes,
+        } => judge(alloc, tx, site, page, judgement, outcomes),
+    }
+}
+
+/// The same as one transaction, whose commit is the last call. After an error nothing is changed.
+pub fn make<S: Alter>(
+    alloc: Global,
+    conn: &mut Connection<S>,
+    change: &Change,
+) -> Result<(), StoreFault>
+    requires idle { conn.old.in_transaction ≡ false }
+    requires fits { Fits change.now }
+    ensures idle { conn.new.in_transaction ≡ false }
+    ensures changes { ChangesStore change.now (state S.Store conn.old) (state S.Store conn.new) result }
+    ensures crash { Survives (state S.Store conn.old) (state S.Store conn.new) (MayLeave change.now (state S.Store conn.old)) }
+{
+    let _idle = conn.is_autocommit();
+    let mut tx = conn.transaction();
+    make_inside(alloc, &mut tx, change)?;
+    tx.commit()?;
+    Ok(())
+}
