@@ -34,7 +34,13 @@ static READINGS: [Reading; 15] = [
     (
         "ann",
         Alter("home", 2, &[Mark(2, "y")]),
-        &[Call::Site, Call::Load, Call::Judgements, Call::Apply],
+        &[
+            Call::Site,
+            Call::Load,
+            Call::Judgements,
+            Call::Outcomes,
+            Call::Apply,
+        ],
     ),
     (
         "bob",
