@@ -1,11 +1,12 @@
 -- One way through a keeper after another.
-use Rattle.std.proofs.Common.{◌≡◌, ℕ, length, ◌≤◌, List, Option, Some, None, Result, Ok, Err, IfSome, IfOk, IsErrOf, inr, refl, sym, ap, subst, ◌∙◌, arith}
+use Rattle.std.proofs.Common.{◌≡◌, ℕ, length, ◌≤◌, List, Option, Some, None, Result, Ok, Err, IfSome, IfOk, IsErrAnd, IsErrOf, inr, refl, sym, ap, subst, ◌∙◌, arith}
 use Rattle.std.proofs.lemmas.List.{length-map}
 use Rattle.counts.proofs.CountLaws.{rose_after}
 use Rattle.rule_core.specs.Books.{Book}
 use Rattle.keep_core.specs.declared.change.Change.{Change}
 use Rattle.keep_core.specs.declared.site.Site.{Site}
 use Rattle.keep_core.specs.declared.page.Page.{Page}
+use Rattle.keep_core.specs.declared.page.SitePage.{SitePage}
 use Rattle.keep_core.specs.Tables.{Tables, pages_of, site_of}
 use Rattle.keep_core.specs.Fits.{Fits, FitsSite, IsThere}
 use Rattle.desk_core.specs.declared.decided.Decided.{Decided}
@@ -19,7 +20,7 @@ use Rattle.desk_core.specs.Pages.{revision_in, judged}
 use Rattle.desk_core.specs.State.{PageState, page_state, site_state, state_of, site_at, page_at}
 use Rattle.desk_core.specs.Rights.{entering, on_page}
 use Rattle.desk_core.specs.Steps.{Request, decided}
-use Rattle.desk_core.specs.Serving.{Stands, Agrees, Accepts, IsFirm, Admits, OnlyReads, IsIn, Enters, Finds, FindsPage, Decides, page_in}
+use Rattle.desk_core.specs.Serving.{Stands, Agrees, Accepts, IsFirm, Admits, OnlyReads, IsIn, Enters, Finds, FindsPage, ReadsPage, Decides, page_in}
 use Rattle.desk_core.proofs.Deciding.{Brings, brought}
 use Rattle.desk_core.proofs.Fitted.{IfAnyFits}
 use Rattle.desk_core.proofs.Accepting.{accepted_by}
@@ -204,3 +205,20 @@ surveyed caller site page t found there js count next is by under many =
     ∙ (ap (λ (o : Option ℕ). next found o (judged (page_in site page t)) (length pages)) by
     ∙ (ap (λ (l : List Judgement). next found there l (length pages)) under
     ∙ ap (λ n. next found there js n) (length-map k.pages page_state ∙ (ap length (sym (pages_are site t k has)) ∙ many))))))
+
+-- ---- what holds of a refusal holds of the answer that is refused so
+
+pub refused_so : {A : Type 0} (P : Result A Refusal → Type 0) (result : Result A Refusal) (r : Refusal) → IsErrAnd result (λ s. s ≡ r) → P (Err r) → P result
+refused_so P (Ok x) r same holds = absurd same
+refused_so P (Err s) r same holds = subst (λ (e : Refusal). P (Err e)) (sym same) holds
+
+pub decides_so : {book : Book} {request : Request} {old new : Option Tables} {from to : ℕ} {result : Result Decided Refusal} (r : Refusal)
+    → IsErrAnd result (λ s. s ≡ r) → Decides book request old new from to (Err r) → Decides book request old new from to result
+decides_so {book} {request} {old} {new} {from} {to} {result} r same holds = refused_so (λ answer. Decides book request old new from to answer) result r same holds
+
+pub agrees_so : (fault : Type 0) (result : Result Decided Refusal) (decision : Decision) (r : Refusal) → IsErrAnd result (λ s. s ≡ r) → Agrees fault (Err r) decision → Agrees fault result decision
+agrees_so fault result decision r same holds = refused_so (λ answer. Agrees fault answer decision) result r same holds
+
+pub reads_so : {book : Book} {caller site page : List ℕ} {old new : Option Tables} {from to : ℕ} {result : Result SitePage Refusal} (r : Refusal)
+    → IsErrAnd result (λ s. s ≡ r) → ReadsPage book caller site page old new from to (Err r) → ReadsPage book caller site page old new from to result
+reads_so {book} {caller} {site} {page} {old} {new} {from} {to} {result} r same holds = refused_so (λ answer. ReadsPage book caller site page old new from to answer) result r same holds

@@ -93,8 +93,6 @@ fn build_one(alloc: Global, first: Placed) -> Result<PageWork, Refusal>
         ..
     } = first;
     let Entry { page, raw, .. } = entry;
-    match build(alloc, Some(page), raw) {
-        Ok(tree) => Ok(PageWork { tree, judgements }),
-        Err(refusal) => Err(refusal),
-    }
+    let tree = build(alloc, Some(page), raw)?;
+    Ok(PageWork { tree, judgements })
 }

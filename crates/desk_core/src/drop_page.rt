@@ -26,17 +26,15 @@ pub fn drop_page<K: Keeper>(
     ensures { (book : Book) → Decides book (record { caller = caller.now; command = DropPage sent.site sent.page sent.rev })
         (K.tables keeper.old) (K.tables keeper.new) (K.faults keeper.old) (K.faults keeper.new) result }
 {
-    match find_page(
+    let found = find_page(
         alloc,
         keeper,
         Needed::Editor,
         caller,
         &sent.site,
         &sent.page,
-    ) {
-        Ok(found) => decide(alloc, sent, &found),
-        Err(refusal) => Err(refusal),
-    }
+    )?;
+    decide(alloc, sent, &found)
 }
 
 fn decide(alloc: Global, sent: Sent, found: &Page) -> Result<Decided, Refusal>

@@ -63,10 +63,8 @@ fn edit_there<B: RuleBook>(
         + edit_judgings B.book edits.now (page_state kept.now) }
     ensures others { drop 1 books.new ≡ drop 1 books.old }
 {
-    match edit_tree(alloc, &kept.page.tree, edits) {
-        Ok(tree) => edited(alloc, books, caller, sent, site.counter, kept, tree),
-        Err(refusal) => Err(refusal),
-    }
+    let tree = edit_tree(alloc, &kept.page.tree, edits)?;
+    edited(alloc, books, caller, sent, site.counter, kept, tree)
 }
 
 // What is decided on edits of a page that was found.
@@ -131,23 +129,21 @@ pub fn edit_page<K: Keeper, B: RuleBook>(
         (site_at sent.site (state_of t)) }
     ensures others { drop 1 books.new ≡ drop 1 books.old }
 {
-    match find_whole(
+    let found = find_whole(
         alloc,
         keeper,
         Needed::Editor,
         caller,
         &sent.site,
         &sent.page,
-    ) {
-        Ok(found) => decide(
-            alloc,
-            books,
-            caller,
-            sent,
-            edits.as_slice(),
-            &found.0,
-            &found.1,
-        ),
-        Err(refusal) => Err(refusal),
-    }
+    )?;
+    decide(
+        alloc,
+        books,
+        caller,
+        sent,
+        edits.as_slice(),
+        &found.0,
+        &found.1,
+    )
 }

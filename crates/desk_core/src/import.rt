@@ -47,10 +47,8 @@ pub fn import<R: Threads + Sync, K: Keeper, B: RuleBook + Send>(
         (K.tables keeper.old) (K.tables keeper.new) (K.faults keeper.old) (K.faults keeper.new) result }
     ensures counted { sum_by B.calls books.new ≤ sum_by B.calls books.old + import_judgings B.book entries }
 {
-    match arrive(alloc, keeper, caller, &site, entries) {
-        Ok(arrival) => decide(rt, alloc, books, caller, site, arrival),
-        Err(refusal) => Err(refusal),
-    }
+    let arrival = arrive(alloc, keeper, caller, &site, entries)?;
+    decide(rt, alloc, books, caller, site, arrival)
 }
 
 // What is decided on pages, by what was found in their places.
@@ -79,10 +77,8 @@ fn decide<R: Threads + Sync, B: RuleBook + Send>(
             limit: Limit::Revisions,
         });
     }
-    match check_current(alloc, &arrival.placed) {
-        Ok(()) => import_there(rt, alloc, books, caller, site, arrival),
-        Err(refusal) => Err(refusal),
-    }
+    check_current(alloc, &arrival.placed)?;
+    import_there(rt, alloc, books, caller, site, arrival)
 }
 
 // The page of an entry isn't there.
@@ -152,13 +148,9 @@ fn import_there<R: Threads + Sync, B: RuleBook + Send>(
     let counter = arrival.counter + arrival.placed.len() as u64;
     let heads = heads_from(alloc, caller, arrival.counter, arrival.placed.as_slice())?;
     let placed = VecDeque::from_vec(arrival.placed.into_vec());
-    match build_all(rt, &alloc, busy(books.len(), placed.len()), placed) {
-        Ok(works) => {
-            let works = List::from_vec(works);
-            store_all(rt, alloc, books, site, counter, Built { heads, works })
-        }
-        Err(refusal) => Err(refusal),
-    }
+    let works = build_all(rt, &alloc, busy(books.len(), placed.len()), placed)?;
+    let works = List::from_vec(works);
+    store_all(rt, alloc, books, site, counter, Built { heads, works })
 }
 
 // Pages that are put at once, with what is said of them.

@@ -52,10 +52,8 @@ pub fn judge<K: Keeper, B: RuleBook>(
         (record { caller = caller.now; command = Judge site page said.rule said.node said.verdict said.digest said.note })
         (K.tables keeper.old) (K.tables keeper.new) (K.faults keeper.old) (K.faults keeper.new) result }
 {
-    match find_kept(alloc, keeper, Needed::Judge, caller, &site, &page) {
-        Ok(kept) => decide(alloc, book, caller, site, page, said, kept),
-        Err(refusal) => Err(refusal),
-    }
+    let kept = find_kept(alloc, keeper, Needed::Judge, caller, &site, &page)?;
+    decide(alloc, book, caller, site, page, said, kept)
 }
 
 // What is decided on a judgement of a page, whose outcomes are kept.

@@ -71,10 +71,8 @@ pub fn put_member<K: Keeper>(
     ensures { (book : Book) → Decides book (record { caller = caller.now; command = PutMember name user role })
         (K.tables keeper.old) (K.tables keeper.new) (K.faults keeper.old) (K.faults keeper.new) result }
 {
-    match enter(alloc, keeper, Needed::Owner, caller, &name) {
-        Ok(site) => decide(alloc, caller, name, user, role, site),
-        Err(refusal) => Err(refusal),
-    }
+    let site = enter(alloc, keeper, Needed::Owner, caller, &name)?;
+    decide(alloc, caller, name, user, role, site)
 }
 
 fn decide(

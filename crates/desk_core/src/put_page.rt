@@ -51,13 +51,9 @@ fn put_there<B: RuleBook>(
     ensures counted { sum_by B.calls books.new ≤ sum_by B.calls books.old + put_judgings B.book raw }
     ensures others { drop 1 books.new ≡ drop 1 books.old }
 {
-    match build(alloc, None, raw) {
-        Ok(tree) => {
-            let js = survey.judgements.as_slice();
-            renewed(alloc, books, caller, sent, survey.site.counter, js, tree)
-        }
-        Err(refusal) => Err(refusal),
-    }
+    let tree = build(alloc, None, raw)?;
+    let js = survey.judgements.as_slice();
+    renewed(alloc, books, caller, sent, survey.site.counter, js, tree)
 }
 
 // What is decided on a page, by what was found where it is to be put.
@@ -114,8 +110,6 @@ pub fn put_page<K: Keeper, B: RuleBook>(
     ensures counted { sum_by B.calls books.new ≤ sum_by B.calls books.old + put_judgings B.book raw }
     ensures others { drop 1 books.new ≡ drop 1 books.old }
 {
-    match survey_site(alloc, keeper, caller, &sent.site, &sent.page) {
-        Ok(survey) => decide(alloc, books, caller, sent, raw, &survey),
-        Err(refusal) => Err(refusal),
-    }
+    let survey = survey_site(alloc, keeper, caller, &sent.site, &sent.page)?;
+    decide(alloc, books, caller, sent, raw, &survey)
 }

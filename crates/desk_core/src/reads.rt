@@ -40,10 +40,8 @@ pub fn get_page<K: Keeper>(
     ensures { (book : Book) → Decides book (record { caller = caller.now; command = GetPage site.now page.now })
         (K.tables keeper.old) (K.tables keeper.new) (K.faults keeper.old) (K.faults keeper.new) result }
 {
-    match find_page(alloc, keeper, Needed::Reader, caller, site, page) {
-        Ok(found) => Ok(answered(Reply::Page(found))),
-        Err(refusal) => Err(refusal),
-    }
+    let found = find_page(alloc, keeper, Needed::Reader, caller, site, page)?;
+    Ok(answered(Reply::Page(found)))
 }
 
 /// The tree of a page, of whose nodes the names are wanted.
@@ -57,10 +55,8 @@ pub fn get_names<K: Keeper>(
     ensures { (book : Book) → Decides book (record { caller = caller.now; command = GetNames site.now page.now })
         (K.tables keeper.old) (K.tables keeper.new) (K.faults keeper.old) (K.faults keeper.new) result }
 {
-    match find_page(alloc, keeper, Needed::Reader, caller, site, page) {
-        Ok(found) => Ok(names_of(found)),
-        Err(refusal) => Err(refusal),
-    }
+    let found = find_page(alloc, keeper, Needed::Reader, caller, site, page)?;
+    Ok(names_of(found))
 }
 
 fn read_page<K: Keeper>(
@@ -73,13 +69,9 @@ fn read_page<K: Keeper>(
     ensures { (book : Book) → ReadsPage book caller.now site.now page.now (K.tables keeper.old) (K.tables keeper.new)
         (K.faults keeper.old) (K.faults keeper.new) result }
 {
-    match find_shown(alloc, keeper, Needed::Reader, caller, site, page) {
-        Ok((found, outcomes)) => {
-            let shown = site_page(alloc, found, outcomes)?;
-            Ok(shown)
-        }
-        Err(refusal) => Err(refusal),
-    }
+    let found = find_shown(alloc, keeper, Needed::Reader, caller, site, page)?;
+    let shown = site_page(alloc, found.0, found.1)?;
+    Ok(shown)
 }
 
 /// How a page is shown with its outcomes.
@@ -115,8 +107,6 @@ pub fn get_shown<K: Keeper>(
     ensures { (book : Book) → Decides book (record { caller = caller.now; command = asked_as showing site.now page.now })
         (K.tables keeper.old) (K.tables keeper.new) (K.faults keeper.old) (K.faults keeper.new) result }
 {
-    match read_page(alloc, keeper, caller, site, page) {
-        Ok(shown) => Ok(shown_as(showing, shown)),
-        Err(refusal) => Err(refusal),
-    }
+    let shown = read_page(alloc, keeper, caller, site, page)?;
+    Ok(shown_as(showing, shown))
 }

@@ -60,8 +60,6 @@ pub fn get_sheet<K: Keeper>(
     ensures { (book : Book) → Decides book (record { caller = caller.now; command = sheet_asked form site })
         (K.tables keeper.old) (K.tables keeper.new) (K.faults keeper.old) (K.faults keeper.new) result }
 {
-    match read_sheet(alloc, keeper, caller, site) {
-        Ok(sheet) => Ok(sheet_reply(form, sheet)),
-        Err(refusal) => Err(refusal),
-    }
+    let sheet = read_sheet(alloc, keeper, caller, site)?;
+    Ok(sheet_reply(form, sheet))
 }

@@ -1,15 +1,15 @@
 ghost use Rattle.std.specs.Prelude.{◌≡◌, ◌+◌, ◌<◌, ◌≤◌, length, sum_by, IfOk};
 ghost use Rattle.std.specs.String.{string_bytes};
-ghost use Rattle.judge_core.specs.declared.outcomes.Outcomes.{Outcomes};
-ghost use Rattle.reaudit.specs.Pages.{pages_judgings, pages_outcomes};
-ghost use Rattle.made_audit.specs.Line.{made_line, made_works, line_of};
+ghost use Rattle.reaudit.specs.Pages.{pages_judgings};
+ghost use Rattle.reports.specs.Summary.{summary_line};
+ghost use Rattle.made_audit.specs.Line.{made_line, made_works};
 
-use crate::sums::{nodes_of, sums_of};
-use crate::works::made_works;
-use judge_core::{Outcomes, infos_of};
-use reaudit::{PageWork, audit_pages};
+use crate::counted::Counted;
+use crate::span::Span;
+use crate::workers::count_pages;
+use judge_core::infos_of;
 use reports::summary_line;
-use rule_core::{RuleBook, RuleInfo};
+use rule_core::RuleBook;
 use snap_tree::{List, OutOfMemory};
 use std::alloc::Global;
 use std::thread::Threads;
@@ -29,27 +29,20 @@ pub fn made_line<R: Threads + Sync, B: RuleBook + Send>(
     ensures counted { sum_by B.calls books.new ≤ sum_by B.calls books.old
         + pages_judgings B.book (made_works number pages) }
 {
-    let works = made_works(alloc, number, pages)?;
     let infos = infos_of(alloc, &books[0])?;
-    let outcomes = audit_pages(rt, alloc, books, works.as_slice())?;
-    line_of(
-        alloc,
-        infos.as_slice(),
-        works.as_slice(),
-        outcomes.as_slice(),
-    )
+    let span = Span {
+        number,
+        earlier: 0,
+        pages,
+    };
+    let counted = count_pages(rt, alloc, infos.as_slice(), &span, books)?;
+    line_of(alloc, pages, counted)
 }
 
-// The line of pages with their outcomes.
-fn line_of(
-    alloc: Global,
-    infos: &[RuleInfo],
-    works: &[PageWork],
-    outcomes: &[Outcomes],
-) -> Result<List<u8>, OutOfMemory>
-    ensures { IfOk result (λ line. line ≡ line_of infos.now works.now outcomes.now) }
+// The line of so many pages that come to this.
+fn line_of(alloc: Global, pages: u32, counted: Counted) -> Result<List<u8>, OutOfMemory>
+    ensures { IfOk result (λ line. line ≡ summary_line pages counted.nodes counted.sums) }
 {
-    let sums = sums_of(infos, outcomes);
-    let line = summary_line(alloc, works.len(), nodes_of(works), sums)?;
+    let line = summary_line(alloc, pages as usize, counted.nodes, counted.sums)?;
     Ok(List::from_vec(line.into_bytes()))
 }

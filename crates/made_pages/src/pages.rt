@@ -7,8 +7,9 @@ use crate::page::made_page;
 use snap_tree::{BuildFault, Tree};
 use std::alloc::Global;
 
-// A page that a number makes: the tree of its rows, or their first fault.
-fn made_tree(alloc: Global, number: u32, page: u32) -> Result<Tree, BuildFault>
+/// A page that a number makes: the tree of its rows. It is refused exactly where they have a fault, with the first
+/// one; else it wants memory.
+pub fn made_tree(alloc: Global, number: u32, page: u32) -> Result<Tree, BuildFault>
     ensures tree { IfOk result (λ tree. tree ≡ page_of (made_page number page)) }
     ensures sound { OnOk result (page_fault number page ≡ None) }
     ensures fault { IfErr result (λ f. Breaks f (page_fault number page)) }

@@ -10,3 +10,11 @@ pub mod Shown
 pub mod Elsewhere
 pub mod Siting
 pub mod Dropping
+pub mod Written
+pub mod WithRows
+pub mod Paging
+pub mod Putting
+pub mod Judging
+pub mod Counting
+pub mod Applied
+pub mod Stepping

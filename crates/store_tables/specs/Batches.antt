@@ -1,14 +1,24 @@
 -- What changes of the tables do to the stored rows, and what has to be read of these before.
-use Rattle.std.specs.Prelude.{◌≡◌, ℕ, pos, List, [], ◌∷◌, map, false, IsSome}
-use Rattle.sqlite_value.specs.declared.value.Value.TheVariants.{Int, Text}
+use Rattle.std.specs.Prelude.{◌≡◌, ◌⊎◌, ℕ, suc, pos, List, [], ◌∷◌, map, length, true, false, IsSome, Ok}
+use Rattle.sqlite_value.specs.declared.value.Value.TheVariants.{Int, Text, Blob}
 use Rattle.sqlite_value.specs.Order.{Row}
 use Rattle.named_rows.specs.ByName.{put_row, put_rows, take_row}
+use Rattle.snap_json.specs.Pages.{kept_tree}
+use Rattle.rule_core.specs.Words.{word_of}
+use Rattle.judge_core.specs.declared.judgement.Judgement.{Judgement}
+use Rattle.judge_core.specs.declared.outcomes.OutRow.{OutRow}
+use Rattle.judge_core.specs.declared.outcomes.Outcomes.{Outcomes}
 use Rattle.keep_core.specs.declared.member.Member.{Member}
 use Rattle.keep_core.specs.declared.site.Site.{Site}
+use Rattle.keep_core.specs.declared.page.Page.{Page}
+use Rattle.keep_core.specs.declared.page.PagePut.{PagePut}
+use Rattle.keep_core.specs.declared.change.Change.{Change}
+use Rattle.keep_core.specs.declared.change.Change.TheVariants.{PutSite, PutPages, DropPage, AddJudgement}
 use Rattle.sql_rows.specs.Tables.{name_at}
 use Rattle.sql_rows.specs.Changes.{Changes}
 use Rattle.store_texts.specs.Stored.{Stored, site_at, members_at, page_at, heads_at, judgements_at, outcomes_at}
-use Rattle.store_tables.specs.Cells.{role_number}
+use Rattle.store_texts.specs.Changes.{PutsSite}
+use Rattle.store_tables.specs.Cells.{role_number, auto_number}
 use Rattle.store_tables.specs.Told.{is_site, is_page, site_shown, page_shown, judgements_shown, outcomes_shown}
 
 abbrev pub site_cells : Site → Row
@@ -16,6 +26,27 @@ site_cells site = Text site.name ∷ Int (pos site.counter) ∷ []
 
 abbrev pub member_cells : List ℕ → Member → Row
 member_cells site m = Text site ∷ Text m.user ∷ Int (pos (role_number m.role)) ∷ []
+
+abbrev pub page_cells : List ℕ → Page → List ℕ → Row
+page_cells site p bytes = Text site ∷ Text p.head.page ∷ Int (pos p.head.rev) ∷ Text p.head.hand ∷ Blob bytes ∷ []
+
+-- a judgement of a page, and an outcome, at a place of its list
+abbrev pub judgement_cells : List ℕ → List ℕ → ℕ → Judgement → Row
+judgement_cells site page place j =
+    Text site ∷ Text page ∷ Int (pos place) ∷ Int (pos j.rule.0) ∷ Int (pos j.node.0) ∷ Int (pos (auto_number j.verdict)) ∷ Text j.hand ∷ Text j.note ∷ Text j.evidence ∷ []
+
+abbrev pub outcome_cells : List ℕ → List ℕ → ℕ → OutRow → Row
+outcome_cells site page place o =
+    Text site ∷ Text page ∷ Int (pos place) ∷ Int (pos o.rule.0) ∷ Int (pos o.node.0) ∷ Int (pos (auto_number o.auto)) ∷ Text (word_of o.reason) ∷ Text o.evidence ∷ Int (pos (auto_number o.last)) ∷ Text o.hand ∷ []
+
+-- outcomes, the first at this place
+abbrev pub outcomes_cells : List ℕ → List ℕ → ℕ → List OutRow → List Row
+outcomes_cells site page place [] = []
+outcomes_cells site page place (o ∷ os) = outcome_cells site page place o ∷ outcomes_cells site page (suc place) os
+
+-- the rows of a page's outcomes, counted from 1
+abbrev pub outcome_rows : List ℕ → List ℕ → Outcomes → List Row
+outcome_rows site page outcomes = put_rows (name_at 2) (outcomes_cells site page 1 outcomes.rows) []
 
 -- a site's row takes the place of the one of its name, and its members that of all that it had
 pub record PutsWhole (site : Site) (old new : Stored) : Type 0 where
@@ -43,3 +74,45 @@ pub record ReadsPage (site page : List ℕ) (s : Stored) : Type 0 where
   pub outcomes : IsSome (outcomes_shown (outcomes_at site page s))
   pub unjudged : is_page s site page ≡ false → judgements_at site page s ≡ []
   pub unaudited : is_page s site page ≡ false → outcomes_at site page s ≡ []
+
+-- a page's row takes the place of the one of its name, with the bytes of its snapshot, and its outcomes that of all that
+-- it had
+pub record PutsOne (site : List ℕ) (put : PagePut) (old new : Stored) : Type 0 where
+  pub bytes : List ℕ
+  pub written : kept_tree bytes ≡ Ok put.page.tree
+  pub same : new ≡ record old { pages = new.pages; outcomes = new.outcomes }
+  pub pages : Changes (site ∷ []) (put_row (name_at 1) (page_cells site put.page bytes)) old.pages new.pages
+  pub outcomes : Changes (site ∷ put.page.head.page ∷ []) (λ _. outcome_rows site put.page.head.page put.outcomes) old.outcomes new.outcomes
+
+-- pages are put one after another, each over one that read
+abbrev pub PutsEach : List ℕ → List PagePut → Stored → Stored → Type 0
+PutsEach site [] old new = new ≡ old
+PutsEach site (put ∷ puts) old new = (mid : Stored) × ReadsPage site put.page.head.page old × PutsOne site put old mid × PutsEach site puts mid new
+
+-- a site that is kept, and that reads, gets this counter, and then pages are put
+pub record PutsPages (site : List ℕ) (counter : ℕ) (puts : List PagePut) (old new : Stored) : Type 0 where
+  pub kept : is_site old site ≡ true
+  pub reads : IsSome (site_shown site (site_at site old) (members_at site old))
+  pub mid : Stored
+  pub counts : PutsSite site (pos counter) old mid
+  pub each : PutsEach site puts mid new
+
+-- a judgement comes behind those of a page, and outcomes take the place of all that it had
+pub record AddsWhole (site page : List ℕ) (added : Judgement) (audited : Outcomes) (old new : Stored) : Type 0 where
+  pub same : new ≡ record old { judgements = new.judgements; outcomes = new.outcomes }
+  pub judgements : Changes (site ∷ page ∷ []) (put_row (name_at 2) (judgement_cells site page (suc (length (judgements_at site page old))) added)) old.judgements new.judgements
+  pub outcomes : Changes (site ∷ page ∷ []) (λ _. outcome_rows site page audited) old.outcomes new.outcomes
+
+-- a page is kept, and its judgements and outcomes read
+pub record ReadsJudged (site page : List ℕ) (s : Stored) : Type 0 where
+  pub site_kept : is_site s site ≡ true
+  pub page_kept : is_page s site page ≡ true
+  pub judgements : IsSome (judgements_shown (judgements_at site page s))
+  pub outcomes : IsSome (outcomes_shown (outcomes_at site page s))
+
+-- a change of the tables, made of rows that read; of a site that isn't kept no page is dropped
+abbrev pub Applies : Change → Stored → Stored → Type 0
+Applies (PutSite site) old new = ReadsSite site.name old × PutsWhole site old new
+Applies (PutPages site counter puts) old new = PutsPages site counter puts old new
+Applies (DropPage site page) old new = ((is_site old site ≡ true) × ReadsPage site page old × DropsWhole site page old new) ⊎ ((is_site old site ≡ false) × (new ≡ old))
+Applies (AddJudgement site page judgement outcomes) old new = ReadsJudged site page old × AddsWhole site page judgement outcomes old new

@@ -72,3 +72,8 @@ role_number Owner = 0
 role_number Editor = 1
 role_number Judge = 2
 role_number Reader = 3
+
+abbrev pub auto_number : Auto → ℕ
+auto_number Passed = 0
+auto_number Failed = 1
+auto_number CantTell = 2

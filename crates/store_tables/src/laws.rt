@@ -1,12 +1,11 @@
-ghost use Rattle.std.specs.Prelude.{◌≡◌, ℕ, List, true, Some};
-ghost use Rattle.keep_core.specs.declared.site.Site.{Site};
-ghost use Rattle.keep_core.specs.declared.change.Change.TheVariants as change;
-ghost use Rattle.keep_core.specs.Fits.{FitsSite};
+ghost use Rattle.std.specs.Prelude.{◌≡◌, ℕ, List, Some};
+ghost use Rattle.keep_core.specs.declared.change.Change.{Change};
+ghost use Rattle.keep_core.specs.Fits.{Fits};
 ghost use Rattle.keep_core.specs.Changes.{changed};
 ghost use Rattle.keep_core.specs.Tables.{Tables, site_of, page_of, heads_of, judgements_of, outcomes_of};
 ghost use Rattle.store_texts.specs.Stored.{Stored, site_at, members_at, page_at, heads_at, judgements_at, outcomes_at};
-ghost use Rattle.store_tables.specs.Batches.{PutsWhole, ReadsSite, DropsWhole, ReadsPage};
-ghost use Rattle.store_tables.specs.Told.{tables_in, is_site, site_shown, page_shown, heads_shown, judgements_shown, outcomes_shown};
+ghost use Rattle.store_tables.specs.Batches.{Applies};
+ghost use Rattle.store_tables.specs.Told.{tables_in, site_shown, page_shown, heads_shown, judgements_shown, outcomes_shown};
 
 /// Laws of reading. It does nothing: the clauses are what it is for.
 ///
@@ -27,12 +26,9 @@ pub fn laws_of_reading()
 
 /// Laws of changes. It does nothing: the clauses are what it is for.
 ///
-/// A site is put with its members, over one that read; or a page of a site that is kept is dropped that read, with its
-/// judgements and outcomes. Where rows tell tables afterwards, they told tables before too, and the change of those is
-/// these.
+/// A change is made of stored rows that read, in place of those that it replaces or drops. Where the rows tell tables
+/// afterwards, they told tables before too, and the change of those is these.
 pub fn laws_of_changes()
-    ensures put { (site : Site) (old new : Stored) → PutsWhole site old new → FitsSite site → ReadsSite site.name old
-        → (t : Tables) → tables_in new ≡ Some t → (before : Tables) × (tables_in old ≡ Some before) × (t ≡ changed (change.PutSite site) before) }
-    ensures dropped { (site page : List ℕ) (old new : Stored) → DropsWhole site page old new → is_site old site ≡ true → ReadsPage site page old
-        → (t : Tables) → tables_in new ≡ Some t → (before : Tables) × (tables_in old ≡ Some before) × (t ≡ changed (change.DropPage site page) before) }
+    ensures applied { (c : Change) (old new : Stored) → Applies c old new → Fits c
+        → (t : Tables) → tables_in new ≡ Some t → (before : Tables) × (tables_in old ≡ Some before) × (t ≡ changed c before) }
 {}

@@ -1,4 +1,4 @@
-//! Tests of the store's texts, each once over files in memory. There is no call of its own.
+//! A test of the store's texts, each run at least once over files in memory. There is no call of its own.
 #![tactic(auto)]
 
 #[cfg(test)]

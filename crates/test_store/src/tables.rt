@@ -1,3 +1,4 @@
+use sqlite::types::ValueRef;
 use sqlite::{Alter, Connection, Error, FileStore, Files, Options, Row, Transaction};
 use sqlite_disk::Memory;
 use std::alloc::Global;
@@ -19,178 +20,214 @@ fn opened(alloc: Global) -> Result<Connection<FileStore<Memory>>, Error> {
     }
 }
 
-// A number in digits, a text as it is and a blob as text, with a stroke behind each.
-fn add_cell(out: &mut String, row: &Row, at: usize) -> Result<(), Fail> {
-    if let Ok(number) = row.get::<i64>(at) {
-        write!(out, "{number}|")?;
-        return Ok(());
+// A text that writes, with its parameters.
+#[derive(Clone, Copy)]
+enum Write {
+    Site(&'static str, i64),
+    Member(&'static str, &'static str, i64),
+    NoMembers(&'static str),
+    Page(&'static str, &'static str, i64, &'static str, &'static [u8]),
+    NoPage(&'static str, &'static str),
+    Judgement(&'static str, &'static str, i64),
+    NoJudgements(&'static str, &'static str),
+    Outcome(&'static str, &'static str, i64),
+    NoOutcomes(&'static str, &'static str),
+    Edition(i64),
+}
+
+// One after another. Sites and pages are put again, and groups are dropped beside others that stay.
+static WRITES: [Write; 23] = [
+    Write::Site("acme", 1),
+    Write::Site("zeta", 5),
+    Write::Site("acme", 2),
+    Write::Member("acme", "kim", 3),
+    Write::Member("zeta", "eve", 1),
+    Write::NoMembers("zeta"),
+    Write::Member("acme", "eve", 0),
+    Write::Edition(3),
+    Write::Edition(-1),
+    Write::Page("acme", "news", 1, "eve", b"{}"),
+    Write::Page("acme", "home", 2, "kim", b"{ }"),
+    Write::Page("zeta", "home", 9, "kim", b""),
+    Write::Page("acme", "news", 3, "kim", b"[]{}"),
+    Write::Page("acme", "old", 4, "kim", b""),
+    Write::NoPage("acme", "old"),
+    Write::Judgement("acme", "home", 2),
+    Write::Judgement("acme", "home", 1),
+    Write::Judgement("acme", "news", 2),
+    Write::NoJudgements("acme", "news"),
+    Write::Outcome("acme", "home", 10),
+    Write::Outcome("acme", "home", 9),
+    Write::Outcome("acme", "news", 10),
+    Write::NoOutcomes("acme", "news"),
+];
+
+// A text that reads, with its parameters.
+#[derive(Clone, Copy)]
+enum Read {
+    Site(&'static str),
+    Members(&'static str),
+    Editions,
+    Heads(&'static str),
+    Page(&'static str, &'static str),
+    Judgements(&'static str, &'static str),
+    Outcomes(&'static str, &'static str),
+}
+
+// What is shown after them: numbers in digits, texts as they are and blobs as their lengths.
+static SHOWN: [(Read, &str); 12] = [
+    (Read::Site("acme"), "2|;"),
+    (Read::Site("acm"), ""),
+    (Read::Members("acme"), "eve|0|;kim|3|;"),
+    (Read::Members("zeta"), ""),
+    (Read::Editions, "-1|;3|;"),
+    (Read::Heads("acme"), "home|2|kim|;news|3|kim|;"),
+    (Read::Page("acme", "news"), "3|kim|4|;"),
+    (Read::Page("acme", "old"), ""),
+    (
+        Read::Judgements("acme", "home"),
+        "1|7|12|1|eve|no|a|;2|7|12|1|eve|no|a|;",
+    ),
+    (
+        Read::Outcomes("acme", "home"),
+        "9|7|12|2|blank|a|0|eve|;10|7|12|2|blank|a|0|eve|;",
+    ),
+    (Read::Judgements("acme", "news"), ""),
+    (Read::Outcomes("acme", "news"), ""),
+];
+
+fn judgement(seq: i64) -> JudgementRow<'static> {
+    JudgementRow {
+        seq,
+        rule: 7,
+        node: 12,
+        verdict: 1,
+        hand: "eve",
+        note: "no",
+        evidence: "a",
     }
-    if let Ok(text) = row.get::<String>(at) {
-        write!(out, "{text}|")?;
-        return Ok(());
+}
+
+fn outcome(seq: i64) -> OutcomeRow<'static> {
+    OutcomeRow {
+        seq,
+        rule: 7,
+        node: 12,
+        auto: 2,
+        reason: "blank",
+        evidence: "a",
+        last: 0,
+        hand: "eve",
     }
-    let bytes: Vec<u8> = row.get(at)?;
-    write!(out, "{}|", bytes.len())?;
+}
+
+fn written<S: Alter>(tx: &mut Transaction<'_, S>, write: Write) -> Result<usize, Error> {
+    match write {
+        Write::Site(site, counter) => put_site(tx, site, counter),
+        Write::Member(site, user, role) => add_member(tx, site, user, role),
+        Write::NoMembers(site) => drop_members(tx, site),
+        Write::Page(site, page, rev, hand, snapshot) => {
+            put_page(tx, site, page, rev, hand, snapshot)
+        }
+        Write::NoPage(site, page) => drop_page(tx, site, page),
+        Write::Judgement(site, page, seq) => add_judgement(tx, site, page, &judgement(seq)),
+        Write::NoJudgements(site, page) => drop_judgements(tx, site, page),
+        Write::Outcome(site, page, seq) => add_outcome(tx, site, page, &outcome(seq)),
+        Write::NoOutcomes(site, page) => drop_outcomes(tx, site, page),
+        Write::Edition(number) => add_edition(tx, number),
+    }
+}
+
+fn rows<S: Alter>(tx: &mut Transaction<'_, S>, read: Read) -> Result<Vec<Row>, Error> {
+    match read {
+        Read::Site(site) => site_row(tx, site),
+        Read::Members(site) => site_members(tx, site),
+        Read::Editions => edition_rows(tx),
+        Read::Heads(site) => heads(tx, site),
+        Read::Page(site, page) => page_row(tx, site, page),
+        Read::Judgements(site, page) => page_judgements(tx, site, page),
+        Read::Outcomes(site, page) => page_outcomes(tx, site, page),
+    }
+}
+
+fn add_number(out: &mut String, number: i64) -> Result<(), Fail> {
+    write!(out, "{number}|")?;
     Ok(())
 }
 
-fn cells(alloc: Global, rows: &[Row], width: usize) -> Result<String, Fail> {
+fn add_text(out: &mut String, text: &str) -> Result<(), Fail> {
+    out.push_str(text)?;
+    out.push('|')?;
+    Ok(())
+}
+
+fn add_cell(out: &mut String, row: &Row, at: usize) -> Result<(), Fail> {
+    match row.get_ref(at)? {
+        ValueRef::Int(number) => add_number(out, number),
+        ValueRef::Text(_) => {
+            let text: String = row.get(at)?;
+            add_text(out, text.as_str())
+        }
+        ValueRef::Blob(bytes) => add_number(out, bytes.len() as i64),
+        _ => add_text(out, "?"),
+    }
+}
+
+fn add_row(out: &mut String, row: &Row) -> Result<(), Fail> {
+    for at in 0..row.column_count() {
+        add_cell(out, row, at)?;
+    }
+    out.push(';')?;
+    Ok(())
+}
+
+fn cells(alloc: Global, rows: &[Row]) -> Result<String, Fail> {
     let mut out = String::new(alloc);
     for row in rows {
-        for at in 0..width {
-            add_cell(&mut out, row, at)?;
-        }
-        out.push(';')?;
+        add_row(&mut out, row)?;
     }
     Ok(out)
 }
 
-fn put_sites<S: Alter>(tx: &mut Transaction<'_, S>) -> Result<(), Error> {
+fn write_all<S: Alter>(tx: &mut Transaction<'_, S>, writes: &[Write]) -> Result<(), Error> {
     make_tables(tx)?;
-    put_site(tx, "acme", 1)?;
-    put_site(tx, "zeta", 5)?;
-    put_site(tx, "acme", 2)?;
+    for write in writes {
+        written(tx, *write)?;
+    }
+    Ok(())
+}
+
+fn shows<S: Alter>(
+    alloc: Global,
+    tx: &mut Transaction<'_, S>,
+    read: Read,
+    wanted: &str,
+) -> Result<bool, Fail> {
+    let rows = rows(tx, read)?;
+    let shown = cells(alloc, rows.as_slice())?;
+    Ok(shown.as_str() == wanted)
+}
+
+fn all_show<S: Alter>(
+    alloc: Global,
+    tx: &mut Transaction<'_, S>,
+    wanted: &[(Read, &'static str)],
+) -> Result<(), Fail> {
+    for case in wanted {
+        if !shows(alloc, tx, case.0, case.1)? {
+            return Err(Fail::from(case.1));
+        }
+    }
     Ok(())
 }
 
 #[test]
-fn a_site_has_the_counter_that_was_put_last(rt: HostRuntime) -> Result<(), Fail> {
+fn texts_show_what_was_written(rt: HostRuntime) -> Result<(), Fail> {
     let mut conn = opened(rt.alloc())?;
     assert!(rt; conn.is_autocommit());
     let mut tx = conn.transaction();
-    put_sites(&mut tx)?;
-    let acme = site_row(&mut tx, "acme")?;
-    assert_eq!(rt; cells(rt.alloc(), acme.as_slice(), 1)?.as_str(), "2|;");
-    let none = site_row(&mut tx, "acm")?;
-    assert_eq!(rt; none.len(), 0);
+    write_all(&mut tx, WRITES.as_slice())?;
+    all_show(rt.alloc(), &mut tx, SHOWN.as_slice())?;
     tx.commit()?;
-    Ok(())
-}
-
-fn put_members<S: Alter>(tx: &mut Transaction<'_, S>) -> Result<(), Error> {
-    make_tables(tx)?;
-    add_member(tx, "acme", "kim", 3)?;
-    add_member(tx, "zeta", "eve", 1)?;
-    drop_members(tx, "zeta")?;
-    add_member(tx, "acme", "eve", 0)?;
-    add_edition(tx, 3)?;
-    add_edition(tx, -1)?;
-    Ok(())
-}
-
-#[test]
-fn members_come_by_user_and_editions_by_number(rt: HostRuntime) -> Result<(), Fail> {
-    let mut conn = opened(rt.alloc())?;
-    assert!(rt; conn.is_autocommit());
-    let mut tx = conn.transaction();
-    put_members(&mut tx)?;
-    let acme = site_members(&mut tx, "acme")?;
-    assert_eq!(rt;
-        cells(rt.alloc(), acme.as_slice(), 2)?.as_str(),
-        "eve|0|;kim|3|;"
-    );
-    let zeta = site_members(&mut tx, "zeta")?;
-    assert_eq!(rt; zeta.len(), 0);
-    let editions = edition_rows(&mut tx)?;
-    assert_eq!(rt;
-        cells(rt.alloc(), editions.as_slice(), 1)?.as_str(),
-        "-1|;3|;"
-    );
-    Ok(())
-}
-
-fn put_pages<S: Alter>(tx: &mut Transaction<'_, S>) -> Result<(), Error> {
-    make_tables(tx)?;
-    put_page(tx, "acme", "news", 1, "eve", b"{}")?;
-    put_page(tx, "acme", "home", 2, "kim", b"{ }")?;
-    put_page(tx, "zeta", "home", 9, "kim", b"")?;
-    put_page(tx, "acme", "news", 3, "kim", b"[]{}")?;
-    put_page(tx, "acme", "old", 4, "kim", b"")?;
-    drop_page(tx, "acme", "old")?;
-    Ok(())
-}
-
-#[test]
-fn pages_come_by_name_and_one_by_its_own(rt: HostRuntime) -> Result<(), Fail> {
-    let mut conn = opened(rt.alloc())?;
-    assert!(rt; conn.is_autocommit());
-    let mut tx = conn.transaction();
-    put_pages(&mut tx)?;
-    let acme = heads(&mut tx, "acme")?;
-    assert_eq!(rt;
-        cells(rt.alloc(), acme.as_slice(), 3)?.as_str(),
-        "home|2|kim|;news|3|kim|;"
-    );
-    let news = page_row(&mut tx, "acme", "news")?;
-    assert_eq!(rt;
-        cells(rt.alloc(), news.as_slice(), 3)?.as_str(),
-        "3|kim|4|;"
-    );
-    let old = page_row(&mut tx, "acme", "old")?;
-    assert_eq!(rt; old.len(), 0);
-    Ok(())
-}
-
-static JUDGEMENT: JudgementRow<'static> = JudgementRow {
-    seq: 2,
-    rule: 7,
-    node: 12,
-    verdict: 1,
-    hand: "eve",
-    note: "no",
-    evidence: "a",
-};
-
-static OUTCOME: OutcomeRow<'static> = OutcomeRow {
-    seq: 10,
-    rule: 7,
-    node: 12,
-    auto: 2,
-    reason: "blank",
-    evidence: "a",
-    last: 0,
-    hand: "eve",
-};
-
-fn put_judgements<S: Alter>(tx: &mut Transaction<'_, S>) -> Result<(), Error> {
-    make_tables(tx)?;
-    add_judgement(tx, "acme", "home", &JUDGEMENT)?;
-    add_judgement(
-        tx,
-        "acme",
-        "home",
-        &JudgementRow {
-            seq: 1,
-            ..JUDGEMENT
-        },
-    )?;
-    add_judgement(tx, "acme", "news", &JUDGEMENT)?;
-    drop_judgements(tx, "acme", "news")?;
-    add_outcome(tx, "acme", "home", &OUTCOME)?;
-    add_outcome(tx, "acme", "home", &OutcomeRow { seq: 9, ..OUTCOME })?;
-    add_outcome(tx, "acme", "news", &OUTCOME)?;
-    drop_outcomes(tx, "acme", "news")?;
-    Ok(())
-}
-
-#[test]
-fn judgements_and_outcomes_come_by_seq(rt: HostRuntime) -> Result<(), Fail> {
-    let mut conn = opened(rt.alloc())?;
-    assert!(rt; conn.is_autocommit());
-    let mut tx = conn.transaction();
-    put_judgements(&mut tx)?;
-    let judged = page_judgements(&mut tx, "acme", "home")?;
-    assert_eq!(rt;
-        cells(rt.alloc(), judged.as_slice(), 7)?.as_str(),
-        "1|7|12|1|eve|no|a|;2|7|12|1|eve|no|a|;"
-    );
-    let outcomes = page_outcomes(&mut tx, "acme", "home")?;
-    assert_eq!(rt;
-        cells(rt.alloc(), outcomes.as_slice(), 8)?.as_str(),
-        "9|7|12|2|blank|a|0|eve|;10|7|12|2|blank|a|0|eve|;"
-    );
-    let none = page_judgements(&mut tx, "acme", "news")?.len()
-        + page_outcomes(&mut tx, "acme", "news")?.len();
-    assert_eq!(rt; none, 0);
     Ok(())
 }

@@ -5,21 +5,22 @@ use Rattle.desk_core.specs.Pages.{drop_page}
 use Rattle.desk_core.specs.Steps.{Request}
 use Rattle.desk_core.proofs.Fitted.{drop_page_fits}
 use Rattle.desk_core.proofs.Accepting.{drop_page_accepts}
-use Rattle.desk_core.proofs.Onward.{decides_page, decides_no_page}
+use Rattle.desk_core.proofs.Onward.{decides_page, decides_no_page, decides_so}
 use Rattle.desk_core.proofs.drop_page.drop_page.Goals as goal
 
-pub returns-in-Ok : goal.returns-in-Ok
-returns-in-Ok g c =
+pub returns : goal.returns
+returns g c =
     λ book.
     let sent = c.args.sent in
     let request : Request = record { caller = c.args.caller.now; command = DropPage sent.site sent.page sent.rev } in
-    decides_page book request Editor sent.site sent.page (drop_page sent.site sent.page sent.rev) (λ t. refl) _ _ _ _ c.in-Ok.found c.decide.result
-    c.in-Ok.ensures c.decide.ensures (drop_page_fits sent.site sent.page sent.rev c.in-Ok.found c.requires.site c.requires.page)
-    (drop_page_accepts sent.site sent.page sent.rev c.in-Ok.found)
+    decides_page book request Editor sent.site sent.page (drop_page sent.site sent.page sent.rev) (λ t. refl) _ _ _ _ c.in_ok-found.found c.decide.result
+    c.in_ok-found.ensures c.decide.ensures (drop_page_fits sent.site sent.page sent.rev c.in_ok-found.found c.requires.site c.requires.page)
+    (drop_page_accepts sent.site sent.page sent.rev c.in_ok-found.found)
 
-pub returns-in-Err : goal.returns-in-Err
-returns-in-Err g c =
+pub returns-in_err-found : goal.returns-in_err-found
+returns-in_err-found g c =
     λ book.
     let sent = c.args.sent in
     let request : Request = record { caller = c.args.caller.now; command = DropPage sent.site sent.page sent.rev } in
-    decides_no_page book request Editor sent.site sent.page (drop_page sent.site sent.page sent.rev) (λ t. refl) _ _ _ _ c.in-Err.refusal c.in-Err.ensures
+    decides_so c.in_err-found.field-0.0 c.from_residual.ensures.1
+    (decides_no_page book request Editor sent.site sent.page (drop_page sent.site sent.page sent.rev) (λ t. refl) _ _ _ _ c.in_err-found.field-0.0 c.in_err-found.ensures)

@@ -5,37 +5,38 @@ use Rattle.desk_core.specs.Fitting.{FitsEntries}
 use Rattle.desk_core.specs.Steps.{Request}
 use Rattle.desk_core.specs.Costs.{import_judgings}
 use Rattle.desk_core.specs.Placing.{import_placed}
-use Rattle.desk_core.proofs.Onward.{decides_by, read_as}
+use Rattle.desk_core.proofs.Onward.{decides_by, read_as, decides_so}
 use Rattle.desk_core.proofs.ImportLaws.{arrived}
 use Rattle.desk_core.proofs.Accepting.{import_placed_accepts}
 use Rattle.desk_core.proofs.ImportFits.{import_placed_fits}
 use Rattle.desk_core.proofs.import.import.Goals as goal
 
-pub returns-in-Ok-clause-decides : goal.returns-in-Ok-clause-decides
-returns-in-Ok-clause-decides g c =
+pub returns-clause-decides : goal.returns-clause-decides
+returns-clause-decides g c =
     let book : Book = g.B.RuleBook.book in
     let a = c.args in
-    let at = c.in-Ok.arrival in
+    let at = c.in_ok-arrival.arrival in
     let request : Request = record { caller = a.caller.now; command = command.Import a.site a.entries } in
     decides_by book request _ _ _ _ _ c.decide.result (import_placed book a.site a.caller.now at.counter at.pages at.placed)
-    c.in-Ok.ensures.reads c.decide.ensures.decided
-    (import_placed_fits book a.caller.now a.site at.counter at.pages at.placed c.requires.site (subst FitsEntries (sym c.in-Ok.ensures.listed) c.requires.entries))
+    c.in_ok-arrival.ensures.reads c.decide.ensures.decided
+    (import_placed_fits book a.caller.now a.site at.counter at.pages at.placed c.requires.site (subst FitsEntries (sym c.in_ok-arrival.ensures.listed) c.requires.entries))
     (import_placed_accepts book a.site a.caller.now at.counter at.pages at.placed)
     (λ t told.
-    let f = c.in-Ok.ensures.found t told in
+    let f = c.in_ok-arrival.ensures.found t told in
     arrived book a.caller.now a.site a.entries t f.0 at.counter at.pages at.placed f.1 f.2 f.3 f.4)
 
-pub returns-in-Ok-clause-counted : goal.returns-in-Ok-clause-counted
-returns-in-Ok-clause-counted g c =
+pub returns-clause-counted : goal.returns-clause-counted
+returns-clause-counted g c =
     let book : Book = g.B.RuleBook.book in
-    subst (λ es. sum_by g.B.RuleBook.calls c.decide.new.books ≤ sum_by g.B.RuleBook.calls c.args.books.now + import_judgings book es) c.in-Ok.ensures.listed c.decide.ensures.counted
+    subst (λ es. sum_by g.B.RuleBook.calls c.decide.new.books ≤ sum_by g.B.RuleBook.calls c.args.books.now + import_judgings book es) c.in_ok-arrival.ensures.listed c.decide.ensures.counted
 
-pub returns-in-Err-clause-decides : goal.returns-in-Err-clause-decides
-returns-in-Err-clause-decides g c = record {
-  reads = read_as _ _ _ _ _ c.in-Err.ensures.reads;
-  agrees = λ t told sound. c.in-Err.ensures.refused t told _;
+pub returns-in_err-arrival-clause-decides : goal.returns-in_err-arrival-clause-decides
+returns-in_err-arrival-clause-decides g c = decides_so c.in_err-arrival.field-0.0 c.from_residual.ensures.1
+    (record {
+  reads = read_as _ _ _ _ _ c.in_err-arrival.ensures.reads;
+  agrees = λ t told sound. c.in_err-arrival.ensures.refused t told _;
   fits = tt;
   there = tt;
   accepted = tt;
   firm = tt;
-}
+})

@@ -4,29 +4,30 @@ use Rattle.desk_core.specs.Steps.{Request}
 use Rattle.desk_core.specs.Pages.{put_page}
 use Rattle.desk_core.proofs.Fitted.{put_page_fits}
 use Rattle.desk_core.proofs.Accepting.{put_page_accepts}
-use Rattle.desk_core.proofs.Onward.{decides_by, surveyed, read_as}
+use Rattle.desk_core.proofs.Onward.{decides_by, surveyed, read_as, decides_so}
 use Rattle.desk_core.proofs.put_page.put_page.Goals as goal
 
-pub returns-in-Ok-clause-decides : goal.returns-in-Ok-clause-decides
-returns-in-Ok-clause-decides g c =
+pub returns-clause-decides : goal.returns-clause-decides
+returns-clause-decides g c =
     let book : Book = g.B.RuleBook.book in
     let sent = c.args.sent in
-    let at = c.in-Ok.survey in
+    let at = c.in_ok-survey.survey in
     let request : Request = record { caller = c.args.caller.now; command = PutPage sent.site sent.page sent.rev c.args.raw } in
     decides_by book request _ _ _ _ _ c.decide.result (put_page book sent.site c.args.caller.now sent.page sent.rev c.args.raw at.site at.current at.judgements at.pages)
-    c.in-Ok.ensures.reads c.decide.ensures.decided (put_page_fits book sent.site c.args.caller.now sent.page sent.rev c.args.raw at.site at.current at.judgements at.pages c.requires.site c.requires.page c.requires.address)
+    c.in_ok-survey.ensures.reads c.decide.ensures.decided (put_page_fits book sent.site c.args.caller.now sent.page sent.rev c.args.raw at.site at.current at.judgements at.pages c.requires.site c.requires.page c.requires.address)
     (put_page_accepts book sent.site c.args.caller.now sent.page sent.rev c.args.raw at.site at.current at.judgements at.pages)
     (λ t told.
-    let found = c.in-Ok.ensures.found t told in
+    let found = c.in_ok-survey.ensures.found t told in
     surveyed c.args.caller.now sent.site sent.page t at.site at.current at.judgements at.pages (put_page book sent.site c.args.caller.now sent.page sent.rev c.args.raw) found.0 found.1
     found.2 found.3)
 
-pub returns-in-Err-clause-decides : goal.returns-in-Err-clause-decides
-returns-in-Err-clause-decides g c = record {
-  reads = read_as _ _ _ _ _ c.in-Err.ensures.reads;
-  agrees = λ t told sound. c.in-Err.ensures.refused t told _;
+pub returns-in_err-survey-clause-decides : goal.returns-in_err-survey-clause-decides
+returns-in_err-survey-clause-decides g c = decides_so c.in_err-survey.field-0.0 c.from_residual.ensures.1
+    (record {
+  reads = read_as _ _ _ _ _ c.in_err-survey.ensures.reads;
+  agrees = λ t told sound. c.in_err-survey.ensures.refused t told _;
   fits = tt;
   there = tt;
   accepted = tt;
   firm = tt;
-}
+})

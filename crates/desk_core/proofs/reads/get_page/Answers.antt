@@ -5,18 +5,19 @@ use Rattle.desk_core.specs.declared.refusal.Needed.TheVariants.{Reader}
 use Rattle.desk_core.specs.declared.reply.Reply.TheVariants as reply
 use Rattle.desk_core.specs.Reading.{answered}
 use Rattle.desk_core.specs.Steps.{Request}
-use Rattle.desk_core.proofs.Onward.{decides_page, decides_no_page}
+use Rattle.desk_core.proofs.Onward.{decides_page, decides_no_page, decides_so}
 use Rattle.desk_core.proofs.reads.get_page.Goals as goal
 
-pub returns-in-Ok : goal.returns-in-Ok
-returns-in-Ok g c =
+pub returns : goal.returns
+returns g c =
     λ book.
     let request : Request = record { caller = c.args.caller.now; command = GetPage c.args.site.now c.args.page.now } in
     decides_page book request Reader c.args.site.now c.args.page.now (λ p. answered (reply.Page p)) (λ t. refl) _ _ _ _
-    c.in-Ok.found (Ok c.answered.result) c.in-Ok.ensures (ap Ok (sym c.answered.ensures)) tt tt
+    c.in_ok-found.found (Ok c.answered.result) c.in_ok-found.ensures (ap Ok (sym c.answered.ensures)) tt tt
 
-pub returns-in-Err : goal.returns-in-Err
-returns-in-Err g c =
+pub returns-in_err-found : goal.returns-in_err-found
+returns-in_err-found g c =
     λ book.
     let request : Request = record { caller = c.args.caller.now; command = GetPage c.args.site.now c.args.page.now } in
-    decides_no_page book request Reader c.args.site.now c.args.page.now (λ p. answered (reply.Page p)) (λ t. refl) _ _ _ _ c.in-Err.refusal c.in-Err.ensures
+    decides_so c.in_err-found.field-0.0 c.from_residual.ensures.1
+    (decides_no_page book request Reader c.args.site.now c.args.page.now (λ p. answered (reply.Page p)) (λ t. refl) _ _ _ _ c.in_err-found.field-0.0 c.in_err-found.ensures)
