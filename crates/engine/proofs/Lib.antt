@@ -3,3 +3,4 @@ pub mod Placing
 pub mod Earlier
 pub mod Kept
 pub mod Sums
+pub mod InOrder

@@ -1,9 +1,10 @@
 -- What is known of the nodes of a page that was edited.
-use Rattle.std.specs.Prelude.{◌≡◌, ◌==◌, ◌+◌, ◌&&◌, not, ℕ, List, [], ◌∷◌, map, Bool, true, if◌then◌else◌, Option, Some, None}
+use Rattle.std.specs.Prelude.{◌≡◌, ◌==◌, ◌+◌, ◌&&◌, not, ℕ, List, [], ◌∷◌, map, Bool, true, false, if◌then◌else◌, Option, Some, None}
 use Rattle.std.specs.BTreeMap.{BTreeMap, get}
 use Rattle.std.specs.Option.{option_or}
 use Rattle.std.specs.Ordering.{nat_cmp}
 use Rattle.snap_tree.specs.declared.row.NodeId.{NodeId}
+use Rattle.snap_tree.specs.declared.row.Row.{Row}
 use Rattle.snap_tree.specs.Trees.{Document, rows_of}
 use Rattle.acc_tree.specs.Seen.{seen}
 use Rattle.rule_core.specs.declared.info.Class.{Class}
@@ -38,6 +39,18 @@ placed_of old new n = record { node = n; known = known_of old new n }
 -- the nodes of the new page, with what is known of each
 abbrev pub ArePlaced : Document → Document → List Placed → Type 0
 ArePlaced old new placed = placed ≡ map (λ row. placed_of old new row.id) (rows_of new.trees)
+
+-- flags are of these nodes, in their order
+abbrev pub are_of : List Flags → List Row → Bool
+are_of [] [] = true
+are_of [] (row ∷ rows) = false
+are_of (f ∷ flags) [] = false
+are_of (f ∷ flags) (row ∷ rows) = f.node.0 == row.id.0 && are_of flags rows
+
+-- the nodes of flags in their order, with their places, counted from `from`
+abbrev pub in_order : ℕ → List Flags → List Placed
+in_order from [] = []
+in_order from (f ∷ flags) = record { node = f.node; known = Some (record { place = from; flags = f }) } ∷ in_order (from + 1) flags
 
 -- ---- what has to be judged
 

@@ -2,7 +2,6 @@ ghost use Rattle.std.specs.Prelude.{◌≡◌, ◌+◌, ◌≤◌, List, length,
 ghost use Rattle.std.specs.Option.{option_copied};
 ghost use Rattle.std.specs.List.{Contains};
 ghost use Rattle.snap_tree.specs.Trees.{Document};
-ghost use Rattle.snap_tree.specs.Well.{IsWell};
 ghost use Rattle.rule_core.specs.Pages.{node_count};
 ghost use Rattle.judge_core.specs.declared.judgement.Judgement.{Judgement};
 ghost use Rattle.judge_core.specs.Outcomes.{atomic_row, atomic_rows};
@@ -14,7 +13,7 @@ ghost use Rattle.engine.specs.Before.{WereRows};
 ghost use Rattle.engine.specs.Known.{placed_of, ArePlaced, class_flag, has_to_judge};
 
 use crate::before::{row_before, rows_before};
-use crate::known::{Known, Placed};
+use crate::known::{Known, Placed, well};
 use judge_core::OutRow;
 use judged_rows::{ByNode, push_row, row_again, row_of};
 use page_changes::Flags;
@@ -131,13 +130,6 @@ fn placed_rows<B: RuleBook>(
         push_row(&mut rows, row)?;
     }
     Ok(rows)
-}
-
-// A page is well. It does nothing: the clause is what it is for.
-fn well(tree: &Tree)
-    ensures { IsWell tree.now.trees }
-{
-    let _rows = tree.rows();
 }
 
 /// The rows of an atomic rule on the new page under the judgements that the map has, by the rows that it had on the old

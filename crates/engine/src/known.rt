@@ -1,9 +1,10 @@
 ghost use Rattle.std.specs.Prelude.{◌≡◌, ℕ, map, IfOk, OnOk};
 ghost use Rattle.std.specs.BTreeMap.{get};
 ghost use Rattle.std.specs.Ordering.{nat_cmp};
+ghost use Rattle.snap_tree.specs.Well.{IsWell};
 ghost use Rattle.acc_tree.specs.Seen.{seen};
 ghost use Rattle.page_changes.specs.Flags.{AreFlags};
-ghost use Rattle.engine.specs.Known.{HasEach, HasPut, placed_by, ArePlaced};
+ghost use Rattle.engine.specs.Known.{HasEach, HasPut, placed_by, ArePlaced, are_of, in_order};
 
 use page_changes::{Flags, changes};
 use snap_tree::{NodeId, OutOfMemory, Row, Tree};
@@ -62,11 +63,64 @@ fn place_all(alloc: Global, by_number: &ByNumber, rows: &[Row]) -> Result<Vec<Pl
     Ok(placed)
 }
 
+// Whether flags are of these nodes, in their order.
+fn are_of(flags: &[Flags], rows: &[Row]) -> bool
+    ensures { result ≡ are_of flags.now rows.now }
+{
+    let mut left = flags;
+    let mut right = rows;
+    loop {
+        match (left.split_first(), right.split_first()) {
+            (None, None) => return true,
+            (Some((flags, more)), Some((row, others))) => {
+                if flags.node.0 != row.id.0 {
+                    return false;
+                }
+                left = more;
+                right = others;
+            }
+            _ => return false,
+        }
+    }
+}
+
+// The nodes of these flags, in their order.
+fn place_in_order(alloc: Global, list: &[Flags]) -> Result<Vec<Placed>, OutOfMemory>
+    ensures { IfOk result (λ placed. placed.items ≡ in_order 0 list.now) }
+{
+    let mut placed = Vec::with_capacity(alloc, list.len())?;
+    let mut rest = list;
+    let mut place = 0;
+    while let Some((flags, later)) = rest.split_first() {
+        placed.push(Placed {
+            node: flags.node,
+            known: Some(Known {
+                place,
+                flags: *flags,
+            }),
+        })?;
+        place += 1;
+        rest = later;
+    }
+    Ok(placed)
+}
+
+/// A page is well. It does nothing: the clause is what it is for.
+pub(crate) fn well(tree: &Tree)
+    ensures { IsWell tree.now.trees }
+{
+    let _rows = tree.rows();
+}
+
 /// The nodes of the new page in document order, with what is known of each. Fails only for want of memory.
 pub fn known_nodes(alloc: Global, old: &Tree, new: &Tree) -> Result<Vec<Placed>, OutOfMemory>
     ensures { IfOk result (λ placed. ArePlaced old.now new.now placed.items) }
 {
+    well(old);
     let flags = changes(alloc, old, new)?;
+    if are_of(flags.as_slice(), new.rows()) {
+        return place_in_order(alloc, flags.as_slice());
+    }
     let by_number = by_number(alloc, flags.as_slice())?;
     place_all(alloc, &by_number, new.rows())
 }

@@ -1,7 +1,6 @@
-use Rattle.std.proofs.Common.{◌≡◌, [], ◌∷◌, ◌++◌, ◌∙◌, ap, sym, subst, arith}
+use Rattle.std.proofs.Common.{[], ◌∷◌, ◌++◌, ◌∙◌, ap, sym, subst, arith}
 use Rattle.std.specs.List.{AllByRecursion}
 use Rattle.rule_core.specs.Infos.{rise}
-use Rattle.judge_core.specs.Outcomes.{outcomes}
 use Rattle.judged_rows.specs.Parts.{IsPart}
 use Rattle.judged_rows.proofs.PartLaws.{all_more, infos_more}
 use Rattle.judged_rows.proofs.Anew.{orderly_rise, next_rule}

@@ -1,7 +1,5 @@
-use Rattle.std.proofs.Common.{◌≡◌, ◌+◌, ◌≤◌, length, ◌∙◌, ap, arith}
+use Rattle.std.proofs.Common.{◌∙◌, ap, arith}
 use Rattle.std.specs.List.{sum_by}
-use Rattle.judge_core.specs.Outcomes.{judgings}
-use Rattle.rule_core.specs.Reach.{affected}
 use Rattle.engine.specs.Costs.{affected_cost, whole_cost}
 use Rattle.engine.proofs.Sums.{affected_of_all, whole_of_all}
 use Rattle.engine.proofs.edited.reaudit.Goals as goal
