@@ -2,6 +2,7 @@
 
 use crate::soundness::is_sound;
 use desk_core::{Command, Entry};
+use fixture_dice::Dice;
 use fixture_pages::Node::Html;
 use fixture_pages::raw;
 use fixture_rules::Marks;
@@ -16,28 +17,6 @@ use snap_tree::{List, Text};
 use std::alloc::Global;
 use std::test::Fail;
 use std::thread::Threads;
-
-/// Numbers at random, by a linear congruence.
-#[derive(Drop)]
-struct Dice {
-    state: u64,
-}
-
-impl Dice {
-    fn below(&mut self, end: u64) -> u64 {
-        self.state = self
-            .state
-            .wrapping_mul(6_364_136_223_846_793_005)
-            .wrapping_add(1_442_695_040_888_963_407);
-        (self.state >> 33) % end.max(1)
-    }
-
-    // One of some items; the other where there are none.
-    fn pick<T: Copy>(&mut self, items: &[T], other: T) -> T {
-        let place = self.below(items.len() as u64);
-        items.get(place as usize).copied().unwrap_or(other)
-    }
-}
 
 static USERS: [&str; 4] = ["ann", "ann", "bob", "eve"];
 
@@ -253,7 +232,7 @@ fn are_sound(alloc: Global, keeper: &mut MemoryKeeper) -> Result<bool, Fail> {
 #[test]
 fn what_is_kept_stays_sound(rt: HostRuntime) -> Result<(), Fail> {
     let alloc = rt.alloc();
-    let mut dice = Dice { state: 2026 };
+    let mut dice = Dice::new(2026);
     let mut keeper = keeper_failing(alloc, &[])?;
     let mut tally = Tally::none();
     for turn in 0..20u32 {
