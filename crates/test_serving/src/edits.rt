@@ -13,7 +13,14 @@ use std::thread::Threads;
 
 // Something sent by a caller on the page, at its revision: what comes after the page's path, the caller, the revision
 // and the body; how many judgings it costs; and lines of the page's report after it.
-type Step = (&'static str, &'static str, u64, &'static str, u64, &'static [&'static str]);
+type Step = (
+    &'static str,
+    &'static str,
+    u64,
+    &'static str,
+    u64,
+    &'static [&'static str],
+);
 
 // The nodes of a page, how many judgings it costs to put it, and what is sent after that.
 type Script = (&'static str, u64, &'static [Step]);
@@ -315,5 +322,11 @@ static REFERRED: [Step; 2] = [
 #[test]
 fn a_text_that_nothing_refers_to_costs_no_link(rt: HostRuntime) -> Result<(), Fail> {
     let nodes = referring(rt.alloc())?;
-    goes(&rt, rt.alloc(), nodes.as_str(), 29 * 506, REFERRED.as_slice())
+    goes(
+        &rt,
+        rt.alloc(),
+        nodes.as_str(),
+        29 * 506,
+        REFERRED.as_slice(),
+    )
 }

@@ -33,10 +33,10 @@ returns-clause-counted g c =
 pub returns-in_err-arrival-clause-decides : goal.returns-in_err-arrival-clause-decides
 returns-in_err-arrival-clause-decides g c = decides_so c.in_err-arrival.field-0.0 c.from_residual.ensures.1
     (record {
-  reads = read_as _ _ _ _ _ c.in_err-arrival.ensures.reads;
-  agrees = λ t told sound. c.in_err-arrival.ensures.refused t told _;
-  fits = tt;
-  there = tt;
-  accepted = tt;
-  firm = tt;
-})
+      reads = read_as _ _ _ _ _ c.in_err-arrival.ensures.reads;
+      agrees = λ t told sound. c.in_err-arrival.ensures.refused t told _;
+      fits = tt;
+      there = tt;
+      accepted = tt;
+      firm = tt;
+    })

@@ -24,10 +24,10 @@ returns-clause-decides g c =
 pub returns-in_err-survey-clause-decides : goal.returns-in_err-survey-clause-decides
 returns-in_err-survey-clause-decides g c = decides_so c.in_err-survey.field-0.0 c.from_residual.ensures.1
     (record {
-  reads = read_as _ _ _ _ _ c.in_err-survey.ensures.reads;
-  agrees = λ t told sound. c.in_err-survey.ensures.refused t told _;
-  fits = tt;
-  there = tt;
-  accepted = tt;
-  firm = tt;
-})
+      reads = read_as _ _ _ _ _ c.in_err-survey.ensures.reads;
+      agrees = λ t told sound. c.in_err-survey.ensures.refused t told _;
+      fits = tt;
+      there = tt;
+      accepted = tt;
+      firm = tt;
+    })
