@@ -7,7 +7,7 @@ use Rattle.rule_core.specs.Books.{book_of}
 use Rattle.rule_core.specs.Local.{IsLocal, IsLocalBook}
 use Rattle.law_forms.proofs.Resting.{kept_alone, by_applicability}
 use Rattle.law_forms.proofs.Tables.{table_local}
-use Rattle.fixture_rules.specs.Marks.{mark_verdict, marked, marks}
+use Rattle.fixture_rules.specs.Marks.{mark_verdict, marked, alt_info, title_info, lang_info, marks}
 
 mark_local : (info : RuleInfo) (name : Attribute) → IsLocal info (marked name)
 mark_local info name = by_applicability info (marked name) (kept_alone info.applies (mark_verdict name))
@@ -17,5 +17,5 @@ pub marks_local : IsLocalBook (book_of marks)
 marks_local =
     table_local marks refl (
       λ is old new n versions k. refl,
-      (λ is. mark_local _ attribute.Alt, (λ is. mark_local _ attribute.Title, (λ is. mark_local _ attribute.Lang, (λ is old new n versions k. refl, tt)))),
+      (λ is. mark_local alt_info attribute.Alt, (λ is. mark_local title_info attribute.Title, (λ is. mark_local lang_info attribute.Lang, (λ is old new n versions k. refl, tt)))),
     )

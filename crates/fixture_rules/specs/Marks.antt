@@ -30,12 +30,21 @@ marked name = said_alone (mark_verdict name)
 abbrev pub composite : ℕ → List ℕ → List ℕ → RuleInfo
 composite number id inputs = record { no = record { 0 = number }; id = id; applies = Whole; expects = Whole; inputs = inputs }
 
+abbrev pub alt_info : RuleInfo
+alt_info = atomic 3 (codes "attr0a") SelfOnly SelfOnly
+
+abbrev pub title_info : RuleInfo
+title_info = atomic 4 (codes "attr0b") SelfOnly SelfOnly
+
+abbrev pub lang_info : RuleInfo
+lang_info = atomic 5 (codes "attr0c") SelfOnly SelfOnly
+
 -- a composite rule before its inputs, which are the rules on the attributes alt, title and lang, and one after them
 abbrev pub marks : List Entry
 marks =
     record { info = composite 1 (codes "merge1") (3 ∷ 4 ∷ 5 ∷ 0 ∷ []); says = λ page n. None }
-    ∷ record { info = atomic 3 (codes "attr0a") SelfOnly SelfOnly; says = marked attribute.Alt }
-    ∷ record { info = atomic 4 (codes "attr0b") SelfOnly SelfOnly; says = marked attribute.Title }
-    ∷ record { info = atomic 5 (codes "attr0c") SelfOnly SelfOnly; says = marked attribute.Lang }
+    ∷ record { info = alt_info; says = marked attribute.Alt }
+    ∷ record { info = title_info; says = marked attribute.Title }
+    ∷ record { info = lang_info; says = marked attribute.Lang }
     ∷ record { info = composite 9 (codes "merge2") (5 ∷ 3 ∷ 0 ∷ 0 ∷ []); says = λ page n. None }
     ∷ []

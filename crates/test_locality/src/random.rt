@@ -15,7 +15,7 @@ use std::test::Fail;
 // So many pages a test, of at most so many nodes, with at most so many edits each; at least so many of them are edited.
 const PAGES: u32 = 320;
 
-const FEWEST: u64 = 240;
+const FEWEST: u64 = 200;
 
 const MOST_NODES: u32 = 14;
 
