@@ -1,5 +1,5 @@
 -- Texts that make changes one after another.
-use Rattle.std.proofs.Common.{◌≡◌, ℕ, suc, ◌<◌, take, drop, Result, Ok, Err, OnOk, ◌+◌, List, [], ◌∷◌, ◌++◌, length, Some, None, refl, sym, ap, ap₂, subst, ◌∙◌, arith, slice_get}
+use Rattle.std.proofs.Common.{◌≡◌, ℕ, suc, ◌<◌, take, drop, Result, Ok, Err, OnOk, ◌+◌, List, [], ◌∷◌, ◌++◌, length, Some, None, sym, ap, ap₂, subst, ◌∙◌, arith, slice_get}
 use Rattle.std.proofs.lemmas.List.{take-append-drop}
 use Rattle.sqlite_value.specs.Order.{Row}
 use Rattle.sqlite_value.specs.declared.value.Value.TheVariants.{Int, Text}

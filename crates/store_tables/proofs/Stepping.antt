@@ -1,5 +1,5 @@
 -- What texts one after another make of the rows of a group, as one change.
-use Rattle.std.proofs.Common.{◌≡◌, ℕ, List, [], ◌∷◌, ap, ◌∙◌}
+use Rattle.std.proofs.Common.{ℕ, List, [], ◌∷◌, ap, ◌∙◌}
 use Rattle.sqlite_value.specs.Order.{Row}
 use Rattle.sql_rows.specs.Changes.{Changes}
 use Rattle.store_texts.specs.Stored.{Stored}
