@@ -1,5 +1,5 @@
 -- What was read before rows are replaced or dropped.
-use Rattle.std.proofs.Common.{◌≡◌, ℕ, List, [], ◌∷◌, map, true, false, Option, Some, None, option_map, is_some, IsSome, Result, Ok, Err, OnOk, refl, sym, ap, subst, ◌∙◌, true≢false}
+use Rattle.std.proofs.Common.{◌≡◌, ℕ, List, [], ◌∷◌, true, Option, Some, None, option_map, is_some, IsSome, Result, Ok, Err, OnOk, refl, sym, ap, subst, ◌∙◌, true≢false}
 use Rattle.std.specs.Option.{option_to_list}
 use Rattle.sqlite_value.specs.Order.{Row, column}
 use Rattle.sqlite.specs.State.{State, IsUnchanged}
@@ -11,7 +11,7 @@ use Rattle.judge_core.specs.declared.outcomes.Outcomes.{Outcomes}
 use Rattle.keep_core.specs.declared.site.Site.{Site}
 use Rattle.keep_core.specs.declared.page.Page.{Page}
 use Rattle.store_texts.specs.Stored.{Stored, sites_in, pages_of, site_at, members_at, page_at, heads_at, judgements_at, outcomes_at}
-use Rattle.store_tables.specs.Reading.{◌>>=◌, read_counted}
+use Rattle.store_tables.specs.Reading.{read_counted}
 use Rattle.store_tables.specs.Rows.{judgement_from, outcome_from}
 use Rattle.store_tables.specs.Told.{is_site, is_page, site_shown, page_shown, judgements_shown, outcomes_shown}
 use Rattle.store_tables.specs.Batches.{ReadsSite, ReadsPage}

@@ -1,5 +1,5 @@
 -- What a keeper tells before and after a call.
-use Rattle.std.proofs.Common.{◌≡◌, ℕ, ◌≤◌, Bool, true, false, ◌&&◌, cond, Option, Some, None, IfSome, Result, Ok, Err, OnOk, OnErr, IfOk, IsTrue, refl, sym, ap, subst, ◌∙◌, arith}
+use Rattle.std.proofs.Common.{◌≡◌, ℕ, ◌≤◌, Bool, true, false, ◌&&◌, cond, Option, Some, None, IfSome, Ok, Err, IsTrue, refl, sym, ap, subst, ◌∙◌, arith}
 use Rattle.sqlite_trees.specs.View.{doubt}
 use Rattle.sqlite_trees.proofs.Doubt.{no_doubt}
 use Rattle.sqlite_trees.specs.declared.store.Store.{Ghosts}
@@ -9,17 +9,16 @@ use Rattle.sqlite.specs.State.{State, HasCleanDisk}
 use Rattle.keep_core.specs.declared.change.Change.{Change}
 use Rattle.keep_core.specs.declared.fault.KeepFault.{KeepFault}
 use Rattle.keep_core.specs.Fits.{Fits}
-use Rattle.keep_core.specs.Keeping.{Stays, Turns, Reads, Makes}
+use Rattle.keep_core.specs.Keeping.{Stays, Reads, Makes}
 use Rattle.keep_core.specs.Tables.{Tables}
 use Rattle.store_texts.specs.Stored.{stored}
 use Rattle.store_texts.specs.Changes.{IsStore}
 use Rattle.store_tables.specs.Told.{tables_in}
-use Rattle.store_tables.specs.Batches.{Applies}
 use Rattle.store_tables.proofs.Applied.{applied}
 use Rattle.store_tables.proofs.Steps.{some_same}
 use Rattle.keep_sql.specs.Reading.{rows_in, LeavesStore}
 use Rattle.keep_sql.specs.Writing.{ChangesStore}
-use Rattle.keep_sql.specs.Keeper.{told, told_of, IsWell}
+use Rattle.keep_sql.specs.Keeper.{told, told_of, IsWell, Across}
 
 clean_of : (b : Bool) → doubt b ≡ 0 → b ≡ true
 unfolding doubt
@@ -112,3 +111,7 @@ module _ {S : Type 0} (g : Ghosts S) (inside ready : Option (Held S)) (conn new 
   kept_of change fault e changes =
       subst (λ (o : Option (Held S)). Makes {A = Unit {0}} change (told_of g o) (told (state g new)) (Err e)) (sym is)
       (record { made = tt; kept = kept_same (state g conn) (state g new) clean changes.was_open changes.kept })
+
+-- what holds of a store before and after a call, of a keeper that is ready
+pub across_of : {S : Type 0} (g : Ghosts S) (P : State → State → Type 0) (ready : Option (Held S)) (conn new : Held S) → ready ≡ Some conn → P (state g conn) (state g new) → Across g P ready (Some new)
+across_of g P ready conn new is holds = subst (λ o. Across g P o (Some new)) (sym is) holds

@@ -3,3 +3,4 @@ pub mod Checking
 pub mod Wholes
 pub mod FitLemmas
 pub mod KeepLemmas
+pub mod Noting

@@ -1,5 +1,5 @@
 -- Texts that make changes one after another.
-use Rattle.std.proofs.Common.{◌≡◌, ℕ, suc, zero, pos, ◌<◌, take, drop, Result, Ok, Err, OnOk, ◌+◌, List, [], ◌∷◌, ◌++◌, map, length, Option, Some, None, refl, sym, ap, ap₂, subst, ◌∙◌, arith, slice_get}
+use Rattle.std.proofs.Common.{◌≡◌, ℕ, suc, ◌<◌, take, drop, Result, Ok, Err, OnOk, ◌+◌, List, [], ◌∷◌, ◌++◌, length, Some, None, refl, sym, ap, ap₂, subst, ◌∙◌, arith, slice_get}
 use Rattle.std.proofs.lemmas.List.{take-append-drop}
 use Rattle.sqlite_value.specs.Order.{Row}
 use Rattle.sqlite_value.specs.declared.value.Value.TheVariants.{Int, Text}
@@ -7,14 +7,12 @@ use Rattle.sqlite.specs.State.{State}
 use Rattle.named_rows.specs.ByName.{put_row, put_rows}
 use Rattle.sql_rows.specs.Tables.{name_at}
 use Rattle.sql_rows.proofs.Canon.{put_rows_append}
-use Rattle.rule_core.specs.Words.{word_of}
 use Rattle.judge_core.specs.declared.outcomes.OutRow.{OutRow}
 use Rattle.judge_core.specs.declared.outcomes.Outcomes.{Outcomes}
-use Rattle.store_texts.specs.Stored.{Stored, stored}
+use Rattle.store_texts.specs.Stored.{Stored}
 use Rattle.store_texts.specs.declared.outcomes.OutcomeRow.{OutcomeRow}
 use Rattle.store_texts.specs.Changes.{IsReady, Makes, ChangesMembers, ChangesOutcomes, DropsOutcomes, AddsOutcome}
 use Rattle.store_texts.specs.Changes as texts
-use Rattle.store_tables.specs.Cells.{auto_number}
 use Rattle.store_tables.specs.Batches.{outcome_cells, outcomes_cells, outcome_rows}
 use Rattle.store_tables.proofs.Steps.{some_same}
 use Rattle.store_tables.proofs.Stepping.{changes_none, members_through, outcomes_through}

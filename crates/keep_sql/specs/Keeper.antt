@@ -1,16 +1,21 @@
 -- A keeper over a store.
-use Rattle.std.specs.Prelude.{◌≡◌, ◌≢◌, ℕ, Bool, false, ◌&&◌, if◌then◌else◌, Option, Some, None, IfSome, Result, Err, IsTrue, refl}
+use Rattle.std.specs.Prelude.{◌≡◌, ℕ, false, ◌&&◌, if◌then◌else◌, Option, Some, None, IfSome, Result, Err, IsTrue, refl}
 use Rattle.std.specs.Coded.{Coded, code_by, coded×, coded_ℕ, coded_option}
 use Rattle.counts.specs.Counts.{Rose}
 use Rattle.sqlite.specs.Held.{Held, held_code, state}
-use Rattle.sqlite.specs.State.{State, HasCleanDisk}
+use Rattle.sqlite.specs.State.{State, HasCleanDisk, Survives}
+use Rattle.sqlite_trees.specs.Tree.{Trees}
 use Rattle.sqlite_trees.specs.declared.store.Store.{Ghosts}
 use Rattle.keep_core.specs.declared.fault.KeepFault.{KeepFault}
 use Rattle.keep_core.specs.declared.fault.KeepFault.TheVariants.{Failed}
+use Rattle.keep_core.specs.declared.change.Change.{Change}
 use Rattle.keep_core.specs.Tables.{Tables}
 use Rattle.store_texts.specs.Changes.{IsStore}
 use Rattle.store_tables.specs.Told.{tables_in}
-use Rattle.keep_sql.specs.Reading.{rows_in}
+use Rattle.keep_sql.specs.declared.keeper.Prepared.{Prepared}
+use Rattle.keep_sql.specs.declared.keeper.Prepared.TheVariants.{Ready, OtherEdition}
+use Rattle.keep_sql.specs.Reading.{rows_in, edition_in}
+use Rattle.keep_sql.specs.Writing.{MayLeave}
 
 -- the connection of a store that is ready, that of one that isn't yet, a store that was shut, and the count of faults
 pub record Keeper (S : Type 0) : Type 0 where
@@ -45,6 +50,32 @@ module _ {S : Type 0} (g : Ghosts S) where
   -- before it is ready a keeper tells nothing
   abbrev pub tables : Keeper S → Option Tables
   tables k = told_of k.ready
+
+  -- the greatest edition that is noted of a store that is clean and open
+  abbrev pub HasEdition : ℕ → Option (Held S) → Type 0
+  HasEdition number conn = IfSome conn (λ c. HasCleanDisk (state g c) → IsTrue (state g c).is_open → edition_in (state g c) ≡ Some (Some number))
+
+  abbrev pub IsNoted : Prepared → Keeper S → Type 0
+  IsNoted Ready k = HasEdition 1 k.ready
+  IsNoted (OtherEdition number) k = HasEdition number k.waiting
+
+  -- what holds of the store of a keeper that is ready, before and after a call; one that isn't ready stays so
+  abbrev pub Across : (State → State → Type 0) → Option (Held S) → Option (Held S) → Type 0
+  Across P None new = new ≡ None
+  Across P (Some old) None = ⊥
+  Across P (Some old) (Some new) = P (state g old) (state g new)
+
+-- a crash leaves what it could leave before, as after each call that reads
+abbrev pub LeavesAll : State → State → Type 0
+LeavesAll old new = Survives old new (λ _. ⊥)
+
+-- or the change, as after one that was asked for
+abbrev pub LeavesChange : Change → State → State → Type 0
+LeavesChange change old new = Survives old new (MayLeave change old)
+
+-- and only the change, once it was made
+abbrev pub IsSettled : State → State → Type 0
+IsSettled old new = HasCleanDisk new → (db : Trees) → new.may_leave db → db ≡ new.now.trees
 
 -- a call before it is ready fails
 abbrev pub WaitsFailing : {S A : Type 0} → Keeper S → Keeper S → Result A KeepFault → Type 0

@@ -6,9 +6,9 @@ use Rattle.judge_core.specs.declared.outcomes.Outcomes.{Outcomes}
 use Rattle.keep_core.specs.declared.site.Site.{Site}
 use Rattle.keep_core.specs.declared.page.PageHead.{PageHead}
 use Rattle.keep_core.specs.declared.page.Page.{Page}
-use Rattle.store_texts.specs.Stored.{Stored, stored, site_at, members_at, page_at, heads_at, judgements_at, outcomes_at}
+use Rattle.store_texts.specs.Stored.{Stored, stored, site_at, members_at, page_at, heads_at, judgements_at, outcomes_at, editions_at}
 use Rattle.store_texts.specs.Changes.{IsStore, IsReady}
-use Rattle.store_tables.specs.Told.{site_shown, page_shown, heads_shown, judgements_shown, outcomes_shown}
+use Rattle.store_tables.specs.Told.{site_shown, page_shown, heads_shown, judgements_shown, outcomes_shown, edition_shown}
 
 abbrev pub rows_in : State → Stored
 rows_in s = stored s.now.trees
@@ -28,6 +28,10 @@ judgements_in site page s = judgements_shown (judgements_at site page (rows_in s
 
 abbrev pub outcomes_in : List ℕ → List ℕ → State → Option Outcomes
 outcomes_in site page s = outcomes_shown (outcomes_at site page (rows_in s))
+
+-- the greatest edition that is noted, if one is
+abbrev pub edition_in : State → Option (Option ℕ)
+edition_in s = edition_shown (editions_at (rows_in s))
 
 -- a call in a transaction answers what the rows are read as
 abbrev pub ReadsInside : {A E : Type 0} → (State → Option A) → State → State → Result A E → Type 0

@@ -1,13 +1,13 @@
 //! The keeper.
 
-ghost use Rattle.std.specs.Prelude.{◌≡◌, ◌≢◌, ◌≤◌, false, Ok as ok, None, Some, IfOk, IfSome, IsSome};
+ghost use Rattle.std.specs.Prelude.{◌≡◌, ◌≢◌, ◌≤◌, false, Ok as ok, None, Some, IfOk, IfSome, IsSome, OnOk};
 ghost use Rattle.counts.specs.Counts.{Rose};
 ghost use Rattle.keep_core.specs.declared.fault.KeepFault.TheVariants as keep;
 ghost use Rattle.keep_core.specs.Tables.{site_of, page_of, heads_of, judgements_of, outcomes_of};
 ghost use Rattle.keep_core.specs.Fits.{Fits, FitsSite, FitsPage, FitsHeads, IsThere};
 ghost use Rattle.keep_core.specs.Keeping.{Reads, Makes, CountsFaults};
 ghost use Rattle.keep_sql.specs.declared.keeper.Prepared.TheVariants as prepared;
-ghost use Rattle.keep_sql.specs.Keeper.{tables as told_tables, WaitsFailing};
+ghost use Rattle.keep_sql.specs.Keeper.{tables as told_tables, WaitsFailing, Across, LeavesAll, LeavesChange, IsSettled, IsNoted};
 
 use crate::calls::{read_heads, read_judgements, read_outcomes, read_page, read_site};
 use crate::{changes, preparing};
@@ -101,6 +101,7 @@ impl<S: Alter + Drop> SqlKeeper<S> {
         ensures ready { result ≡ ok prepared.Ready → IsSome self.new.ready }
         ensures waits { result ≢ ok prepared.Ready → self.new.ready ≡ None }
         ensures edition { IfOk result (λ p. (number : _) → p ≡ prepared.OtherEdition number → number ≢ 1) }
+        ensures noted { IfOk result (λ p. IsNoted S.Store p self.new) }
         ensures faults { CountsFaults self.old.faults self.new.faults result }
     {
         let Some(conn) = taken(&mut self.ready, &mut self.waiting) else {
@@ -155,6 +156,7 @@ impl<S: Alter> Keeper for SqlKeeper<S> {
         ensures fits { IfOk result (λ found. IfSome found FitsSite) }
         ensures faults { CountsFaults self.old.faults self.new.faults result }
         ensures waits { WaitsFailing self.old self.new result }
+        ensures crash { Across S.Store LeavesAll self.old.ready self.new.ready }
     {
         let Some(conn) = &mut self.ready else {
             return Err(refused(&mut self.faults));
@@ -170,6 +172,7 @@ impl<S: Alter> Keeper for SqlKeeper<S> {
         ensures fits { IfOk result (λ found. IfSome found FitsPage) }
         ensures faults { CountsFaults self.old.faults self.new.faults result }
         ensures waits { WaitsFailing self.old self.new result }
+        ensures crash { Across S.Store LeavesAll self.old.ready self.new.ready }
     {
         let Some(conn) = &mut self.ready else {
             return Err(refused(&mut self.faults));
@@ -185,6 +188,7 @@ impl<S: Alter> Keeper for SqlKeeper<S> {
         ensures fits { IfOk result FitsHeads }
         ensures faults { CountsFaults self.old.faults self.new.faults result }
         ensures waits { WaitsFailing self.old self.new result }
+        ensures crash { Across S.Store LeavesAll self.old.ready self.new.ready }
     {
         let Some(conn) = &mut self.ready else {
             return Err(refused(&mut self.faults));
@@ -204,6 +208,7 @@ impl<S: Alter> Keeper for SqlKeeper<S> {
         ensures reads { Reads (judgements_of site.now page.now) (told_tables S.Store self.old) (told_tables S.Store self.new) result }
         ensures faults { CountsFaults self.old.faults self.new.faults result }
         ensures waits { WaitsFailing self.old self.new result }
+        ensures crash { Across S.Store LeavesAll self.old.ready self.new.ready }
     {
         let Some(conn) = &mut self.ready else {
             return Err(refused(&mut self.faults));
@@ -218,6 +223,7 @@ impl<S: Alter> Keeper for SqlKeeper<S> {
         ensures reads { Reads (outcomes_of site.now page.now) (told_tables S.Store self.old) (told_tables S.Store self.new) result }
         ensures faults { CountsFaults self.old.faults self.new.faults result }
         ensures waits { WaitsFailing self.old self.new result }
+        ensures crash { Across S.Store LeavesAll self.old.ready self.new.ready }
     {
         let Some(conn) = &mut self.ready else {
             return Err(refused(&mut self.faults));
@@ -233,6 +239,8 @@ impl<S: Alter> Keeper for SqlKeeper<S> {
         ensures makes { Makes batch.now.change (told_tables S.Store self.old) (told_tables S.Store self.new) result }
         ensures faults { CountsFaults self.old.faults self.new.faults result }
         ensures waits { WaitsFailing self.old self.new result }
+        ensures crash { Across S.Store (LeavesChange batch.now.change) self.old.ready self.new.ready }
+        ensures settled { OnOk result (Across S.Store IsSettled self.old.ready self.new.ready) }
     {
         let Some(conn) = &mut self.ready else {
             return Err(refused(&mut self.faults));

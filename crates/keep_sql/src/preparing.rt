@@ -1,6 +1,6 @@
 //! A store that gets its tables, where it has none, and its edition, where none is noted.
 
-ghost use Rattle.std.specs.Prelude.{◌≡◌, false, IfOk, OnOk, IsTrue, [], pos};
+ghost use Rattle.std.specs.Prelude.{◌≡◌, false, IfOk, OnOk, IsTrue, [], pos, Some};
 ghost use Rattle.sqlite.specs.Held.{state};
 ghost use Rattle.sqlite.specs.State.{HasCleanDisk, Survives};
 ghost use Rattle.sql_rows.specs.Inside.{StaysInside};
@@ -9,10 +9,10 @@ ghost use Rattle.store_texts.specs.Schema.{schema_of};
 ghost use Rattle.store_texts.specs.Stored.{stored};
 ghost use Rattle.store_texts.specs.Changes.{IsStore, IsReady, AddsEdition};
 ghost use Rattle.store_texts.specs.Making.{HasTables, nothing};
-ghost use Rattle.keep_sql.specs.Reading.{LeavesStore, rows_in};
+ghost use Rattle.keep_sql.specs.Reading.{LeavesStore, ReadsInside, ReadsStore, edition_in, rows_in};
 ghost use Rattle.keep_sql.specs.Preparing.{IsBare, IsSound};
 
-use sqlite::{Alter, Connection, Row, Transaction};
+use sqlite::{Alter, Connection, Transaction};
 use sqlite_schema::schema::Schema;
 use std::alloc::Global;
 use store_tables::StoreFault;
@@ -44,16 +44,6 @@ fn is_bare(schema: &Schema) -> bool
     ensures { IsTrue result → schema.now ≡ schema_of [] }
 {
     schema.tables.len() == 0 && schema.indexes.len() == 0 && schema.views.len() == 0
-}
-
-// The greatest of the editions that are noted, each of which has to read.
-fn greatest(rows: &[Row]) -> Result<Option<u64>, StoreFault> {
-    let mut greatest = None;
-    for row in rows {
-        let number: u64 = row.get(0)?;
-        greatest = Some(number);
-    }
-    Ok(greatest)
 }
 
 fn make_inside<S: Alter>(tx: &mut Transaction<'_, S>) -> Result<(), StoreFault>
@@ -88,7 +78,8 @@ fn note_first<S: Alter>(conn: &mut Connection<S>) -> Result<(), StoreFault>
     requires idle { conn.old.in_transaction ≡ false }
     ensures idle { conn.new.in_transaction ≡ false }
     ensures was_open { HasCleanDisk (state S.Store conn.new) → IsTrue (state S.Store conn.new).is_open → IsTrue (state S.Store conn.old).is_open }
-    ensures made { HasCleanDisk (state S.Store conn.new) → IsStore (state S.Store conn.old) → OnOk result (IsStore (state S.Store conn.new)) }
+    ensures made { HasCleanDisk (state S.Store conn.new) → IsStore (state S.Store conn.old)
+        → OnOk result (IsStore (state S.Store conn.new) × AddsEdition (pos 1) (rows_in (state S.Store conn.old)) (rows_in (state S.Store conn.new))) }
     ensures crash { Survives (state S.Store conn.old) (state S.Store conn.new) (λ db. IsStore (state S.Store conn.old) → AddsEdition (pos 1) (rows_in (state S.Store conn.old)) (stored db)) }
 {
     let _idle = conn.is_autocommit();
@@ -98,17 +89,27 @@ fn note_first<S: Alter>(conn: &mut Connection<S>) -> Result<(), StoreFault>
     Ok(())
 }
 
+fn noted_inside<S: Alter>(tx: &mut Transaction<'_, S>) -> Result<Option<u64>, StoreFault>
+    ensures same_reference { tx.new.conn.ghost_name ≡ tx.old.conn.ghost_name }
+    ensures reads { ReadsInside edition_in (state S.Store tx.old.conn.now) (state S.Store tx.new.conn.now) result }
+    ensures kept { HasCleanDisk (state S.Store tx.new.conn.now) → StaysInside (state S.Store tx.old.conn.now) (state S.Store tx.new.conn.now) result }
+    ensures survives { Survives (state S.Store tx.old.conn.now) (state S.Store tx.new.conn.now) (λ _. ⊥) }
+{
+    let rows = edition_rows(tx)?;
+    store_tables::edition(rows.as_slice())
+}
+
 // The edition that is noted of a store, if one is.
 fn noted<S: Alter>(conn: &mut Connection<S>) -> Result<Option<u64>, StoreFault>
     requires idle { conn.old.in_transaction ≡ false }
     ensures idle { conn.new.in_transaction ≡ false }
+    ensures reads { ReadsStore edition_in (state S.Store conn.old) (state S.Store conn.new) result }
     ensures leaves { LeavesStore (state S.Store conn.old) (state S.Store conn.new) }
     ensures survives { Survives (state S.Store conn.old) (state S.Store conn.new) (λ _. ⊥) }
 {
     let _idle = conn.is_autocommit();
     let mut tx = conn.transaction();
-    let rows = edition_rows(&mut tx)?;
-    greatest(rows.as_slice())
+    noted_inside(&mut tx)
 }
 
 /// The edition of a store that was opened anew: of one that has the tables, or gets them now.
@@ -117,11 +118,13 @@ fn noted<S: Alter>(conn: &mut Connection<S>) -> Result<Option<u64>, StoreFault>
 ///
 /// `Failed` where the store has other tables, which stay as they are, where a noted edition doesn't read, or where a
 /// statement was refused for another cause than memory.
+#[tactic(auto, using(crate::proofs::Noting::first_noted, crate::proofs::Noting::none_noted))]
 pub fn prepare<S: Alter>(conn: &mut Connection<S>) -> Result<u64, StoreFault>
     requires idle { conn.old.in_transaction ≡ false }
     requires sound { HasCleanDisk (state S.Store conn.old) → IsSound (state S.Store conn.old) }
     ensures idle { conn.new.in_transaction ≡ false }
-    ensures store { HasCleanDisk (state S.Store conn.new) → IsTrue (state S.Store conn.new).is_open → OnOk result (IsStore (state S.Store conn.new)) }
+    ensures store { HasCleanDisk (state S.Store conn.new) → IsTrue (state S.Store conn.new).is_open
+        → IfOk result (λ number. IsStore (state S.Store conn.new) × (edition_in (state S.Store conn.new) ≡ Some (Some number))) }
 {
     if is_bare(conn.schema()) {
         make_store(conn)?;

@@ -5,6 +5,7 @@ use Rattle.sqlite_value.specs.Order.{Row, column}
 use Rattle.named_rows.specs.ByName.{at}
 use Rattle.judge_core.specs.declared.judgement.Judgement.{Judgement}
 use Rattle.judge_core.specs.declared.outcomes.Outcomes.{Outcomes}
+use Rattle.keep_core.specs.declared.limits.TheConstants.{MOST_REVISION}
 use Rattle.keep_core.specs.declared.site.Site.{Site}
 use Rattle.keep_core.specs.declared.page.PageHead.{PageHead}
 use Rattle.keep_core.specs.declared.page.Page.{Page}
@@ -14,6 +15,7 @@ use Rattle.keep_core.specs.Tables.{Tables}
 use Rattle.sql_rows.specs.Tables.{name_at}
 use Rattle.store_texts.specs.Stored.{Stored, sites_in, members_at, pages_of, judgements_at, outcomes_at}
 use Rattle.store_tables.specs.Reading.{◌>>=◌, read_each, read_counted}
+use Rattle.store_tables.specs.Cells.{number_in}
 use Rattle.store_tables.specs.Rows.{site_from, head_from, page_from, judgement_from, outcome_from}
 
 -- ---- what texts show, read
@@ -36,6 +38,15 @@ judgements_shown rows = read_counted judgement_from 1 rows
 
 abbrev pub outcomes_shown : List Row → Option Outcomes
 outcomes_shown rows = option_map (λ rows. record { rows = rows }) (read_counted outcome_from 1 rows)
+
+-- the last of numbers that are shown, or this where none is
+abbrev pub last_number : Option ℕ → List Row → Option (Option ℕ)
+last_number found [] = Some found
+last_number found (c ∷ cs) = number_in MOST_REVISION (column c 0) >>= (λ number. last_number (Some number) cs)
+
+-- the greatest of the editions, which are shown in order
+abbrev pub edition_shown : List Row → Option (Option ℕ)
+edition_shown rows = last_number None rows
 
 -- ---- the rows of a site
 

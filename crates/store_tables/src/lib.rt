@@ -11,4 +11,4 @@ mod rows;
 
 pub use fault::StoreFault;
 pub use laws::{laws_of_changes, laws_of_reading};
-pub use rows::{heads, judgements, members, outcomes, page, site};
+pub use rows::{edition, heads, judgements, members, outcomes, page, site};

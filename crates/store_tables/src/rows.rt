@@ -9,7 +9,7 @@ ghost use Rattle.keep_core.specs.Names.{is_name};
 ghost use Rattle.store_tables.specs.Reading.{read_each};
 ghost use Rattle.store_tables.specs.Cells.{number_in};
 ghost use Rattle.store_tables.specs.Rows.{member_from, site_from, head_from, page_from, judgement_from, outcome_from};
-ghost use Rattle.store_tables.specs.Told.{site_shown, page_shown, heads_shown, judgements_shown, outcomes_shown};
+ghost use Rattle.store_tables.specs.Told.{site_shown, page_shown, heads_shown, judgements_shown, outcomes_shown, last_number, edition_shown};
 
 use crate::cells;
 use crate::fault::StoreFault;
@@ -193,4 +193,21 @@ pub fn outcomes(alloc: Global, rows: &[Row]) -> Result<Outcomes, StoreFault>
     Ok(Outcomes {
         rows: List::from_vec(outcomes),
     })
+}
+
+fn last_number(found: Option<u64>, rows: &[Row]) -> Result<Option<u64>, StoreFault>
+    ensures { IfOk result (λ last. last_number found rows.now ≡ Some last) }
+{
+    let Some((first, rest)) = rows.split_first() else {
+        return Ok(found);
+    };
+    let number = cells::number(first, 0, MOST_REVISION)?;
+    last_number(Some(number), rest)
+}
+
+/// The greatest of the editions that are noted, if one is.
+pub fn edition(rows: &[Row]) -> Result<Option<u64>, StoreFault>
+    ensures { IfOk result (λ found. edition_shown rows.now ≡ Some found) }
+{
+    last_number(None, rows)
 }

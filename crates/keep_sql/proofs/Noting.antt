@@ -1,0 +1,41 @@
+-- The first edition, noted where none is.
+use Rattle.std.proofs.Common.{◌≡◌, ℕ, pos, List, [], ◌∷◌, map, Some, None, refl, sym, ap, ◌∙◌}
+use Rattle.sqlite_value.specs.declared.value.Value.TheVariants.{Int}
+use Rattle.sqlite_value.specs.Order.{Row, column}
+use Rattle.named_rows.specs.ByName.{put_row}
+use Rattle.sql_rows.specs.Tables.{name_at}
+use Rattle.sqlite.specs.State.{State}
+use Rattle.store_texts.specs.Stored.{Stored, editions_in, editions_at}
+use Rattle.store_texts.specs.Changes.{AddsEdition}
+use Rattle.store_texts.specs.Making.{nothing}
+use Rattle.keep_core.specs.declared.limits.TheConstants.{MOST_REVISION}
+use Rattle.store_tables.specs.Cells.{number_in}
+use Rattle.store_tables.specs.Told.{last_number, edition_shown}
+use Rattle.store_tables.proofs.Steps.{some_same, none_some, both_read}
+use Rattle.keep_sql.specs.Reading.{rows_in, edition_in}
+
+number_stays : (n : ℕ) (rows : List Row) → last_number (Some n) rows ≡ Some None → ⊥
+number_stays n [] is = none_some n (sym (some_same (Some n) None is))
+number_stays n (c ∷ cs) is = let a = both_read (number_in MOST_REVISION (column c 0)) (λ number. last_number (Some number) cs) None is in number_stays a.0 cs a.2
+
+-- where none is noted there are no rows
+none_shown : (rows : List Row) → edition_shown rows ≡ Some None → rows ≡ []
+none_shown [] is = refl
+none_shown (c ∷ cs) is = let a = both_read (number_in MOST_REVISION (column c 0)) (λ number. last_number (Some number) cs) None is in absurd (number_stays a.0 cs a.2)
+
+map_none : {A B : Type 0} (f : A → B) (xs : List A) → map f xs ≡ [] → xs ≡ []
+map_none f [] none = refl
+map_none f (x ∷ xs) none = absurd cc
+
+noted_over : (old new : Stored) → editions_in old ≡ [] → AddsEdition (pos 1) old new → edition_shown (editions_at new) ≡ Some (Some 1)
+noted_over old new none adds =
+    let rows : editions_in new ≡ (Int (pos 1) ∷ []) ∷ [] = adds.1.there ∙ ap (put_row (name_at 0) (Int (pos 1) ∷ [])) none in
+    ap (λ (rs : List Row). edition_shown (map (λ r. column r 0 ∷ []) rs)) rows
+
+-- a store that had no tables
+pub first_noted : (new : State) → AddsEdition (pos 1) nothing (rows_in new) → edition_in new ≡ Some (Some 1)
+first_noted new adds = noted_over nothing (rows_in new) refl adds
+
+-- and one in which none was noted
+pub none_noted : (old new : State) → edition_in old ≡ Some None → AddsEdition (pos 1) (rows_in old) (rows_in new) → edition_in new ≡ Some (Some 1)
+none_noted old new none adds = noted_over (rows_in old) (rows_in new) (map_none (λ r. column r 0 ∷ []) (editions_in (rows_in old)) (none_shown (editions_at (rows_in old)) none)) adds
