@@ -1,5 +1,5 @@
 -- Texts that make changes one after another.
-use Rattle.std.proofs.Common.{◌≡◌, ℕ, suc, ◌<◌, take, drop, Result, Ok, Err, OnOk, ◌+◌, List, [], ◌∷◌, ◌++◌, length, Some, None, refl, sym, ap, ap₂, subst, ◌∙◌, arith, slice_get}
+use Rattle.std.proofs.Common.{◌≡◌, ℕ, suc, ◌<◌, take, drop, Result, Ok, Err, OnOk, ◌+◌, List, [], ◌∷◌, ◌++◌, length, Some, None, sym, ap, ap₂, subst, ◌∙◌, arith, slice_get}
 use Rattle.std.proofs.lemmas.List.{take-append-drop}
 use Rattle.sqlite_value.specs.Order.{Row}
 use Rattle.sqlite_value.specs.declared.value.Value.TheVariants.{Int, Text}
@@ -15,7 +15,7 @@ use Rattle.store_texts.specs.Changes.{IsReady, Makes, ChangesMembers, ChangesOut
 use Rattle.store_texts.specs.Changes as texts
 use Rattle.store_tables.specs.Batches.{outcome_cells, outcomes_cells, outcome_rows}
 use Rattle.store_tables.proofs.Steps.{some_same}
-use Rattle.store_tables.proofs.Stepping.{changes_none, members_through, outcomes_through}
+use Rattle.store_tables.proofs.Stepping.{outcomes_through}
 use Rattle.keep_sql.specs.Reading.{rows_in}
 use Rattle.keep_sql.specs.Writing.{IsRowOf}
 
@@ -23,21 +23,9 @@ use Rattle.keep_sql.specs.Writing.{IsRowOf}
 pub makes_then : (A B C : Stored → Stored → Type 0) (a b c : State) → ((x y z : Stored) → A x y → B y z → C x z) → Makes A a b → Makes B b c → Makes C a c
 makes_then A B C a b c both first second = record { ready = second.ready; change = both (rows_in a) (rows_in b) (rows_in c) first.change second.change }
 
-pub makes_none : (C : Stored → Stored → Type 0) (a : State) → ((x : Stored) → C x x) → IsReady a → Makes C a a
-makes_none C a same ready = record { ready = ready; change = same (rows_in a) }
-
-pub members_then : (site : List ℕ) (f g : List Row → List Row) (a b c : State) → Makes (ChangesMembers site f) a b → Makes (ChangesMembers site g) b c → Makes (ChangesMembers site (λ rows. g (f rows))) a c
-members_then site f g a b c = makes_then (ChangesMembers site f) (ChangesMembers site g) (ChangesMembers site (λ rows. g (f rows))) a b c (λ x y z. members_through site x y z f g)
-
-pub members_none : (site : List ℕ) (a : State) → IsReady a → Makes (ChangesMembers site (λ rows. rows)) a a
-members_none site a = makes_none (ChangesMembers site (λ rows. rows)) a (λ x. (refl, changes_none (site ∷ []) x.members))
-
 pub outcomes_then : (site page : List ℕ) (f g : List Row → List Row) (a b c : State) → Makes (ChangesOutcomes site page f) a b → Makes (ChangesOutcomes site page g) b c
     → Makes (ChangesOutcomes site page (λ rows. g (f rows))) a c
-outcomes_then site page f g a b c = makes_then (ChangesOutcomes site page f) (ChangesOutcomes site page g) (ChangesOutcomes site page (λ rows. g (f rows))) a b c (λ x y z. outcomes_through site x y z page f g)
-
-pub outcomes_none : (site page : List ℕ) (a : State) → IsReady a → Makes (ChangesOutcomes site page (λ rows. rows)) a a
-outcomes_none site page a = makes_none (ChangesOutcomes site page (λ rows. rows)) a (λ x. (refl, changes_none (site ∷ page ∷ []) x.outcomes))
+outcomes_then site page f g a b c = makes_then (ChangesOutcomes site page f) (ChangesOutcomes site page g) (ChangesOutcomes site page (λ rows. g (f rows))) a b c (λ x y z. outcomes_through site page x y z f g)
 
 cells_append : (site page : List ℕ) (place next : ℕ) (xs ys : List OutRow) → next ≡ place + length xs → outcomes_cells site page place (xs ++ ys) ≡ outcomes_cells site page place xs ++ outcomes_cells site page next ys
 cells_append site page place next [] ys is = let same : place ≡ next = omega (arith, is) in ap (λ n. outcomes_cells site page n ys) same

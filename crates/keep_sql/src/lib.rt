@@ -1,6 +1,7 @@
-//! Reading what the desk keeps from a store in SQLite.
+//! The keeper over a store in SQLite.
 //!
-//! Each call reads in a transaction of its own, and leaves the store as it was. Start with [`read_site`].
+//! It tells what the rows of the store tell, once it is prepared; each of its calls is one transaction. Start with
+//! [`SqlKeeper::new`] and [`SqlKeeper::prepare`].
 #![tactic(auto)]
 
 mod calls;
