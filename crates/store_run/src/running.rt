@@ -20,6 +20,7 @@ use streams::{Sink, Source};
 /// and the status is 9. Where the store can't be prepared it is 6, with the line `store fault`, and 8 for want of memory,
 /// with `no memory`; nothing else is done then either. Where such a line can't be written the status is 4. There is one book
 /// or more, and the door doesn't listen yet.
+#[tactic(auto, using(crate::proofs::Told::store_refused))]
 pub fn run_store<
     R: Threads + Sync,
     I: Source,
