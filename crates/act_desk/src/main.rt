@@ -15,7 +15,8 @@ use tcp_door::{Patience, TcpDoor};
 
 fn main(rt: HostRuntime) -> ExitCode {
     let alloc = rt.alloc();
-    let (mut out, mut err) = (Writer::new(rt.stdout()), Writer::new(rt.stderr()));
+    let mut out = Writer::new(rt.stdout());
+    let mut err = Writer::new(rt.stderr());
     let asked = match read_arguments(&rt) {
         Ok(asked) => asked,
         Err(found) => return ending(&mut out, &mut err, &found),
@@ -23,19 +24,19 @@ fn main(rt: HostRuntime) -> ExitCode {
     let Ok(mut books) = made_books(alloc) else {
         return ending(&mut out, &mut err, &Found::NoMemory);
     };
-    let (words, books) = (&asked.words, &mut books);
+    let words = &asked.words;
     let mut input = Reader::new(rt.stdin());
     let mut door = TcpDoor::new(&rt, Patience::usual());
     let number = match asked.place {
         Place::Memory => {
             let mut kept = MemoryKeeper::new(alloc, List::from_vec(Vec::new(alloc)));
             run(
-                &rt, alloc, words, &mut input, &mut out, &mut err, &mut kept, &mut door, books,
+                &rt, alloc, words, &mut input, &mut out, &mut err, &mut kept, &mut door, &mut books,
             )
         }
         Place::File { path } => match opened(&rt, path.as_str()) {
             Ok(mut kept) => run_store(
-                &rt, alloc, words, &mut input, &mut out, &mut err, &mut kept, &mut door, books,
+                &rt, alloc, words, &mut input, &mut out, &mut err, &mut kept, &mut door, &mut books,
             ),
             Err(found) => return ending(&mut out, &mut err, &found),
         },
