@@ -1,38 +1,59 @@
-//! The accessibility audit desk, as a program: `act_desk STORE COMMAND ..`. What a command does stands in `desk_run`,
-//! over any source, sinks, keeper, door and books of rules. The adapters over standard input, output and error and over
-//! TCP, and `main`, are the trusted edge.
+//! The accessibility audit desk, as a program: `act_desk STORE COMMAND ..`. What a command does stands in `desk_run`, and
+//! over a store in `store_run`, over any source, sinks, keeper, door and books of rules. The adapters over standard input,
+//! output and error, over TCP and over a file, and what stands here, are the trusted edge.
 #![tactic(auto)]
 
-use desk_run::{Found, command_words, made_books, run, tell};
+use desk_run::{Found, made_books, run, tell};
 use keep_core::MemoryKeeper;
+use keep_sql::SqlKeeper;
 use snap_tree::List;
+use sqlite::{Connection, Error, ErrorCode, File, FileStore};
 use std::process::ExitCode;
-use streams::{Reader, Writer};
+use store_run::{Place, read_arguments, run_store};
+use streams::{Reader, Sink, Writer};
 use tcp_door::{Patience, TcpDoor};
 
 fn main(rt: HostRuntime) -> ExitCode {
+    let alloc = rt.alloc();
     let mut out = Writer::new(rt.stdout());
     let mut err = Writer::new(rt.stderr());
-    let words = match command_words(&rt) {
-        Ok(words) => words,
-        Err(found) => return ExitCode::from(tell(&mut out, &mut err, &found).number()),
+    let asked = match read_arguments(&rt) {
+        Ok(asked) => asked,
+        Err(found) => return ending(&mut out, &mut err, &found),
     };
-    let mut books = match made_books(rt.alloc()) {
-        Ok(books) => books,
-        Err(_) => return ExitCode::from(tell(&mut out, &mut err, &Found::NoMemory).number()),
+    let Ok(mut books) = made_books(alloc) else {
+        return ending(&mut out, &mut err, &Found::NoMemory);
     };
+    let words = &asked.words;
     let mut input = Reader::new(rt.stdin());
-    let mut keeper = MemoryKeeper::new(rt.alloc(), List::from_vec(Vec::new(rt.alloc())));
     let mut door = TcpDoor::new(&rt, Patience::usual());
-    ExitCode::from(run(
-        &rt,
-        rt.alloc(),
-        &words,
-        &mut input,
-        &mut out,
-        &mut err,
-        &mut keeper,
-        &mut door,
-        &mut books,
-    ))
+    let number = match asked.place {
+        Place::Memory => {
+            let mut kept = MemoryKeeper::new(alloc, List::from_vec(Vec::new(alloc)));
+            run(
+                &rt, alloc, words, &mut input, &mut out, &mut err, &mut kept, &mut door, &mut books,
+            )
+        }
+        Place::File { path } => match opened(&rt, path.as_str()) {
+            Ok(mut kept) => run_store(
+                &rt, alloc, words, &mut input, &mut out, &mut err, &mut kept, &mut door, &mut books,
+            ),
+            Err(found) => return ending(&mut out, &mut err, &found),
+        },
+    };
+    ExitCode::from(number)
+}
+
+// The program ends by what is found before a run.
+fn ending<O: Sink, E: Sink>(out: &mut O, err: &mut E, found: &Found) -> ExitCode {
+    ExitCode::from(tell(out, err, found).number())
+}
+
+// A keeper over the file of this name, which is made where there is none.
+fn opened(rt: &HostRuntime, path: &str) -> Result<SqlKeeper<FileStore<File>>, Found> {
+    match Connection::open(rt, path) {
+        Ok(conn) => Ok(SqlKeeper::new(conn)),
+        Err(Error::SqliteFailure(ErrorCode::OutOfMemory)) => Err(Found::NoMemory),
+        Err(_) => Err(Found::StoreFault),
+    }
 }

@@ -1,0 +1,49 @@
+-- What a run over a store does.
+use Rattle.std.specs.Prelude.{◌≡◌, ◌≢◌, ℕ, ◌≤◌, ◌⊎◌, List, None, IsSome}
+use Rattle.counts.specs.Counts.{Rose}
+use Rattle.sqlite_trees.specs.declared.store.Store.{Ghosts}
+use Rattle.rule_core.specs.Books.{Book}
+use Rattle.streams.specs.Told.{Outside}
+use Rattle.keep_sql.specs.Keeper.{Keeper, tables, HasEdition}
+use Rattle.desk_run.specs.Desk.{Desk}
+use Rattle.desk_run.specs.Run.{Runs}
+use Rattle.store_run.specs.declared.refusal.Refusal.{Refusal}
+use Rattle.store_run.specs.declared.refusal.Refusal.TheVariants.{OtherEdition, StoreFault, NoMemory}
+use Rattle.store_run.specs.Refusal.{TellsRefusal}
+
+-- Nothing was read, nothing was written on standard output, the door was asked nothing, and no book judged. The keeper
+-- isn't ready, and tells no tables.
+pub record IsUntouched {L : Type 0} (old new : Outside) (before now : Desk L) : Type 0 where
+  pub input : new.input ≡ old.input
+  pub out : new.out ≡ old.out
+  pub door : now.door ≡ before.door
+  pub log : now.log ≡ before.log
+  pub calls : now.calls ≡ before.calls
+  pub tells_none : now.tables ≡ None
+  pub never_falls : before.faults ≤ now.faults
+
+module _ {S : Type 0} (g : Ghosts S) where
+  -- why a store isn't run over: the edition that its rows note, where it is clean and open, or a fault that the keeper counted
+  abbrev pub RefusalCause : Refusal → Keeper S → Keeper S → Type 0
+  RefusalCause (OtherEdition number) old new = (number ≢ 1) × HasEdition g number new.waiting
+  RefusalCause StoreFault old new = Rose old.faults new.faults
+  RefusalCause NoMemory old new = Unit {0}
+
+  -- the store is refused
+  pub record IsRefused {L : Type 0} (keeper keeper' : Keeper S) (old new : Outside) (before now : Desk L) (number : ℕ) : Type 0 where
+    pub refusal : Refusal
+    pub cause : RefusalCause refusal keeper keeper'
+    pub untouched : IsUntouched old new before now
+    pub told : TellsRefusal refusal old.err new.err number
+
+  -- the store is ready, and is run over as it is then
+  pub record IsRunOver {L : Type 0} (book : Book) (words : List (List ℕ)) (old new : Outside) (before now : Desk L) (number : ℕ) : Type 0 where
+    pub prepared : Keeper S
+    pub ready : IsSome prepared.ready
+    pub edition : HasEdition g 1 prepared.ready
+    pub never_falls : before.faults ≤ prepared.faults
+    pub runs : Runs book words old new (record before { tables = tables g prepared; faults = prepared.faults }) now number
+
+  abbrev pub RunsStore : {L : Type 0} → Book → List (List ℕ) → Keeper S → Keeper S → Outside → Outside → Desk L → Desk L → ℕ → Type 0
+  RunsStore book words keeper keeper' old new before now number =
+      IsRunOver book words old new before now number ⊎ IsRefused keeper keeper' old new before now number

@@ -1,0 +1,60 @@
+ghost use Rattle.std.specs.Prelude.{◌≡◌, ◌<◌, None, map, vec_len};
+ghost use Rattle.keep_sql.specs.Keeper.{tables};
+ghost use Rattle.store_run.specs.Run.{RunsStore};
+
+use crate::refusal::{Refusal, refuse};
+use desk_run::run;
+use keep_core::KeepFault;
+use keep_sql::{Prepared, SqlKeeper};
+use links::Door;
+use rule_core::RuleBook;
+use snap_tree::{List, Text};
+use sqlite::Alter;
+use std::alloc::Global;
+use std::thread::Threads;
+use streams::{Sink, Source};
+
+/// Prepares a store, and then does what `run` does over it, with the same status.
+///
+/// Where the store's rows are of another edition than 1 nothing is done but that `err` says `edition fault` and its number,
+/// and the status is 9. Where the store can't be prepared it is 6, with the line `store fault`, and 8 for want of memory,
+/// with `no memory`; nothing else is done then either. Where such a line can't be written the status is 4. There is one book
+/// or more, and the door doesn't listen yet.
+#[tactic(auto, using(crate::proofs::Told::store_refused))]
+pub fn run_store<
+    R: Threads + Sync,
+    I: Source,
+    O: Sink,
+    E: Sink,
+    S: Alter + Drop,
+    D: Door,
+    B: RuleBook + Send,
+>(
+    rt: &R,
+    alloc: Global,
+    words: &List<Text>,
+    input: &mut I,
+    out: &mut O,
+    err: &mut E,
+    keeper: &mut SqlKeeper<S>,
+    door: &mut D,
+    books: &mut Vec<B>,
+) -> u8
+    requires some { 0 < vec_len books.old }
+    requires unheard { (D.told door.old).heard ≡ None }
+    ensures { RunsStore S.Store B.book words.now keeper.old keeper.new
+        (record { input = I.told input.old; out = O.told out.old; err = E.told err.old })
+        (record { input = I.told input.new; out = O.told out.new; err = E.told err.new })
+        (record { wire = D.Conn.wire; broken = D.Conn.faults; door = D.told door.old; log = D.log door.old; tables = tables S.Store keeper.old; faults = keeper.old.faults; calls = map B.calls books.old.items })
+        (record { wire = D.Conn.wire; broken = D.Conn.faults; door = D.told door.new; log = D.log door.new; tables = tables S.Store keeper.new; faults = keeper.new.faults; calls = map B.calls books.new.items })
+        result }
+{
+    match keeper.prepare(alloc) {
+        Ok(Prepared::Ready) => run(rt, alloc, words, input, out, err, keeper, door, books),
+        Ok(Prepared::OtherEdition { number }) => {
+            refuse(alloc, err, Refusal::OtherEdition { number })
+        }
+        Err(KeepFault::Failed) => refuse(alloc, err, Refusal::StoreFault),
+        Err(KeepFault::OutOfMemory) => refuse(alloc, err, Refusal::NoMemory),
+    }
+}
