@@ -9,7 +9,7 @@ use keep_sql::SqlKeeper;
 use snap_tree::List;
 use sqlite::{Connection, Error, ErrorCode, File, FileStore};
 use std::process::ExitCode;
-use store_run::{Place, read_arguments, run_store};
+use store_run::{Asked, Place, read_arguments, run_store};
 use streams::{Reader, Sink, Writer};
 use tcp_door::{Patience, TcpDoor};
 
@@ -24,19 +24,21 @@ fn main(rt: HostRuntime) -> ExitCode {
     let Ok(mut books) = made_books(alloc) else {
         return ending(&mut out, &mut err, &Found::NoMemory);
     };
-    let words = &asked.words;
+    let Asked { place, words } = asked;
     let mut input = Reader::new(rt.stdin());
     let mut door = TcpDoor::new(&rt, Patience::usual());
-    let number = match asked.place {
+    let number = match place {
         Place::Memory => {
             let mut kept = MemoryKeeper::new(alloc, List::from_vec(Vec::new(alloc)));
             run(
-                &rt, alloc, words, &mut input, &mut out, &mut err, &mut kept, &mut door, &mut books,
+                &rt, alloc, &words, &mut input, &mut out, &mut err, &mut kept, &mut door,
+                &mut books,
             )
         }
         Place::File { path } => match opened(&rt, path.as_str()) {
             Ok(mut kept) => run_store(
-                &rt, alloc, words, &mut input, &mut out, &mut err, &mut kept, &mut door, &mut books,
+                &rt, alloc, &words, &mut input, &mut out, &mut err, &mut kept, &mut door,
+                &mut books,
             ),
             Err(found) => return ending(&mut out, &mut err, &found),
         },
