@@ -1,4 +1,3 @@
-pub mod Found
 pub mod Stepping
 pub mod Passing
 pub mod Strangers
@@ -6,3 +5,5 @@ pub mod Keyed
 pub mod Referring
 pub mod Joining
 pub mod Remembering
+pub mod Twins
+pub mod Seeing

@@ -21,11 +21,11 @@ use Rattle.page_changes.specs.Marks.{marks_of}
 
 -- ---- a node in its place
 
-frame_is : (old new : Trees) (row : Row) (kids : Trees) (above : List Row) → spot old row.id ≡ Some (spot_with row kids above) → frame_here new (above_of above) row ≡ same old new (frame_key row.id)
+pub frame_is : (old new : Trees) (row : Row) (kids : Trees) (above : List Row) → spot old row.id ≡ Some (spot_with row kids above) → frame_here new (above_of above) row ≡ same old new (frame_key row.id)
 unfolding same
 frame_is old new row kids above e = sym (ap (λ o. option_eq same_frame (option_map (λ (s : Sight). frame s.above s.row) o) (frame_at new row.id)) (spot_sight old row.id (spot_with row kids above) e))
 
-own_is : (old new : Trees) (row : Row) (kids : Trees) (above : List Row) → spot old row.id ≡ Some (spot_with row kids above) → own_here new row ≡ same old new (own_key row.id)
+pub own_is : (old new : Trees) (row : Row) (kids : Trees) (above : List Row) → spot old row.id ≡ Some (spot_with row kids above) → own_here new row ≡ same old new (own_key row.id)
 unfolding same
 own_is old new row kids above e = sym (ap (λ o. option_eq same_own (option_map (λ (s : Sight). own s.row) o) (own_at new row.id)) (spot_sight old row.id (spot_with row kids above) e))
 

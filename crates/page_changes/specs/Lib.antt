@@ -1,4 +1,4 @@
-pub mod Aboves
+pub mod Beside
 pub mod Here
 pub mod Marks
 pub mod ByNumber

@@ -1,11 +1,9 @@
-ghost use Rattle.std.specs.Prelude.{◌≡◌, not, IfOk, OnOk};
-ghost use Rattle.std.specs.BTreeMap.{get};
+ghost use Rattle.std.specs.Prelude.{◌≡◌, ◌<◌, ℕ, not, vec_len, slice_get, slice_set, Some, None, IfOk, OnOk};
 ghost use Rattle.std.specs.Option.{is_some};
-ghost use Rattle.std.specs.Ordering.{nat_cmp};
 ghost use Rattle.acc_tree.specs.Seen.{seen};
 ghost use Rattle.acc_tree.specs.Sights.{sight_of};
 ghost use Rattle.page_changes.specs.Marks.{marks_of};
-ghost use Rattle.page_changes.specs.ByNumber.{HasEach, HasPut, AreByNumber, strange};
+ghost use Rattle.page_changes.specs.ByNumber.{at, HasEach, HasPut, PutsFar, AreByNumber, strange};
 
 use crate::marks::Marks;
 use acc_tree::row_of;
@@ -13,21 +11,62 @@ use snap_tree::{NodeId, OutOfMemory, Tree};
 use std::alloc::Global;
 use std::collections::BTreeMap;
 
-/// The marks of each node of a page, by its number.
-pub(crate) type ByNumber = BTreeMap<u32, Marks>;
+// A page's numbers are mostly below so many times the count of its nodes.
+const SPREAD: usize = 2;
+
+/// The marks of each node of a page, by its number: in a table with a place for each number up to some, and in a map
+/// from there on. To fill a table takes a small part of what a map takes.
+#[derive(Drop)]
+pub(crate) struct ByNumber {
+    pub(crate) near: Vec<Option<Marks>>,
+    pub(crate) far: BTreeMap<u32, Marks>,
+}
+
+fn put_near(near: &mut Vec<Option<Marks>>, place: usize, marks: Marks)
+    requires { place < vec_len near.old }
+    ensures { near.new.items ≡ slice_set near.old.items place (Some marks) }
+{
+    near[place] = Some(marks);
+}
+
+fn put_far(far: &mut BTreeMap<u32, Marks>, marks: Marks) -> Result<(), OutOfMemory>
+    ensures { OnOk result (PutsFar far.old far.new marks) }
+{
+    far.entry(marks.node.0)?.or_insert(marks);
+    Ok(())
+}
 
 fn put(by_number: &mut ByNumber, marks: Marks) -> Result<(), OutOfMemory>
     ensures { OnOk result (HasPut by_number.old by_number.new marks) }
 {
-    by_number.entry(marks.node.0)?.or_insert(marks);
-    Ok(())
+    let place = marks.node.0 as usize;
+    match by_number.near.get(place).copied() {
+        Some(Some(_)) => Ok(()),
+        Some(None) => {
+            put_near(&mut by_number.near, place, marks);
+            Ok(())
+        }
+        None => put_far(&mut by_number.far, marks),
+    }
+}
+
+// No marks, and room for those of so many nodes.
+fn room(alloc: Global, count: usize) -> Result<ByNumber, OutOfMemory>
+    ensures { IfOk result (λ by_number. (n : ℕ) → at by_number n ≡ None) }
+{
+    let mut near = Vec::new(alloc);
+    near.resize(count.saturating_mul(SPREAD).saturating_add(1), None)?;
+    Ok(ByNumber {
+        near,
+        far: BTreeMap::new(alloc),
+    })
 }
 
 /// The marks of a list by their numbers.
 pub(crate) fn by_number(alloc: Global, each: &[Marks]) -> Result<ByNumber, OutOfMemory>
     ensures { IfOk result (λ by_number. HasEach each.now by_number) }
 {
-    let mut by_number: ByNumber = BTreeMap::new(alloc);
+    let mut by_number = room(alloc, each.len())?;
     let mut rest = each;
     while let Some((marks, later)) = rest.split_first() {
         put(&mut by_number, *marks)?;
@@ -58,9 +97,12 @@ fn strange(node: NodeId, lost: bool) -> Marks
 }
 
 fn found(by_number: &ByNumber, n: NodeId) -> Option<Marks>
-    ensures { result ≡ get nat_cmp by_number.now n.0 }
+    ensures { result ≡ at by_number.now n.0 }
 {
-    by_number.get(&n.0).copied()
+    match by_number.near.get(n.0 as usize) {
+        Some(slot) => *slot,
+        None => by_number.far.get(&n.0).copied(),
+    }
 }
 
 /// The marks of any number, whether the old page holds it or not.

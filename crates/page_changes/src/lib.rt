@@ -2,12 +2,13 @@
 //! each class of rules looks at. Start with [`changes`].
 #![tactic(auto)]
 
-mod aboves;
+mod beside;
 mod by_number;
 mod flags;
 mod labels;
 mod looked;
 mod marks;
+mod met;
 mod pages;
 mod references;
 mod same;

@@ -83,8 +83,8 @@ fn same_attr(a: &Attr, b: &Attr) -> bool
     a.name.as_str() == b.name.as_str() && a.value.as_str() == b.value.as_str()
 }
 
-/// Whether two lists have the same attributes that are looked at, in the same order.
-pub(crate) fn same_attrs(a: &[Attr], b: &[Attr]) -> bool
+// Whether two lists have the same attributes that are looked at, each found by its name.
+fn same_looked(a: &[Attr], b: &[Attr]) -> bool
     ensures { result ≡ pointwise same_attr (filter (λ a. is_looked_at a.name) a.now) (filter (λ a. is_looked_at a.name) b.now) }
 {
     let mut left = a;
@@ -100,6 +100,27 @@ pub(crate) fn same_attrs(a: &[Attr], b: &[Attr]) -> bool
                 right = others;
             }
             _ => return false,
+        }
+    }
+}
+
+/// Whether two lists have the same attributes that are looked at, in the same order. As long as two attributes are the
+/// same, it doesn't matter whether they are looked at.
+pub(crate) fn same_attrs(a: &[Attr], b: &[Attr]) -> bool
+    ensures { result ≡ pointwise same_attr (filter (λ a. is_looked_at a.name) a.now) (filter (λ a. is_looked_at a.name) b.now) }
+{
+    let mut left = a;
+    let mut right = b;
+    loop {
+        match (left.split_first(), right.split_first()) {
+            (Some((one, more)), Some((other, others))) => {
+                if !same_attr(one, other) {
+                    return same_looked(left, right);
+                }
+                left = more;
+                right = others;
+            }
+            _ => return same_looked(left, right),
         }
     }
 }

@@ -1,15 +1,19 @@
-ghost use Rattle.std.specs.Prelude.{◌≡◌, ◌++◌, ◌<◌, slice_set, vec_len, IfOk, OnOk};
+ghost use Rattle.std.specs.Prelude.{◌≡◌, ◌++◌, ◌<◌, ◌≤◌, List, slice_set, vec_len, IfOk, OnOk};
+ghost use Rattle.std.specs.Option.{option_copied};
+ghost use Rattle.snap_tree.specs.declared.row.Row.{Row};
 ghost use Rattle.snap_tree.specs.Well.{IsWell};
+ghost use Rattle.acc_tree.specs.declared.above.Above.{Above};
+ghost use Rattle.acc_tree.specs.Frames.{above_of, is_table, under};
 ghost use Rattle.acc_tree.specs.Seen.{seen, seen_row};
 ghost use Rattle.keys.specs.Classes.{table_in};
-ghost use Rattle.page_changes.specs.Aboves.{AreAboves};
-ghost use Rattle.page_changes.specs.Here.{frame_here, own_here, kids_here, tree_here, marks_here};
+ghost use Rattle.page_changes.specs.Beside.{AreBeside, ahead_of};
+ghost use Rattle.page_changes.specs.Here.{tree_here, marks_here};
 ghost use Rattle.page_changes.specs.Marks.{AreMarks};
 
-use crate::aboves::{Aboves, above_at, aboves_by_number};
+use crate::beside::Pair;
 use crate::labels::is_html;
-use crate::same::{same_frames, same_owns, same_roots};
-use acc_tree::{Above, aboves, row_of, under};
+use crate::met::{Met, meet};
+use acc_tree::{Tag, html_tag};
 use snap_tree::{Branches, NodeId, OutOfMemory, Row, Tree};
 use std::alloc::Global;
 
@@ -40,82 +44,72 @@ pub(crate) struct PageMarks {
     pub(crate) all: bool,
 }
 
-// Whether the other page has the node's frame at its number.
-fn frame_here(new: &Tree, aboves: &Aboves<'_>, above: &Above<'_>, row: &Row) -> bool
-    requires { AreAboves (seen new.now.trees) aboves.now }
-    ensures { result ≡ frame_here (seen new.now.trees) above.now (seen_row row.now) }
+fn is_table(tag: Option<Tag>) -> bool
+    ensures { result ≡ is_table tag }
 {
-    let Some(other) = row_of(new, row.id) else {
-        return false;
-    };
-    match above_at(aboves, row.id) {
-        Some(other_above) => same_frames(above, row, other_above, other),
-        None => false,
-    }
+    matches!(tag, Some(Tag::Table))
 }
 
-// Whether the other page has there what the node has of its own.
-fn own_here(new: &Tree, row: &Row) -> bool
-    ensures { result ≡ own_here (seen new.now.trees) (seen_row row.now) }
+// The nearest table above the children of a row.
+fn table_under(table: Option<NodeId>, row: &Row) -> Option<NodeId>
+    ensures { (above : Above) → table ≡ table_in above → result ≡ table_in (under above (seen_row row.now)) }
 {
-    match row_of(new, row.id) {
-        Some(other) => same_owns(row, other),
-        None => false,
-    }
-}
-
-// Whether the other page has there the same children.
-fn kids_here(new: &Tree, row: &Row, kids: &Branches<'_>) -> bool
-    ensures { result ≡ kids_here (seen new.now.trees) (seen_row row.now) (seen kids.now) }
-{
-    match new.below(row.id) {
-        Some(below) => same_roots(kids, below),
-        None => false,
-    }
-}
-
-fn table_in(above: &Above<'_>) -> Option<NodeId>
-    ensures { result ≡ table_in above.now }
-{
-    match above.table() {
-        Some(table) => Some(table.node),
-        None => None,
+    if is_table(html_tag(row)) {
+        Some(row.id)
+    } else {
+        table
     }
 }
 
 fn put(list: &mut Vec<Marks>, place: usize, marks: Marks)
     requires { place < vec_len list.old }
     ensures items { list.new.items ≡ slice_set list.old.items place marks }
+    ensures len { vec_len list.new ≡ vec_len list.old }
 {
     list[place] = marks;
 }
 
-// Adds the marks of the nodes of some trees, which stand under this. Whether the frames above them are the
-// same is handed down; whether everything of the trees is the same is handed up.
+// Adds the marks of the nodes of some trees; beside them, trees of the new page stand ahead. What is above both is
+// handed down, as are the nearest table and whether the frames above are the same; whether everything of the trees is
+// the same is handed up.
 fn add_marks<'a>(
     list: &mut Vec<Marks>,
-    new: &Tree,
-    aboves: &Aboves<'_>,
-    above: &Above<'a>,
+    old: &'a Tree,
+    new: &'a Tree,
+    pair: Option<&Pair<'a>>,
+    table: Option<NodeId>,
     above_same: bool,
     trees: Branches<'a>,
+    ahead: Option<Branches<'a>>,
 ) -> Result<bool, OutOfMemory>
-    requires { AreAboves (seen new.now.trees) aboves.now }
-    ensures list { OnOk result (list.new.items ≡ list.old.items ++ marks_here (seen new.now.trees) above.now above_same (seen trees.entry)) }
-    ensures all { IfOk result (λ all. all ≡ tree_here (seen new.now.trees) above.now (seen trees.entry)) }
+    ensures longer { OnOk result (vec_len list.old ≤ vec_len list.new) }
+    ensures list { (ups others : List Row)
+        → AreBeside (seen old.now.trees) (seen new.now.trees) (option_copied pair.entry) ups others (seen trees.entry) (ahead_of ahead.entry)
+        → table ≡ table_in (above_of ups)
+        → OnOk result (list.new.items ≡ list.old.items ++ marks_here (seen new.now.trees) (above_of ups) above_same (seen trees.entry)) }
+    ensures all { (ups others : List Row)
+        → AreBeside (seen old.now.trees) (seen new.now.trees) (option_copied pair.entry) ups others (seen trees.entry) (ahead_of ahead.entry)
+        → table ≡ table_in (above_of ups)
+        → IfOk result (λ all. all ≡ tree_here (seen new.now.trees) (above_of ups) (seen trees.entry)) }
 {
     let mut all = true;
     let mut rest = trees;
+    let mut next = ahead;
     while let Some(branch) = rest.first() {
         let place = list.len();
-        let frame = frame_here(new, aboves, above, branch.row);
-        let own = own_here(new, branch.row);
-        let kids = kids_here(new, branch.row, &branch.kids);
+        let Met {
+            frame,
+            own,
+            kids,
+            below,
+            pair: beneath,
+            after,
+        } = meet(old, new, pair, branch.row, &branch.kids, next);
         let mut marks = Marks {
             node: branch.row.id,
             root: branch.row.parent.is_none(),
             meta: is_html(branch.row, "meta"),
-            table: table_in(above),
+            table,
             itself: frame & (own & above_same),
             own,
             tree: kids,
@@ -123,16 +117,19 @@ fn add_marks<'a>(
         list.push(marks)?;
         let inner = add_marks(
             list,
+            old,
             new,
-            aboves,
-            &under(above, branch.row),
+            beneath.as_ref(),
+            table_under(table, branch.row),
             frame & above_same,
             branch.kids,
+            below,
         )?;
         marks.tree = frame & (own & (kids & inner));
         put(list, place, marks);
         all = all & (frame & (own & (kids & inner)));
         rest = branch.after;
+        next = after;
     }
     Ok(all)
 }
@@ -144,21 +141,23 @@ pub(crate) fn well(tree: &Tree)
     let _rows = tree.rows();
 }
 
-/// What of the old page is the same on the new one. One pass over each page.
+/// What of the old page is the same on the new one. One pass over both, side by side; a node that the new page has
+/// elsewhere is looked up by its number.
 pub(crate) fn compare(alloc: Global, old: &Tree, new: &Tree) -> Result<PageMarks, OutOfMemory>
     ensures { IfOk result (λ marks. AreMarks (seen old.now.trees) (seen new.now.trees) marks) }
 {
     well(old);
-    let list = aboves(alloc, new)?;
-    let by_number = aboves_by_number(alloc, new.rows(), list.as_slice())?;
-    let mut each = Vec::new(alloc);
+    well(new);
+    let mut each = Vec::with_capacity(alloc, old.rows().len())?;
     let all = add_marks(
         &mut each,
+        old,
         new,
-        &by_number,
-        &Above::nothing(),
+        None,
+        None,
         true,
         old.branches(),
+        Some(new.branches()),
     )?;
     Ok(PageMarks { each, all })
 }

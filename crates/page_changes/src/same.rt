@@ -74,7 +74,8 @@ fn same_facts(a: Facts, b: Facts) -> bool
         && (a.visible == b.visible && (a.focusable == b.focusable && a.tabbable == b.tabbable))
 }
 
-fn same_shape(a: &Row, b: &Row) -> bool
+/// Whether two rows have one parent, name space and tag.
+pub(crate) fn same_shape(a: &Row, b: &Row) -> bool
     ensures { result ≡ (option_eq same_node a.now.parent b.now.parent && (option_eq (sameb space.the_type) (space_in (seen_row a.now).body) (space_in (seen_row b.now).body) && option_eq bytes_eq (tag_in (seen_row a.now).body) (tag_in (seen_row b.now).body))) }
 {
     a.parent == b.parent && (same_space(a, b) && same_tag(a, b))
@@ -89,7 +90,7 @@ fn same_marks(a: &Row, b: &Row) -> bool
         && (same_value(a, b, Attribute::Lang) && same_value(a, b, Attribute::Disabled))
 }
 
-fn same_role(a: Option<Role>, b: Option<Role>) -> bool
+pub(crate) fn same_role(a: Option<Role>, b: Option<Role>) -> bool
     ensures { result ≡ option_eq (sameb role.the_type) a b }
 {
     match (a, b) {
@@ -145,8 +146,8 @@ fn same_rest(a: Branches<'_>, b: Branches<'_>) -> bool
 }
 
 /// Whether trees have the same roots.
-pub(crate) fn same_roots(a: &Branches<'_>, b: Branches<'_>) -> bool
-    ensures { result ≡ pointwise same_node (root_numbers (seen a.now)) (root_numbers (seen b.entry)) }
+pub(crate) fn same_roots(a: &Branches<'_>, b: &Branches<'_>) -> bool
+    ensures { result ≡ pointwise same_node (root_numbers (seen a.now)) (root_numbers (seen b.now)) }
 {
     match (a.first(), b.first()) {
         (Some(one), Some(other)) => {

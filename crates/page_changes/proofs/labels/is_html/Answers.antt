@@ -1,5 +1,5 @@
 use Rattle.std.proofs.Common.{◌∙◌}
-use Rattle.page_changes.proofs.Found.{html_seen}
+use Rattle.page_changes.proofs.Seeing.{html_seen}
 use Rattle.page_changes.proofs.labels.is_html.Goals as goal
 
 pub returns : goal.returns

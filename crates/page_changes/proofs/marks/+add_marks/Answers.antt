@@ -1,38 +1,67 @@
-use Rattle.std.proofs.Common.{◌≡◌, ◌&&◌, not, ◌++◌, ◌∷◌, ◌∙◌, sym, ap, arith}
+use Rattle.std.proofs.Common.{◌≡◌, ◌&&◌, not, List, ◌++◌, ◌∷◌, ◌∙◌, sym, ap, subst, arith}
 use Rattle.std.proofs.lemmas.Grind.{common_steps}
-use Rattle.std.specs.Option.{is_some}
+use Rattle.std.specs.Option.{is_some, option_copied}
+use Rattle.snap_tree.specs.declared.row.Row.{Row}
 use Rattle.snap_tree.specs.Trees.{tree, count}
 use Rattle.acc_tree.specs.Seen.{seen_row, seen}
-use Rattle.acc_tree.specs.Frames.{under}
+use Rattle.acc_tree.specs.Frames.{above_of}
+use Rattle.keys.specs.Classes.{table_in}
+use Rattle.keys.specs.Standing.{Stand}
+use Rattle.page_changes.specs.Beside.{IsPair, AreBeside, ahead_of}
 use Rattle.page_changes.specs.Here.{frame_here, own_here, kids_here, tree_here, marks_at, marks_here}
 use Rattle.page_changes.proofs.Stepping.{filled, regroup}
 use Rattle.page_changes.proofs.marks.+add_marks.Goals as goal
 
 pub loop-branch-preserved : goal.loop-branch-preserved
 loop-branch-preserved t c =
+    let old = seen c.args.old.now.trees in
     let new = seen c.args.new.now.trees in
-    let above = c.args.above.now in
+    let pair = option_copied c.args.pair in
+    let trees = seen c.args.trees in
+    let ahead = ahead_of c.args.ahead in
+    let same = c.args.above_same in
     let row = seen_row c.in-Some.branch.row.now in
     let kids = seen c.in-Some.branch.kids in
     let after = seen c.in-Some.branch.after in
+    let met = c.meet-frame.result in
     let rest : seen c.loop-branch.rest ≡ tree row kids after = ap seen c.in-Some.ensures in
-    let f : c.frame_here-frame.result ≡ frame_here new above row = c.frame_here-frame.ensures in
-    let o : c.own_here-own.result ≡ own_here new row = c.own_here-own.ensures in
-    let k : c.kids_here-kids.result ≡ kids_here new row kids = c.kids_here-kids.ensures in
-    let u : c.under.result ≡ under above row = c.under.ensures in
     let root : c.is_none.result ≡ not (is_some row.parent) = grind (arith, common_steps) in
-    let added : c.add_marks.new.list.items ≡ c.push.new.self.items ++ marks_here new (under above row) (frame_here new above row && c.args.above_same) kids =
-    c.in_ok-inner.ensures.list ∙ (λ i. c.push.new.self.items ++ marks_here new (u i) (f i && c.args.above_same) kids) in
-    let all : c.in_ok-inner.inner ≡ tree_here new (under above row) kids = c.in_ok-inner.ensures.all ∙ ap (λ a. tree_here new a kids) u in
-    let last : record { node = c.in-Some.branch.row.now.id; root = c.is_none.result; meta = c.is_html.result; table = c.table_in.result; itself = c.frame_here-frame.result && (c.own_here-own.result && c.args.above_same); own = c.own_here-own.result; tree = c.frame_here-frame.result && (c.own_here-own.result && (c.kids_here-kids.result && c.in_ok-inner.inner)) } ≡ marks_at new above c.args.above_same row kids =
-    λ i. record { node = row.id; root = root i; meta = c.is_html.ensures i; table = c.table_in.ensures i; itself = f i && (o i && c.args.above_same); own = o i; tree = f i && (o i && (k i && all i)) } in
-    let step = filled c.loop-branch.list.items (marks_here new (under above row) (frame_here new above row && c.args.above_same) kids) (marks_here new above c.args.above_same after) c.push.new.self.items c.add_marks.new.list.items c.put.new.list.items _ _ c.len-place.result
-    (omega arith) c.in_ok-push.ensures.items added c.put.ensures.items in
     record {
       fewer = omega (arith, c.loop-branch.invariant.fewer, ap count c.in-Some.ensures);
-      list = step ∙ ap (λ x. c.loop-branch.list.items ++ (x ∷ marks_here new (under above row) (frame_here new above row && c.args.above_same) kids ++ marks_here new above c.args.above_same after)) last
-          ∙ ap (λ t. c.loop-branch.list.items ++ marks_here new above c.args.above_same t) (sym rest) ∙ c.loop-branch.invariant.list;
-      all = regroup c.loop-branch.all c.frame_here-frame.result c.own_here-own.result c.kids_here-kids.result c.in_ok-inner.inner (tree_here new above after)
-          ∙ (λ i. c.loop-branch.all && (f i && (o i && (k i && (all i && tree_here new above after)))))
-          ∙ ap (λ t. c.loop-branch.all && tree_here new above t) (sym rest) ∙ c.loop-branch.invariant.all;
+      longer = omega (arith, c.loop-branch.invariant.longer, c.in_ok-inner.ensures.longer, c.in_ok-push.ensures.len, c.put.ensures.len);
+      beside = λ ups others b h.
+          let now = c.loop-branch.invariant.beside ups others b h in
+          let stands : Stand old ups (tree row kids after) = subst (Stand old ups) rest now.here in
+          let m = c.meet-frame.ensures ups others stands.0 now.whole now.there now.above in
+          record { whole = now.whole; here = stands.1.1; there = m.after; above = now.above };
+      list = λ ups others b h.
+          let above = above_of ups in
+          let now = c.loop-branch.invariant.beside ups others b h in
+          let stands : Stand old ups (tree row kids after) = subst (Stand old ups) rest now.here in
+          let m = c.meet-frame.ensures ups others stands.0 now.whole now.there now.above in
+          let inside : AreBeside old new (option_copied c.as_ref.result) (row ∷ ups) m.beneath kids (ahead_of met.below) =
+          record { whole = now.whole; here = stands.1.0; there = m.below; above = subst (λ o. IsPair o (above_of (row ∷ ups)) (above_of m.beneath)) (sym c.as_ref.ensures.value) m.pair } in
+          let under = above_of (row ∷ ups) in
+          let t = c.table_under.ensures above h in
+          let added : c.add_marks.new.list.items ≡ c.push.new.self.items ++ marks_here new under (frame_here new above row && same) kids =
+          c.in_ok-inner.ensures.list (row ∷ ups) m.beneath inside t ∙ (λ i. c.push.new.self.items ++ marks_here new under (m.frame i && same) kids) in
+          let all : c.in_ok-inner.inner ≡ tree_here new under kids = c.in_ok-inner.ensures.all (row ∷ ups) m.beneath inside t in
+          let last : record { node = c.in-Some.branch.row.now.id; root = c.is_none.result; meta = c.is_html.result; table = c.args.table; itself = met.frame && (met.own && same); own = met.own; tree = met.frame && (met.own && (met.kids && c.in_ok-inner.inner)) } ≡ marks_at new above same row kids =
+          λ i. record { node = row.id; root = root i; meta = c.is_html.ensures i; table = h i; itself = m.frame i && (m.own i && same); own = m.own i; tree = m.frame i && (m.own i && (m.roots i && all i)) } in
+          let step = filled c.loop-branch.list.items (marks_here new under (frame_here new above row && same) kids) (marks_here new above same after) c.push.new.self.items c.add_marks.new.list.items c.put.new.list.items _ _ c.len-place.result
+          (omega arith) c.in_ok-push.ensures.items added c.put.ensures.items in
+          step ∙ ap (λ x. c.loop-branch.list.items ++ (x ∷ marks_here new under (frame_here new above row && same) kids ++ marks_here new above same after)) last
+          ∙ ap (λ t. c.loop-branch.list.items ++ marks_here new above same t) (sym rest) ∙ c.loop-branch.invariant.list ups others b h;
+      all = λ ups others b h.
+          let above = above_of ups in
+          let now = c.loop-branch.invariant.beside ups others b h in
+          let stands : Stand old ups (tree row kids after) = subst (Stand old ups) rest now.here in
+          let m = c.meet-frame.ensures ups others stands.0 now.whole now.there now.above in
+          let inside : AreBeside old new (option_copied c.as_ref.result) (row ∷ ups) m.beneath kids (ahead_of met.below) =
+          record { whole = now.whole; here = stands.1.0; there = m.below; above = subst (λ o. IsPair o (above_of (row ∷ ups)) (above_of m.beneath)) (sym c.as_ref.ensures.value) m.pair } in
+          let under = above_of (row ∷ ups) in
+          let all : c.in_ok-inner.inner ≡ tree_here new under kids = c.in_ok-inner.ensures.all (row ∷ ups) m.beneath inside (c.table_under.ensures above h) in
+          regroup c.loop-branch.all met.frame met.own met.kids c.in_ok-inner.inner (tree_here new above after)
+          ∙ (λ i. c.loop-branch.all && (m.frame i && (m.own i && (m.roots i && (all i && tree_here new above after)))))
+          ∙ ap (λ t. c.loop-branch.all && tree_here new above t) (sym rest) ∙ c.loop-branch.invariant.all ups others b h;
     }
