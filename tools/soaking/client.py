@@ -7,7 +7,7 @@ import random
 from collections import Counter
 from typing import Callable
 
-from soaking import snapshots
+from soaking import refusals, snapshots
 from soaking.knowing import Page, Site, compact, page_differs, shows_others, site_differs
 from soaking.life import Life
 from soaking.ways import Direct, Proxied, Reply
@@ -16,7 +16,6 @@ MOST_BODY = 8_388_608
 NAMES = ("home", "news", "hours", "search", "outcomes", "a.b_c-d")
 MOST_PAGES, MOST_ROWS = 6, 110
 VERDICTS = ("passed", "failed", "cantTell")
-DIGITS = "0" * 64
 
 
 class Client:
@@ -44,7 +43,8 @@ class Client:
         self.differences.append(f"{self.way.said}: {said}")
         print(f"difference: {self.differences[-1]}", flush=True)
 
-    def ask(self, what: str, line: str, body: bytes, rev: int | None, after: Site, wanted: tuple[int, bytes], **more: str) -> None:
+    def ask(self, what: str, line: str, body: bytes, rev: int | None, after: Site, wanted: tuple[int, bytes],
+            **more: str) -> None:
         """Asks for a change, after which the site is to be as said, and the reply as wanted."""
         self.settle(what, lambda: self.way.ask(line, body, rev, **more), after, wanted)
 
@@ -172,32 +172,25 @@ class Client:
         self.check(lambda: site_differs(self.way, self.site))
         self.check(lambda: shows_others(self.way, self.site))
 
-    def expected(self, what: str, asking: Callable[[], Reply], *wanted: tuple[int, str]) -> None:
-        """Expects a request to be refused by one of these names."""
+    def expected(self, what: str, asking: Callable[[], Reply], wanted: refusals.Refusal) -> None:
+        """Expects a request to be refused so."""
+        status, name = wanted
+
         def look() -> str:
             reply = asking()
             if reply is None:
                 return f"{what}: no reply"
-            good = any(reply[0] == status and f'"refused":"{name}"'.encode() in reply[1] for status, name in wanted)
+            good = reply[0] == status and f'"refused":"{name}"'.encode() in reply[1]
             return "" if good else f"{what} of {self.site.name}: {reply[0]} {reply[1][:200]!r}, not {wanted}"
+
         self.counts[f"refused: {what}"] += 1
         self.check(look)
 
     def refused(self) -> None:
-        """A request that is refused for what it asks."""
+        """A request that is refused for what it asks, and a stranger's."""
         site, name = self.site, self.page()
         page = compact(snapshots.snapshot(self.chance, site.name, 5))
-        broken = compact({"nodes": [snapshots.element(1, None, "html"), snapshots.element(3, 2, "p")], "url": "https://a.example/"})
-        put, far = f"PUT {site.path('home')}", self.site.counter + 7
-        kinds = [("site again", (f"PUT {site.path()}", b"", None), (409, "SiteExists")), ("stale put", (put, page, far), (409, "StaleRevision")),
-                 ("broken tree", (put, broken, self.rev("home")), (422, "TreeFault")), ("no snapshot", (put, b"[]", 0), (422, "BadShape")),
-                 ("no JSON", (put, page[:-1], 0), (400, "BadJson")), ("no UTF-8", (put, page.replace(b"html", b"ht\xffml", 1), 0), (400, "BadJson")),
-                 ("no route", (f"GET {site.path()}/none", b"", None), (404, "NoRoute")), ("no site", ("GET /sites/nobody/report", b"", None), (404, "NoSite"))]
-        if name is not None:
-            kinds += [("no node", (f"POST {site.path(name, '/edits')}", b'{"edits":[{"op":"remove","node":999999}]}', self.rev(name)), (422, "EditFault")),
-                      ("no edit", (f"POST {site.path(name, '/edits')}", b'{"edits":[{"op":"fly"}]}', self.rev(name)), (422, "BadShape")),
-                      ("stale drop", (f"DELETE {site.path(name)}", b"", far), (409, "StaleRevision")),
-                      ("no target", (f"POST {site.path(name, '/judgements')}", compact({"rule": "c4a8a4", "node": 999_999, "verdict": "passed", "digest": DIGITS}), None), (404, "NoTarget"))]
+        kinds = [*refusals.of_site(site, page), *(refusals.of_page(site, name) if name is not None else ())]
         what, words, wanted = self.chance.choice(kinds)
         self.expected(what, lambda: self.way.ask(*words), wanted)
         self.expected("a stranger", lambda: self.way.ask(f"GET {site.path(end='/csv')}", caller="eve"), (403, "NotAllowed"))
@@ -206,12 +199,8 @@ class Client:
         """Bytes that are no request, which only the desk itself is sent."""
         if isinstance(self.way, Proxied):
             return self.refused()
-        noise = bytes(self.chance.randrange(1, 256) for _ in range(200))
-        kinds = [("a long head", b"GET / HTTP/1.1\r\nx: " + b"a" * 16_384, (431, "HeadTooLarge")), ("a space first", b" GET / HTTP/1.1\r\n\r\n", (400, "BadHead")),
-                 ("no length", b"PUT /sites/a HTTP/1.1\r\nx-caller: ann\r\n\r\n", (411, "LengthRequired")),
-                 ("chunks", b"PUT /sites/a HTTP/1.1\r\ntransfer-encoding: chunked\r\n\r\n", (501, "TransferEncoding")),
-                 ("bytes at random", b"\x01" + noise + b"\r\n\r\n", (400, "BadHead"))]
-        what, sent, wanted = self.chance.choice(kinds)
+        noise = b"\x01" + bytes(self.chance.randrange(1, 256) for _ in range(200)) + b"\r\n\r\n"
+        what, sent, wanted = self.chance.choice([*refusals.BYTES, ("bytes at random", noise, (400, "BadHead"))])
         self.expected(what, lambda: self.way.send(sent), wanted)
 
     def cut(self) -> None:

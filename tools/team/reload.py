@@ -133,7 +133,8 @@ def test_reload() -> None:
     """No reply is lost while the desk ends by itself, and no site that was put while it is ended by force."""
     with tempfile.TemporaryDirectory() as folder:
         desk = served_over(folder, by_force=False)
-        expect("the desk ended some times by itself, and both programs served", desk.statuses.count(0) >= 3 and set(desk.statuses) <= {0, -signal.SIGTERM}, desk.statuses)
+        well = desk.statuses.count(0) >= 3 and set(desk.statuses) <= {0, -signal.SIGTERM}
+        expect("the desk ended some times by itself, and both programs served", well, desk.statuses)
     with tempfile.TemporaryDirectory() as folder:
         desk = served_over(folder, by_force=True)
         expect("the desk was ended by force some times", desk.statuses.count(-signal.SIGKILL) >= 2, desk.statuses)
