@@ -9,7 +9,11 @@
 
    The file that FAIL_ALLOCATIONS names gets a record of each child, in order: a line with its exit status,
    or a signal's number below 0, and the lengths of all that is on its standard output and standard error,
-   and then these. */
+   and then these.
+
+   Where the file that FAIL_NEXT names is there instead, no process splits, and there may be threads. It holds
+   a number of eight bytes, which whoever runs the process sets while it runs: each allocation makes a number
+   above 0 one less, and the one that makes it 0 fails. */
 #define _GNU_SOURCE
 #include <errno.h>
 #include <fcntl.h>
@@ -29,6 +33,8 @@ extern void *__libc_memalign(size_t alignment, size_t size);
 
 static int is_splitting;
 static int records;
+/* The number in the file that FAIL_NEXT names. */
+static long *next;
 /* What the child has on standard output and standard error. */
 static int copies[2];
 
@@ -68,9 +74,21 @@ static int is_regular(int file)
     return fstat(file, &about) == 0 && S_ISREG(about.st_mode);
 }
 
+static void share_next(const char *name)
+{
+    int file = open(name, O_RDWR | O_CLOEXEC);
+    need(file >= 0);
+    void *shared = mmap(NULL, sizeof *next, PROT_READ | PROT_WRITE, MAP_SHARED, file, 0);
+    need(shared != MAP_FAILED && close(file) == 0);
+    next = shared;
+}
+
 __attribute__((constructor)) static void start(void)
 {
-    const char *name = getenv("FAIL_ALLOCATIONS");
+    const char *name = getenv("FAIL_NEXT");
+    if (name)
+        share_next(name);
+    name = getenv("FAIL_ALLOCATIONS");
     if (!name)
         return;
     records = open(name, O_WRONLY | O_CREAT | O_TRUNC | O_CLOEXEC, 0600);
@@ -113,9 +131,19 @@ static void record(int status)
     copy(copies[1], records, lengths[1]);
 }
 
+static int is_next(void)
+{
+    if (__atomic_load_n(next, __ATOMIC_SEQ_CST) <= 0 || __atomic_sub_fetch(next, 1, __ATOMIC_SEQ_CST) != 0)
+        return 0;
+    errno = ENOMEM;
+    return 1;
+}
+
 /* Splits, and says whether the allocation fails: in the child. */
 static int fails(void)
 {
+    if (next)
+        return is_next();
     if (!is_splitting)
         return 0;
     is_splitting = 0;

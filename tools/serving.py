@@ -1,4 +1,4 @@
-"""The built program while it serves, for tools/walk, tools/clients and bench/http."""
+"""The built program while it serves, for the scripts of tools/ and bench/ that ask it."""
 import os
 import re
 import socket
@@ -18,31 +18,50 @@ def free_port():
 
 
 class Serving:
-    """The program, which serves so many connections with a store in memory, until the block ends."""
+    """The program, which serves so many connections over a store, memory where none is named, until the block ends.
 
-    def __init__(self, workers=4, connections=1_000, words=None):
+    Until it listens it has some seconds, which a large store takes to open. `settings` is its environment."""
+
+    def __init__(self, workers=4, connections=1_000, words=None, store="-", seconds=10, settings=None):
         self.port = free_port()
-        self.words = words or ["-", "serve", "--port", "PORT", "--workers", str(workers),
+        self.words = words or [store, "serve", "--port", "PORT", "--workers", str(workers),
                                "--connections", str(connections)]
+        self.seconds = seconds
+        self.settings = settings
 
-    def __enter__(self):
+    def start(self):
+        """Starts the program; it may not listen yet."""
         if not os.path.exists(PROGRAM):
             print(f"no program at {PROGRAM}: `rt ci` builds it", file=sys.stderr)
             sys.exit(2)
         words = [str(self.port) if word == "PORT" else word for word in self.words]
-        self.program = subprocess.Popen([PROGRAM, *words], stdin=subprocess.DEVNULL)
-        for _ in range(200):
-            if self.program.poll() is not None:
-                break
+        self.program = subprocess.Popen([PROGRAM, *words], stdin=subprocess.DEVNULL, env=self.settings)
+
+    def listens(self):
+        """Whether the program listens, before it ends and its seconds are over. It serves a connection for that."""
+        end = time.monotonic() + self.seconds
+        while self.program.poll() is None and time.monotonic() < end:
             try:
                 socket.create_connection((HOST, self.port), timeout=1).close()
-                return self
+                return True
             except ConnectionRefusedError:
-                time.sleep(0.05)
-        sys.exit(f"the program doesn't listen: it ended with {self.program.poll()}")
+                time.sleep(0.01)
+        return False
+
+    def __enter__(self):
+        self.start()
+        if not self.listens():
+            self.program.kill()
+            sys.exit(f"the program doesn't listen: it ended with {self.program.wait()}")
+        return self
 
     def __exit__(self, *_):
         self.program.terminate()
+        self.program.wait()
+
+    def kill(self):
+        """Ends the program as `kill -9` does."""
+        self.program.kill()
         self.program.wait()
 
     def connect(self):
@@ -52,6 +71,10 @@ class Serving:
         """The memory that the program holds now, in kilobytes."""
         with open(f"/proc/{self.program.pid}/status", encoding="ascii") as status:
             return int(re.search(r"VmRSS:\s+(\d+) kB", status.read()).group(1))
+
+    def descriptors(self):
+        """How many files and sockets the program has open now."""
+        return len(os.listdir(f"/proc/{self.program.pid}/fd"))
 
 
 def reply_in(connection):
@@ -74,6 +97,15 @@ def reply_in(connection):
         reply += more
         left -= len(more)
     return bytes(reply)
+
+
+def told(reply):
+    """The status and the body of a reply; None where the connection was closed before all of it came."""
+    head, end, body = reply.partition(b"\r\n\r\n")
+    length = re.search(rb"\r\ncontent-length: (\d+)", head)
+    if not end or not length or int(length.group(1)) != len(body):
+        return None
+    return int(head.split(b" ", 2)[1]), body
 
 
 def request(line, caller="ann", body=b"", rev=None, fields=()):

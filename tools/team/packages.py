@@ -13,7 +13,8 @@ os.environ["PATH"] += ":/usr/sbin:/sbin"
 BROWSER = ("chromium", "chromium-driver", "python3-selenium")
 # The programs of each package, of which one is enough, and its module of Python.
 PROGRAMS = {"nginx": ("nginx",), "openssl": ("openssl",), "apache2-utils": ("htpasswd",), "haproxy": ("haproxy",),
-            "systemd": ("systemd-analyze",), "parallel": ("parallel",), "curl": ("curl",), "chromium": CHROMIUM_NAMES, "chromium-driver": DRIVER_NAMES}
+            "systemd": ("systemd-analyze",), "systemd-container": ("systemd-nspawn",), "parallel": ("parallel",), "curl": ("curl",),
+            "chromium": CHROMIUM_NAMES, "chromium-driver": DRIVER_NAMES}
 MODULES = {"python3-selenium": "selenium"}
 
 
