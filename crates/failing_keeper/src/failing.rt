@@ -47,6 +47,13 @@ impl<K: Keeper> FailingKeeper<K> {
         }
     }
 
+    /// How many calls failed because the list names them, at most the greatest `u64`.
+    pub fn failed_calls(&self) -> u64
+        ensures { result ≡ self.now.faults }
+    {
+        self.faults
+    }
+
     // Counts a call, and fails where the list names it.
     fn count_call(&mut self) -> Result<(), KeepFault>
         ensures { MatchResult result
