@@ -11,7 +11,7 @@ use Rattle.judge_core.specs.declared.outcomes.OutRow.{OutRow}
 use Rattle.judge_core.specs.declared.outcomes.Outcomes.{Outcomes}
 use Rattle.store_texts.specs.Stored.{Stored}
 use Rattle.store_texts.specs.declared.outcomes.OutcomeRow.{OutcomeRow}
-use Rattle.store_texts.specs.Changes.{IsReady, Makes, ChangesMembers, ChangesOutcomes, DropsOutcomes, AddsOutcome}
+use Rattle.store_texts.specs.Changes.{IsReady, Makes, ChangesMembers, ChangesOutcomes, DropsOutcomes, PutsOutcome}
 use Rattle.store_texts.specs.Changes as texts
 use Rattle.store_tables.specs.Batches.{outcome_cells, outcomes_cells, outcome_rows}
 use Rattle.store_tables.proofs.Steps.{some_same}
@@ -46,7 +46,7 @@ pub onward : {A E P Q : Type 0} (r : Result A E) → (P → Q) → OnOk r P → 
 onward (Ok a) f p = f p
 onward (Err e) f p = tt
 
-pub outcome_added : (site page : List ℕ) (place : ℕ) (o : OutRow) (row : OutcomeRow) (a b : State) → IsRowOf place o row → Makes (AddsOutcome site page row) a b
+pub outcome_added : (site page : List ℕ) (place : ℕ) (o : OutRow) (row : OutcomeRow) (a b : State) → IsRowOf place o row → Makes (PutsOutcome site page row) a b
     → Makes (ChangesOutcomes site page (put_row (name_at 2) (outcome_cells site page place o))) a b
 outcome_added site page place o row a b is made =
     let cells : texts.outcome_cells site page row ≡ outcome_cells site page place o =

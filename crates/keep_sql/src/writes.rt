@@ -22,7 +22,7 @@ use sqlite::{Alter, Transaction};
 use std::alloc::Global;
 use store_tables::StoreFault;
 use store_texts::{
-    JudgementRow, OutcomeRow, add_judgement, add_member, add_outcome, drop_members, drop_outcomes,
+    JudgementRow, OutcomeRow, add_judgement, add_member, drop_members, drop_outcomes, put_outcome,
     put_page, put_site,
 };
 
@@ -197,7 +197,7 @@ fn write_outcome<S: Alter>(
     ensures survives { Survives (state S.Store tx.old.conn.now) (state S.Store tx.new.conn.now) (λ _. ⊥) }
 {
     let row = outcome_row(place, outcome)?;
-    add_outcome(tx, site, page, &row)?;
+    put_outcome(tx, site, page, &row)?;
     Ok(())
 }
 

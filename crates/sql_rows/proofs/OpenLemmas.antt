@@ -19,7 +19,7 @@ rises_in v schema sound listed ordered =
     let shaped = subst (λ s. IsShaped s (v.trees t.tree)) is (ordered t.tree) in
     record { up = shaped.0; numbered = shaped.1 })
 
-open_by : (v : View) (b : Bool) → v.is_open ≡ b → (v.is_open ≡ false → IsTrue v.is_broken) → v.is_broken ≡ false → IsTrue v.is_open
+pub open_by : (v : View) (b : Bool) → v.is_open ≡ b → (v.is_open ≡ false → IsTrue v.is_broken) → v.is_broken ≡ false → IsTrue v.is_open
 open_by v true is law whole = is
 open_by v false is law whole = absurd (true≢false (sym (law is) ∙ whole))
 

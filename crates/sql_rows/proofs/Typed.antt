@@ -1,7 +1,7 @@
 -- What a schema says of the columns of a row, and of two rows with one key.
-use Rattle.std.proofs.Common.{◌≡◌, ◌⊎◌, inl, inr, ℕ, zero, suc, ◌+◌, List, [], ◌∷◌, drop, Bool, true, false, not, Some, None, slice_get, IsTrue, refl, sym, ap, ap₂, subst, ◌∙◌, arith, true≢false, ◌&&◌, ◌||◌, Ordering, Less, Equal, Greater}
+use Rattle.std.proofs.Common.{◌≡◌, ◌⊎◌, inl, inr, ℕ, zero, suc, ◌+◌, ◌<◌, List, [], ◌∷◌, length, drop, Bool, true, false, not, Some, None, slice_get, IsTrue, refl, sym, ap, ap₂, subst, ◌∙◌, arith, true≢false, ◌&&◌, ◌||◌, Ordering, Less, Equal, Greater}
 use Rattle.std.specs.Ordering.{is_ne}
-use Rattle.std.specs.List.{list_any}
+use Rattle.std.specs.List.{AllByRecursion, list_any}
 use Rattle.std.proofs.lemmas.Bool.{and_parts}
 use Rattle.sqlite_value.specs.declared.value.Value.{Value}
 use Rattle.sqlite_value.specs.declared.value.Value.TheVariants.{Null, Int, Real, Text, Blob}
@@ -52,6 +52,20 @@ present_at (d ∷ cs) at row (suc k) c h is must =
     let e : at + suc k + 1 ≡ (at + 1) + k + 1 = omega arith in
     ap (λ n. is_null (column row n)) e ∙ present_at cs (at + 1) row k c (and_parts _ _ h).1 is must
 
+none_null : (cs : List Column) (at : ℕ) (row : Row) → are_present None at cs row ≡ true → AllByRecursion (λ (c : Column). c.not_null ≡ true) cs → (k : ℕ) → k < length cs → is_null (column row (at + k + 1)) ≡ false
+none_null [] at row h must k less = absurd (omega (arith, less))
+none_null (d ∷ cs) at row h must zero less = present_at (d ∷ cs) at row zero d h refl must.0
+none_null (d ∷ cs) at row h must (suc k) less =
+    let e : at + suc k + 1 ≡ (at + 1) + k + 1 = omega arith in
+    ap (λ n. is_null (column row n)) e ∙ none_null cs (at + 1) row (and_parts _ _ h).1 must.1 k (omega (arith, less))
+
+-- a row without NULL has as many columns as its table
+exact : (cs : List Column) (at : ℕ) (vs : Row) → are_typed None at cs vs ≡ true → ((k : ℕ) → k < length cs → is_null (column vs k) ≡ false) → length vs ≡ length cs
+exact [] at [] h some = refl
+exact [] at (v ∷ vs) h some = absurd (true≢false (sym h))
+exact (c ∷ cs) at [] h some = let less : 0 < length (c ∷ cs) = omega arith in absurd (true≢false (some 0 less))
+exact (c ∷ cs) at (v ∷ vs) h some = ap suc (exact cs (at + 1) vs (and_parts _ _ h).1 (λ k less. some (suc k) (omega (arith, less))))
+
 value_of : (k : KeyKind) (c : Column) (v : Value) → IsKeyColumn k c → suits c v ≡ true → is_null v ≡ false → IsOf k v
 value_of k c v key fits some = by k v (rw (key.0, key.1) at fits) some
   where
@@ -76,13 +90,24 @@ AreOf at [] row = Rattle.std.specs.Prelude.⊤
 AreOf at (k ∷ kinds) row = IsOf k (column row at) × AreOf (suc at) kinds row
 
 module _ (schema : Schema) (db : Trees) (t : Table) (fits : Fits schema db) (listed : Has schema.tables t) (keyless : t.key ≡ None) (row : Row) (there : Has (db t.tree) row) where
+  typed : are_typed None 0 t.columns (drop 1 row) ≡ true
+  typed = subst (λ o. are_typed o 0 t.columns (drop 1 row) ≡ true) keyless (and_parts _ _ (keeps_at Datatype schema db t row (fits.rules Datatype (λ no. cc)) listed there)).0
+
+  present : are_present None 0 t.columns row ≡ true
+  present = subst (λ o. are_present o 0 t.columns row ≡ true) keyless (keeps_at NotNull schema db t row (fits.rules NotNull (λ no. cc)) listed there)
+
+  -- it has as many columns as the table, where none may be NULL
+  pub as_long : AllByRecursion (λ (c : Column). c.not_null ≡ true) t.columns → length (drop 1 row) ≡ length t.columns
+  as_long must =
+      exact t.columns 0 (drop 1 row) typed (λ k less.
+      let from : 0 + k + 1 ≡ suc k = omega arith in
+      ap is_null (dropped row k) ∙ subst (λ n. is_null (column row n) ≡ false) from (none_null t.columns 0 row present must k less))
+
   value_in : (k : ℕ) (kind : KeyKind) (c : Column) → slice_get t.columns k ≡ Some c → IsKeyColumn kind c → IsOf kind (column row (suc k))
   value_in k kind c is key =
-      let typed : are_typed t.key 0 t.columns (drop 1 row) ≡ true = (and_parts _ _ (keeps_at Datatype schema db t row (fits.rules Datatype (λ no. cc)) listed there)).0 in
-      let present : are_present t.key 0 t.columns row ≡ true = keeps_at NotNull schema db t row (fits.rules NotNull (λ no. cc)) listed there in
-      let one = typed_at t.columns 0 (drop 1 row) k c (subst (λ o. are_typed o 0 t.columns (drop 1 row) ≡ true) keyless typed) is in
+      let one = typed_at t.columns 0 (drop 1 row) k c typed is in
       let from : 0 + k + 1 ≡ suc k = omega arith in
-      let some = subst (λ n. is_null (column row n) ≡ false) from (present_at t.columns 0 row k c (subst (λ o. are_present o 0 t.columns row ≡ true) keyless present) is key.2) in
+      let some = subst (λ n. is_null (column row n) ≡ false) from (present_at t.columns 0 row k c present is key.2) in
       value_of kind c (column row (suc k)) key (by one some) some
     where
       by : (suits c (column (drop 1 row) k) ≡ true) ⊎ (column (drop 1 row) k ≡ Null) → is_null (column row (suc k)) ≡ false → suits c (column row (suc k)) ≡ true

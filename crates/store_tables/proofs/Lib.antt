@@ -18,3 +18,4 @@ pub mod Judging
 pub mod Counting
 pub mod Applied
 pub mod Stepping
+pub mod Rewritten

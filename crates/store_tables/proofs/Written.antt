@@ -26,6 +26,7 @@ use Rattle.keep_core.specs.declared.page.PageHead.{PageHead}
 use Rattle.keep_core.specs.declared.page.Page.{Page}
 use Rattle.sql_rows.specs.Tables.{name_at, number_letters, letters}
 use Rattle.sql_rows.proofs.Letters.{numbers_rise}
+pub use Rattle.store_texts.proofs.OutcomeRows.{shown_outcome}
 use Rattle.store_tables.specs.Reading.{◌>>=◌, read_counted}
 use Rattle.store_tables.specs.Cells.{number_in, place_in, named, auto_in, auto_number, reason_in, read_back}
 use Rattle.store_tables.specs.Rows.{head_from, page_from, judgement_from, outcome_from}
@@ -54,7 +55,7 @@ reason_if : (r : Reason) → IfSome (reason_in (Text (word_of r))) (λ s. s ≡ 
 reason_if r = rw (word_back r) refl
 
 -- the place that reads is this one
-place_is : (place : ℕ) (v : Value) (n : ℕ) → place_in place v ≡ Some n → v ≡ Int (pos place)
+pub place_is : (place : ℕ) (v : Value) (n : ℕ) → place_in place v ≡ Some n → v ≡ Int (pos place)
 place_is place Null n is = absurd (none_some n is)
 place_is place (Int (pos m)) n is = by (m == place) refl is
   where
@@ -127,9 +128,6 @@ behind_all place (q ∷ rs) ts is n far r (inr there) =
 
 -- ---- outcomes
 
-abbrev pub shown_outcome : Row → Row
-shown_outcome r = column r 2 ∷ column r 3 ∷ column r 4 ∷ column r 5 ∷ column r 6 ∷ column r 7 ∷ column r 8 ∷ column r 9 ∷ []
-
 told_by : (o p : OutRow) (s r n : Option ℕ) (a : Option Auto) (w : Option Reason) (l : Option Auto) → IfSome r (λ x. x ≡ o.rule.0) → IfSome n (λ x. x ≡ o.node.0) → IfSome a (λ x. x ≡ o.auto)
     → IfSome w (λ x. x ≡ o.reason) → IfSome l (λ x. x ≡ o.last)
     → (s >>= (λ _. r >>= (λ rule. n >>= (λ node. a >>= (λ auto. w >>= (λ reason. l >>= (λ last. Some (record { rule = record { 0 = rule }; node = record { 0 = node }; auto = auto; reason = reason; evidence = o.evidence; last = last; hand = o.hand })))))))) ≡ Some p
@@ -163,7 +161,7 @@ above site page r k named place less (o ∷ os) =
     All-cons (IsBelow (name_at 2) r) (outcome_cells site page place o) (outcomes_cells site page (suc place) os) (ap (λ n. names_cmp n (number_letters (pos place))) named ∙ letters_below k place less)
     (above site page r k named (suc place) (omega (arith, less)) os)
 
-cells_in_order : (site page : List ℕ) (place : ℕ) (os : List OutRow) → IsInOrder (name_at 2) (outcomes_cells site page place os)
+pub cells_in_order : (site page : List ℕ) (place : ℕ) (os : List OutRow) → IsInOrder (name_at 2) (outcomes_cells site page place os)
 cells_in_order site page place [] = in_order_none (name_at 2)
 cells_in_order site page place (o ∷ os) =
     in_order_cons (name_at 2) (outcome_cells site page place o) (outcomes_cells site page (suc place) os) (above site page (outcome_cells site page place o) place refl (suc place) (omega arith) os)

@@ -4,5 +4,6 @@ pub mod MemberTexts
 pub mod PageTexts
 pub mod JudgementTexts
 pub mod OutcomeTexts
+pub mod OutcomeRows
 pub mod EditionTexts
 pub mod MakeTexts

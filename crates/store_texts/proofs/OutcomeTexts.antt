@@ -3,7 +3,8 @@ use Rattle.std.proofs.Common.{◌≡◌, inl, inr, ℕ, List, [], ◌∷◌, cod
 use Rattle.sqlite_value.specs.declared.value.Value.TheVariants.{Null, Text}
 use Rattle.sqlite_value.specs.Order.{Row}
 use Rattle.sqlite_sql.specs.Term.{Term, lit, col}
-use Rattle.sqlite_schema.specs.declared.command.Command.TheVariants.{Insert, Delete, Select}
+use Rattle.sqlite_schema.specs.declared.command.Command.TheVariants.{InsertOr, Delete, Select}
+use Rattle.sqlite_schema.specs.declared.command.Conflict.TheVariants.{Replace}
 use Rattle.sqlite_schema.specs.declared.command.Source.TheVariants.{Values}
 use Rattle.sqlite.specs.Listing.{understood, reads_listing}
 use Rattle.sqlite.specs.State.{State, ExecutesInside, Shown, IsUnchanged}
@@ -13,17 +14,17 @@ use Rattle.sql_rows.specs.Keyed.{KeyKind, IsKeyed, text, number}
 use Rattle.sql_rows.specs.Queries.{simple, wheres, shows, sorts}
 use Rattle.sql_rows.proofs.Canon.{name_same}
 use Rattle.sql_rows.proofs.Reading.{shows_group}
-use Rattle.sql_rows.proofs.Writing.{puts_more, drops}
+use Rattle.sql_rows.proofs.Writing.{puts, drops}
 use Rattle.store_texts.specs.Schema.{the_schema, key_index, outcomes_table}
 use Rattle.store_texts.specs.Stored.{stored, outcomes_at}
-use Rattle.store_texts.specs.Changes.{IsReady, Makes, DropsOutcomes, AddsOutcome, outcome_cells}
+use Rattle.store_texts.specs.Changes.{IsReady, Makes, DropsOutcomes, PutsOutcome, outcome_cells}
 use Rattle.store_texts.proofs.StoreLemmas.{made_outcomes}
 use Rattle.store_texts.specs.declared.outcomes.OutcomeRow.{OutcomeRow}
 
-abbrev kinds : List KeyKind
+abbrev pub kinds : List KeyKind
 kinds = text ∷ text ∷ number ∷ []
 
-keyed : IsKeyed the_schema outcomes_table kinds
+pub keyed : IsKeyed the_schema outcomes_table kinds
 keyed = record {
   listed = inr (inr (inr (inr (inl refl))));
   keyless = refl;
@@ -59,19 +60,19 @@ drop_outcomes_plain : IsPlain (understood the_schema drop_outcomes_text)
 unfolding understood everything
 drop_outcomes_plain = (refl, refl)
 
-abbrev add_outcome_text : List ℕ
-add_outcome_text = codes "INSERT INTO outcomes (site, page, seq, rule, node, auto, reason, evidence, last, hand) VALUES (?1, ?2, ?3, ?4, ?5, ?6, ?7, ?8, ?9, ?10)"
+abbrev put_outcome_text : List ℕ
+put_outcome_text = codes "INSERT OR REPLACE INTO outcomes (site, page, seq, rule, node, auto, reason, evidence, last, hand) VALUES (?1, ?2, ?3, ?4, ?5, ?6, ?7, ?8, ?9, ?10)"
 
-abbrev add_outcome_terms : List Term
-add_outcome_terms = lit Null ∷ col 0 0 ∷ col 0 1 ∷ col 0 2 ∷ col 0 3 ∷ col 0 4 ∷ col 0 5 ∷ col 0 6 ∷ col 0 7 ∷ col 0 8 ∷ col 0 9 ∷ []
+abbrev put_outcome_terms : List Term
+put_outcome_terms = lit Null ∷ col 0 0 ∷ col 0 1 ∷ col 0 2 ∷ col 0 3 ∷ col 0 4 ∷ col 0 5 ∷ col 0 6 ∷ col 0 7 ∷ col 0 8 ∷ col 0 9 ∷ []
 
-add_outcome_is : command_of (understood the_schema add_outcome_text) ≡ Insert 4 (Values add_outcome_terms 11)
+put_outcome_is : command_of (understood the_schema put_outcome_text) ≡ InsertOr 4 Replace (Values put_outcome_terms 11) []
 unfolding understood everything
-add_outcome_is = refl
+put_outcome_is = refl
 
-add_outcome_plain : IsPlain (understood the_schema add_outcome_text)
+put_outcome_plain : IsPlain (understood the_schema put_outcome_text)
 unfolding understood everything
-add_outcome_plain = (refl, refl)
+put_outcome_plain = (refl, refl)
 
 module _ (old new : State) (ready : IsReady old) where
   pub shows_page_outcomes : (site page : List ℕ) → (rows : List Row) → Shown page_outcomes_text (Text site ∷ Text page ∷ []) old new rows → (rows ≡ outcomes_at site page (stored old.now.trees)) × IsUnchanged old new
@@ -82,6 +83,6 @@ module _ (old new : State) (ready : IsReady old) where
   drops_outcomes site page count h =
       made_outcomes site page _ old new (drops the_schema outcomes_table kinds keyed old new ready (site ∷ page ∷ []) (Text site ∷ Text page ∷ []) (refl, (refl, tt)) (refl, (refl, tt)) drop_outcomes_text count 4 refl (drop_outcomes_is site page) drop_outcomes_plain refl h)
 
-  pub adds_outcome : (site page : List ℕ) (row : OutcomeRow) (count : ℕ) → ExecutesInside 0 add_outcome_text (outcome_cells site page row) old new (Ok count) → Makes (AddsOutcome site page row) old new
-  adds_outcome site page row count h =
-      made_outcomes site page _ old new (puts_more the_schema outcomes_table kinds keyed old new ready (outcome_cells site page row) (site ∷ page ∷ []) (rw (name_same site site refl, name_same page page refl) refl) add_outcome_text (outcome_cells site page row) count 4 11 add_outcome_terms refl add_outcome_is add_outcome_plain refl refl h)
+  pub puts_outcome : (site page : List ℕ) (row : OutcomeRow) (count : ℕ) → ExecutesInside 0 put_outcome_text (outcome_cells site page row) old new (Ok count) → Makes (PutsOutcome site page row) old new
+  puts_outcome site page row count h =
+      made_outcomes site page _ old new (puts the_schema outcomes_table kinds keyed old new ready (outcome_cells site page row) (site ∷ page ∷ []) tt (rw (name_same site site refl, name_same page page refl) refl) (refl, (refl, (refl, tt))) put_outcome_text (outcome_cells site page row) count 4 11 put_outcome_terms refl put_outcome_is put_outcome_plain refl refl h)

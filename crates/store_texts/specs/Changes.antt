@@ -67,8 +67,9 @@ AddsJudgement site page j = ChangesJudgements site page (put_row (name_at 2) (ju
 abbrev pub outcome_cells : List ℕ → List ℕ → OutcomeRow → Row
 outcome_cells site page o = Text site ∷ Text page ∷ Int o.seq ∷ Int o.rule ∷ Int o.node ∷ Int o.auto ∷ Text o.reason.now ∷ Text o.evidence.now ∷ Int o.last ∷ Text o.hand.now ∷ []
 
-abbrev pub AddsOutcome : List ℕ → List ℕ → OutcomeRow → Stored → Stored → Type 0
-AddsOutcome site page o = ChangesOutcomes site page (put_row (name_at 2) (outcome_cells site page o))
+-- an outcome of a page in place of the one that has its seq
+abbrev pub PutsOutcome : List ℕ → List ℕ → OutcomeRow → Stored → Stored → Type 0
+PutsOutcome site page o = ChangesOutcomes site page (put_row (name_at 2) (outcome_cells site page o))
 
 abbrev pub AddsEdition : ℤ → Stored → Stored → Type 0
 AddsEdition number = ChangesEditions (put_row (name_at 0) (Int number ∷ []))

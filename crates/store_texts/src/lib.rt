@@ -23,6 +23,6 @@ pub use making::{
 pub use members::{add_member, drop_members, site_members};
 pub use opening::reopen;
 pub use ours::is_ours;
-pub use outcomes::{OutcomeRow, add_outcome, drop_outcomes, page_outcomes};
+pub use outcomes::{OutcomeRow, drop_outcomes, page_outcomes, put_outcome};
 pub use pages::{drop_page, heads, page_row, put_page};
 pub use sites::{put_site, site_row};

@@ -5,7 +5,7 @@ ghost use Rattle.sqlite.specs.Held.{state};
 ghost use Rattle.sqlite.specs.State.{HasCleanDisk, Survives, IsUnchanged};
 ghost use Rattle.sql_rows.specs.Inside.{StaysInside};
 ghost use Rattle.store_texts.specs.Stored.{stored, outcomes_at};
-ghost use Rattle.store_texts.specs.Changes.{IsReady, Makes, DropsOutcomes, AddsOutcome};
+ghost use Rattle.store_texts.specs.Changes.{IsReady, Makes, DropsOutcomes, PutsOutcome};
 
 use sqlite::{Alter, Error, Row, Transaction, params};
 
@@ -67,12 +67,12 @@ pub fn drop_outcomes<S: Alter>(
     )
 }
 
-/// Adds an outcome of a page, whose `seq` isn't there yet.
+/// Puts an outcome of a page in place of the one that has its `seq`, or adds it where none has.
 ///
 /// # Errors
 ///
 /// Those of a statement of `sqlite`, after which the transaction may have been rolled back.
-pub fn add_outcome<S: Alter>(
+pub fn put_outcome<S: Alter>(
     tx: &mut Transaction<'_, S>,
     site: &str,
     page: &str,
@@ -80,12 +80,12 @@ pub fn add_outcome<S: Alter>(
 ) -> Result<usize, Error>
     ensures same_reference { tx.new.conn.ghost_name ≡ tx.old.conn.ghost_name }
     ensures makes { HasCleanDisk (state S.Store tx.new.conn.now) → IsReady (state S.Store tx.old.conn.now)
-        → OnOk result (Makes (AddsOutcome site.now page.now row.now) (state S.Store tx.old.conn.now) (state S.Store tx.new.conn.now)) }
+        → OnOk result (Makes (PutsOutcome site.now page.now row.now) (state S.Store tx.old.conn.now) (state S.Store tx.new.conn.now)) }
     ensures kept { HasCleanDisk (state S.Store tx.new.conn.now) → StaysInside (state S.Store tx.old.conn.now) (state S.Store tx.new.conn.now) result }
     ensures survives { Survives (state S.Store tx.old.conn.now) (state S.Store tx.new.conn.now) (λ _. ⊥) }
 {
     tx.execute(
-        "INSERT INTO outcomes (site, page, seq, rule, node, auto, reason, evidence, last, hand) VALUES (?1, ?2, ?3, ?4, ?5, ?6, ?7, ?8, ?9, ?10)",
+        "INSERT OR REPLACE INTO outcomes (site, page, seq, rule, node, auto, reason, evidence, last, hand) VALUES (?1, ?2, ?3, ?4, ?5, ?6, ?7, ?8, ?9, ?10)",
         params![
             site,
             page,

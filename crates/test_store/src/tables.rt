@@ -4,9 +4,9 @@ use sqlite_disk::Memory;
 use std::alloc::Global;
 use std::test::Fail;
 use store_texts::{
-    JudgementRow, OutcomeRow, add_edition, add_judgement, add_member, add_outcome, drop_judgements,
-    drop_members, drop_outcomes, drop_page, edition_rows, heads, make_tables, page_judgements,
-    page_outcomes, page_row, put_page, put_site, site_members, site_row,
+    JudgementRow, OutcomeRow, add_edition, add_judgement, add_member, drop_judgements, drop_members,
+    drop_outcomes, drop_page, edition_rows, heads, make_tables, page_judgements, page_outcomes,
+    page_row, put_outcome, put_page, put_site, site_members, site_row,
 };
 
 fn opened(alloc: Global) -> Result<Connection<FileStore<Memory>>, Error> {
@@ -35,8 +35,8 @@ enum Write {
     Edition(i64),
 }
 
-// One after another. Sites and pages are put again, and groups are dropped beside others that stay.
-static WRITES: [Write; 23] = [
+// One after another. Sites, pages and an outcome are put again, and groups are dropped beside others that stay.
+static WRITES: [Write; 24] = [
     Write::Site("acme", 1),
     Write::Site("zeta", 5),
     Write::Site("acme", 2),
@@ -58,6 +58,7 @@ static WRITES: [Write; 23] = [
     Write::NoJudgements("acme", "news"),
     Write::Outcome("acme", "home", 10),
     Write::Outcome("acme", "home", 9),
+    Write::Outcome("acme", "home", 10),
     Write::Outcome("acme", "news", 10),
     Write::NoOutcomes("acme", "news"),
 ];
@@ -132,7 +133,7 @@ fn written<S: Alter>(tx: &mut Transaction<'_, S>, write: Write) -> Result<usize,
         Write::NoPage(site, page) => drop_page(tx, site, page),
         Write::Judgement(site, page, seq) => add_judgement(tx, site, page, &judgement(seq)),
         Write::NoJudgements(site, page) => drop_judgements(tx, site, page),
-        Write::Outcome(site, page, seq) => add_outcome(tx, site, page, &outcome(seq)),
+        Write::Outcome(site, page, seq) => put_outcome(tx, site, page, &outcome(seq)),
         Write::NoOutcomes(site, page) => drop_outcomes(tx, site, page),
         Write::Edition(number) => add_edition(tx, number),
     }
