@@ -4,9 +4,9 @@ use sqlite_disk::Memory;
 use std::alloc::Global;
 use std::test::Fail;
 use store_texts::{
-    JudgementRow, OutcomeRow, add_edition, add_judgement, add_member, drop_judgements, drop_members,
-    drop_outcomes, drop_page, edition_rows, heads, make_tables, page_judgements, page_outcomes,
-    page_row, put_outcome, put_page, put_site, site_members, site_row,
+    JudgementRow, OutcomeRow, add_edition, add_judgement, add_member, drop_judgements,
+    drop_members, drop_outcomes, drop_page, edition_rows, heads, make_tables, page_judgements,
+    page_outcomes, page_row, put_outcome, put_page, put_site, site_members, site_row,
 };
 
 fn opened(alloc: Global) -> Result<Connection<FileStore<Memory>>, Error> {
