@@ -8,7 +8,7 @@ from collections import Counter
 from typing import Callable
 
 from soaking import refusals, snapshots
-from soaking.knowing import Page, Site, compact, page_differs, shows_others, site_differs
+from soaking.knowing import COMPOSITE, Page, Site, compact, page_differs, shows_others, site_differs
 from soaking.life import Life
 from soaking.ways import Direct, Proxied, Reply
 
@@ -149,7 +149,7 @@ class Client:
         reply = self.way.ask(f"GET {self.site.path(name, '/outcomes')}") if name else None
         if reply is None or reply[0] != 200:
             return
-        rows = [row for row in json.loads(reply[1])["outcomes"] if row["automatic"] == "cantTell"]
+        rows = [row for row in json.loads(reply[1])["outcomes"] if row["automatic"] == "cantTell" and row["rule"] != COMPOSITE]
         if not rows:
             return
         row, verdict = self.chance.choice(rows), self.chance.choice(VERDICTS)

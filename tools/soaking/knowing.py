@@ -16,6 +16,8 @@ from soaking.ways import Direct, Proxied
 Snapshot = dict[str, Any]
 LINE = re.compile(r"^page (\S+) rev (\d+) ", re.MULTILINE)
 AUDITED = re.compile(r"^(\w{6}) node (\d+) (\w+) (\S+)$")
+COMPOSITE = "cf77f2"  # nobody judges it: it merges the outcomes of its inputs
+INPUTS = ("047fe0", "b40fd1", "ye5d6e", "3e12e1")
 
 
 def compact(value: object) -> bytes:
@@ -39,8 +41,11 @@ class Page:
     snapshot: Snapshot
     judgements: list[tuple[str, int, str, str, str]] = field(default_factory=list)
 
-    def final(self, row: dict[str, Any]) -> tuple[str, str]:
-        """The final outcome of a row and who judged it: the last judgement of just this evidence counts."""
+    def final(self, row: dict[str, Any], rows: list[dict[str, Any]]) -> tuple[str, str]:
+        """The final outcome of a row of the page and who judged it: the last judgement of just this evidence counts."""
+        if row["rule"] == COMPOSITE:
+            found = {self.final(one, rows)[0] for one in rows if one["rule"] in INPUTS and one["node"] == row["node"]}
+            return next(outcome for outcome in ("passed", "cantTell", "failed") if outcome in found), ""
         for rule, node, verdict, hand, digest in reversed(self.judgements):
             if row["automatic"] == "cantTell" and (rule, node, digest) == (row["rule"], row["node"], row["digest"]):
                 return verdict, hand
@@ -82,8 +87,9 @@ def page_differs(way: Direct | Proxied, site: Site, name: str) -> str:
     shown = compact(json.loads(said)["snapshot"])
     if rows["rev"] != page.rev or found != audited(shown):
         return f"{name}: its outcomes aren't those of an audit of its snapshot"
-    wrong = [row for row in rows["outcomes"] if (row["outcome"], row["by"]) != page.final(row)]
-    return f"{name}: {wrong[0]}, not {page.final(wrong[0])}" if wrong else ""
+    known = [(row, page.final(row, rows["outcomes"])) for row in rows["outcomes"]]
+    wrong = [(row, final) for row, final in known if (row["outcome"], row["by"]) != final]
+    return f"{name}: {wrong[0][0]}, not {wrong[0][1]}" if wrong else ""
 
 
 def site_differs(way: Direct | Proxied, site: Site) -> str:
