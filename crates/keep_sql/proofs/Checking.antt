@@ -64,7 +64,7 @@ none_counted : {X : Type 0} (read : ℕ → Row → Option X) (place : ℕ) (rs 
 none_counted read place [] ts is none = refl
 none_counted read place (r ∷ rs) ts is none = let f = first_counted read place r rs ts is in let empty : f.0 ∷ f.1 ≡ [] = sym f.4 ∙ none in absurd cc
 
-rows_read : (rows : List Row) (os : Outcomes) → outcomes_shown rows ≡ Some os → read_counted outcome_from 1 rows ≡ Some os.rows
+pub rows_read : (rows : List Row) (os : Outcomes) → outcomes_shown rows ≡ Some os → read_counted outcome_from 1 rows ≡ Some os.rows
 rows_read rows os is = by (read_counted outcome_from 1 rows) is
   where
     by : (o : Option (List OutRow)) → option_map (λ (rows : List OutRow). record { rows = rows }) o ≡ Some os → o ≡ Some os.rows

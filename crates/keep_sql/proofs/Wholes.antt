@@ -27,20 +27,24 @@ pub outcomes_then : (site page : List ℕ) (f g : List Row → List Row) (a b c 
     → Makes (ChangesOutcomes site page (λ rows. g (f rows))) a c
 outcomes_then site page f g a b c = makes_then (ChangesOutcomes site page f) (ChangesOutcomes site page g) (ChangesOutcomes site page (λ rows. g (f rows))) a b c (λ x y z. outcomes_through site page x y z f g)
 
-cells_append : (site page : List ℕ) (place next : ℕ) (xs ys : List OutRow) → next ≡ place + length xs → outcomes_cells site page place (xs ++ ys) ≡ outcomes_cells site page place xs ++ outcomes_cells site page next ys
+pub cells_append : (site page : List ℕ) (place next : ℕ) (xs ys : List OutRow) → next ≡ place + length xs → outcomes_cells site page place (xs ++ ys) ≡ outcomes_cells site page place xs ++ outcomes_cells site page next ys
 cells_append site page place next [] ys is = let same : place ≡ next = omega (arith, is) in ap (λ n. outcomes_cells site page n ys) same
 cells_append site page place next (x ∷ xs) ys is = ap (λ l. outcomes_cells site page place (x ∷ []) ++ l) (cells_append site page (suc place) next xs ys (omega (arith, is)))
+
+-- rows that are put in two parts
+pub joined : (site page : List ℕ) (xs ys all : List Row) (a b c : State) → all ≡ xs ++ ys → Makes (ChangesOutcomes site page (put_rows (name_at 2) xs)) a b → Makes (ChangesOutcomes site page (put_rows (name_at 2) ys)) b c
+    → Makes (ChangesOutcomes site page (put_rows (name_at 2) all)) a c
+joined site page xs ys all a b c is first second =
+    let puts : (λ (rows : List Row). put_rows (name_at 2) ys (put_rows (name_at 2) xs rows)) ≡ put_rows (name_at 2) all =
+    λ i rows. (sym (put_rows_append (name_at 2) xs ys rows) ∙ ap (λ l. put_rows (name_at 2) l rows) (sym is)) i in
+    subst (λ f. Makes (ChangesOutcomes site page f) a c) puts (outcomes_then site page (put_rows (name_at 2) xs) (put_rows (name_at 2) ys) a b c first second)
 
 -- outcomes that are put in two halves
 pub halves : (site page : List ℕ) (place next : ℕ) (all xs ys : List OutRow) (a b c : State) → all ≡ xs ++ ys → next ≡ place + length xs
     → Makes (ChangesOutcomes site page (put_rows (name_at 2) (outcomes_cells site page place xs))) a b → Makes (ChangesOutcomes site page (put_rows (name_at 2) (outcomes_cells site page next ys))) b c
     → Makes (ChangesOutcomes site page (put_rows (name_at 2) (outcomes_cells site page place all))) a c
-halves site page place next all xs ys a b c is at first second =
-    let cells : outcomes_cells site page place all ≡ outcomes_cells site page place xs ++ outcomes_cells site page next ys = ap (outcomes_cells site page place) is ∙ cells_append site page place next xs ys at in
-    let puts : (λ (rows : List Row). put_rows (name_at 2) (outcomes_cells site page next ys) (put_rows (name_at 2) (outcomes_cells site page place xs) rows)) ≡ put_rows (name_at 2) (outcomes_cells site page place all) =
-    λ i rows. (sym (put_rows_append (name_at 2) (outcomes_cells site page place xs) (outcomes_cells site page next ys) rows) ∙ ap (λ l. put_rows (name_at 2) l rows) (sym cells)) i in
-    subst (λ f. Makes (ChangesOutcomes site page f) a c) puts
-    (outcomes_then site page (put_rows (name_at 2) (outcomes_cells site page place xs)) (put_rows (name_at 2) (outcomes_cells site page next ys)) a b c first second)
+halves site page place next all xs ys a b c is at =
+    joined site page (outcomes_cells site page place xs) (outcomes_cells site page next ys) (outcomes_cells site page place all) a b c (ap (outcomes_cells site page place) is ∙ cells_append site page place next xs ys at)
 
 pub onward : {A E P Q : Type 0} (r : Result A E) → (P → Q) → OnOk r P → OnOk r Q
 onward (Ok a) f p = f p

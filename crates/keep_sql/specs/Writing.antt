@@ -1,16 +1,18 @@
 -- What is read and written of a store in a transaction, and what changes of the tables make of it.
-use Rattle.std.specs.Prelude.{◌≡◌, ℕ, pos, List, Result, OnOk, OnErr, IsTrue}
+use Rattle.std.specs.Prelude.{◌≡◌, ℕ, suc, pos, List, [], ◌∷◌, if◌then◌else◌, Result, OnOk, OnErr, IsTrue}
 use Rattle.sqlite_trees.specs.Tree.{Trees}
+use Rattle.sqlite_value.specs.Order.{Row}
 use Rattle.sqlite.specs.State.{State, HasCleanDisk, IsUnchanged}
 use Rattle.rule_core.specs.Words.{word_of}
 use Rattle.judge_core.specs.declared.outcomes.OutRow.{OutRow}
+use Rattle.judge_core.specs.Equality.{same_row}
 use Rattle.keep_core.specs.declared.page.PagePut.{PagePut}
 use Rattle.keep_core.specs.declared.change.Change.{Change}
 use Rattle.store_texts.specs.Stored.{Stored, stored}
 use Rattle.store_texts.specs.Changes.{IsStore, IsReady, Makes}
 use Rattle.store_texts.specs.declared.outcomes.OutcomeRow.{OutcomeRow}
 use Rattle.store_tables.specs.Cells.{auto_number}
-use Rattle.store_tables.specs.Batches.{Applies, ReadsPage, PutsOne}
+use Rattle.store_tables.specs.Batches.{Applies, ReadsPage, PutsOne, outcome_cells}
 use Rattle.keep_sql.specs.Reading.{rows_in}
 
 -- a call in a transaction finds this of the rows, and leaves them as they were
@@ -35,6 +37,13 @@ pub record IsRowOf (place : ℕ) (o : OutRow) (row : OutcomeRow) : Type 0 where
   pub evidence : row.evidence.now ≡ o.evidence
   pub last : row.last ≡ pos (auto_number o.last)
   pub hand : row.hand.now ≡ o.hand
+
+-- the rows of the outcomes that aren't what is kept at their places, of as many, the first at this place
+abbrev pub changed_cells : List ℕ → List ℕ → ℕ → List OutRow → List OutRow → List Row
+changed_cells site page place [] os = []
+changed_cells site page place (k ∷ ks) [] = []
+changed_cells site page place (k ∷ ks) (o ∷ os) =
+    if same_row k o then changed_cells site page (suc place) ks os else outcome_cells site page place o ∷ changed_cells site page (suc place) ks os
 
 -- a call on a connection makes the change, or none
 pub record ChangesStore {A E : Type 0} (change : Change) (old new : State) (result : Result A E) : Type 0 where

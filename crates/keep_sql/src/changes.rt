@@ -51,9 +51,10 @@ fn put_one<S: Alter>(
     ensures survives { Survives (state S.Store tx.old.conn.now) (state S.Store tx.new.conn.now) (λ _. ⊥) }
 {
     let page = &put.page.head.page;
-    check_page(alloc, tx, site, page)?;
-    write_page(alloc, tx, site.as_str(), &put.page)?;
-    write_outcomes(tx, site.as_str(), page.as_str(), &put.outcomes)
+    let kept = check_page(alloc, tx, site, page)?;
+    let site = site.as_str();
+    write_page(alloc, tx, site, &put.page)?;
+    write_outcomes(tx, site, page.as_str(), &kept, &put.outcomes)
 }
 
 fn put_each<S: Alter>(
@@ -144,10 +145,10 @@ fn judge<S: Alter>(
     ensures kept { HasCleanDisk (state S.Store tx.new.conn.now) → StaysInside (state S.Store tx.old.conn.now) (state S.Store tx.new.conn.now) result }
     ensures survives { Survives (state S.Store tx.old.conn.now) (state S.Store tx.new.conn.now) (λ _. ⊥) }
 {
-    let place = check_judged(alloc, tx, site, page)?;
+    let (place, kept) = check_judged(alloc, tx, site, page)?;
     let (site, page) = (site.as_str(), page.as_str());
     write_judgement(tx, site, page, place, judgement)?;
-    write_outcomes(tx, site, page, outcomes)
+    write_outcomes(tx, site, page, &kept, outcomes)
 }
 
 /// Makes a change that fits, of rows that read.

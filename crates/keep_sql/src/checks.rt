@@ -1,6 +1,6 @@
 //! What has to read before it is replaced or dropped. Each call fails with `Failed` where it doesn't.
 
-ghost use Rattle.std.specs.Prelude.{◌≡◌, [], suc, length, IfOk, IsTrue, None, true, IsSome};
+ghost use Rattle.std.specs.Prelude.{◌≡◌, [], suc, length, IfOk, IsTrue, Some, None, true, IsSome};
 ghost use Rattle.sqlite.specs.Held.{state};
 ghost use Rattle.sqlite.specs.State.{HasCleanDisk, Survives, IsUnchanged};
 ghost use Rattle.sql_rows.specs.Inside.{StaysInside};
@@ -8,7 +8,7 @@ ghost use Rattle.store_texts.specs.Stored.{site_at, members_at, heads_at, judgem
 ghost use Rattle.store_texts.specs.Changes.{IsReady};
 ghost use Rattle.store_tables.specs.Batches.{ReadsSite, ReadsPage, ReadsJudged};
 ghost use Rattle.store_tables.specs.Told.{is_site, is_page, site_shown, judgements_shown};
-ghost use Rattle.keep_sql.specs.Reading.{rows_in};
+ghost use Rattle.keep_sql.specs.Reading.{rows_in, outcomes_in, ReadsInside};
 ghost use Rattle.keep_sql.specs.Writing.{FindsInside};
 
 use crate::reads;
@@ -104,14 +104,15 @@ fn are_housed(page: &Option<Page>, judgements: &List<Judgement>, outcomes: &Outc
     page.is_some() || (judgements.len() == 0 && outcomes.rows.len() == 0)
 }
 
-/// A page's row, its judgements and its outcomes read; without the row there are none of its name.
+/// The outcomes of a page. Its row, its judgements and its outcomes read; without the row there are none of its name.
 pub fn check_page<S: Alter>(
     alloc: Global,
     tx: &mut Transaction<'_, S>,
     site: &Text,
     page: &Text,
-) -> Result<(), StoreFault>
+) -> Result<Outcomes, StoreFault>
     ensures same_reference { tx.new.conn.ghost_name ≡ tx.old.conn.ghost_name }
+    ensures reads { ReadsInside (outcomes_in site.now page.now) (state S.Store tx.old.conn.now) (state S.Store tx.new.conn.now) result }
     ensures finds { FindsInside (ReadsPage site.now page.now) (state S.Store tx.old.conn.now) (state S.Store tx.new.conn.now) result }
     ensures kept { HasCleanDisk (state S.Store tx.new.conn.now) → StaysInside (state S.Store tx.old.conn.now) (state S.Store tx.new.conn.now) result }
     ensures survives { Survives (state S.Store tx.old.conn.now) (state S.Store tx.new.conn.now) (λ _. ⊥) }
@@ -122,7 +123,7 @@ pub fn check_page<S: Alter>(
     if !are_housed(&found, &judgements, &outcomes) {
         return Err(StoreFault::Failed);
     }
-    Ok(())
+    Ok(outcomes)
 }
 
 // The place that comes behind the judgements of a page, which read.
@@ -163,22 +164,25 @@ fn check_there<S: Alter>(
     Ok(())
 }
 
-/// The place that comes behind the judgements of a page. The page is there, and its judgements and its outcomes read.
+/// The place that comes behind the judgements of a page, and its outcomes. The page is there, and its judgements and
+/// its outcomes read.
 pub fn check_judged<S: Alter>(
     alloc: Global,
     tx: &mut Transaction<'_, S>,
     site: &Text,
     page: &Text,
-) -> Result<u64, StoreFault>
+) -> Result<(u64, Outcomes), StoreFault>
     ensures same_reference { tx.new.conn.ghost_name ≡ tx.old.conn.ghost_name }
+    ensures reads { HasCleanDisk (state S.Store tx.new.conn.now) → IsReady (state S.Store tx.old.conn.now)
+        → IfOk result (λ found. outcomes_in site.now page.now (state S.Store tx.old.conn.now) ≡ Some found.1) }
     ensures finds { HasCleanDisk (state S.Store tx.new.conn.now) → IsReady (state S.Store tx.old.conn.now)
-        → IfOk result (λ place. (place ≡ suc (length (judgements_at site.now page.now (rows_in (state S.Store tx.old.conn.now)))))
+        → IfOk result (λ found. (found.0 ≡ suc (length (judgements_at site.now page.now (rows_in (state S.Store tx.old.conn.now)))))
         × ReadsJudged site.now page.now (rows_in (state S.Store tx.old.conn.now)) × IsUnchanged (state S.Store tx.old.conn.now) (state S.Store tx.new.conn.now)) }
     ensures kept { HasCleanDisk (state S.Store tx.new.conn.now) → StaysInside (state S.Store tx.old.conn.now) (state S.Store tx.new.conn.now) result }
     ensures survives { Survives (state S.Store tx.old.conn.now) (state S.Store tx.new.conn.now) (λ _. ⊥) }
 {
     check_there(tx, site.as_str(), page.as_str())?;
     let place = next_place(alloc, tx, site.as_str(), page.as_str())?;
-    reads::outcomes_in(alloc, tx, site, page)?;
-    Ok(place)
+    let outcomes = reads::outcomes_in(alloc, tx, site, page)?;
+    Ok((place, outcomes))
 }

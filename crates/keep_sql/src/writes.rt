@@ -1,18 +1,20 @@
 //! What is written of a site, a page, a judgement and outcomes. Each call fails with `Failed` where a statement was
 //! refused for another cause than memory, or a number is out of the range of a column.
 
-ghost use Rattle.std.specs.Prelude.{◌≡◌, ◌+◌, [], pos, map, Ok as ok, IfOk};
+ghost use Rattle.std.specs.Prelude.{◌≡◌, ◌≤◌, ◌+◌, [], ◌∷◌, pos, map, length, Some, Ok as ok, IfOk};
 ghost use Rattle.sqlite.specs.Held.{state};
 ghost use Rattle.sqlite.specs.State.{HasCleanDisk, Survives};
 ghost use Rattle.named_rows.specs.ByName.{put_row, put_rows};
 ghost use Rattle.snap_json.specs.Pages.{kept_tree};
 ghost use Rattle.sql_rows.specs.Inside.{StaysInside};
 ghost use Rattle.sql_rows.specs.Tables.{name_at};
+ghost use Rattle.judge_core.specs.Equality.{same_row};
 ghost use Rattle.keep_core.specs.Fits.{FitsPage};
 ghost use Rattle.store_texts.specs.Changes.{PutsSite, ChangesMembers, ChangesPages, ChangesJudgements, ChangesOutcomes};
 ghost use Rattle.store_tables.specs.Cells.{role_number, auto_number};
 ghost use Rattle.store_tables.specs.Batches.{member_cells, page_cells, judgement_cells, outcome_cells, outcomes_cells, outcome_rows};
-ghost use Rattle.keep_sql.specs.Writing.{MakesInside, IsRowOf};
+ghost use Rattle.keep_sql.specs.Reading.{outcomes_in};
+ghost use Rattle.keep_sql.specs.Writing.{MakesInside, IsRowOf, changed_cells};
 
 use judge_core::{Judgement, OutRow, Outcomes};
 use keep_core::{Member, MemberRole, Page};
@@ -236,18 +238,101 @@ fn add_outcomes<S: Alter>(
     add_outcomes(tx, site, page, next, second)
 }
 
-/// Puts outcomes in place of those of a page.
+fn is_same(kept: &OutRow, outcome: &OutRow) -> bool
+    ensures { result ≡ same_row kept.now outcome.now }
+{
+    *kept == *outcome
+}
+
+// Puts an outcome at its place, unless it is what is kept there.
+fn write_changed<S: Alter>(
+    tx: &mut Transaction<'_, S>,
+    site: &str,
+    page: &str,
+    place: u64,
+    kept: &OutRow,
+    outcome: &OutRow,
+) -> Result<(), StoreFault>
+    ensures same_reference { tx.new.conn.ghost_name ≡ tx.old.conn.ghost_name }
+    ensures makes { MakesInside (ChangesOutcomes site.now page.now (put_rows (name_at 2) (changed_cells site.now page.now place (kept.now ∷ []) (outcome.now ∷ [])))) (state S.Store tx.old.conn.now) (state S.Store tx.new.conn.now) result }
+    ensures kept { HasCleanDisk (state S.Store tx.new.conn.now) → StaysInside (state S.Store tx.old.conn.now) (state S.Store tx.new.conn.now) result }
+    ensures survives { Survives (state S.Store tx.old.conn.now) (state S.Store tx.new.conn.now) (λ _. ⊥) }
+{
+    if is_same(kept, outcome) {
+        return Ok(());
+    }
+    write_outcome(tx, site, page, place, outcome)
+}
+
+// Puts each outcome at its place that isn't what is kept there. In halves, as above.
+#[tactic(auto, using(crate::proofs::Changed::firsts_as_long, crate::proofs::Changed::rests_as_long))]
+fn write_each_changed<S: Alter>(
+    tx: &mut Transaction<'_, S>,
+    site: &str,
+    page: &str,
+    place: u64,
+    kept: &[OutRow],
+    outcomes: &[OutRow],
+) -> Result<(), StoreFault>
+    requires as_many { length kept.now ≡ length outcomes.now }
+    ensures same_reference { tx.new.conn.ghost_name ≡ tx.old.conn.ghost_name }
+    ensures makes { MakesInside (ChangesOutcomes site.now page.now (put_rows (name_at 2) (changed_cells site.now page.now place kept.now outcomes.now))) (state S.Store tx.old.conn.now) (state S.Store tx.new.conn.now) result }
+    ensures kept { HasCleanDisk (state S.Store tx.new.conn.now) → StaysInside (state S.Store tx.old.conn.now) (state S.Store tx.new.conn.now) result }
+    ensures survives { Survives (state S.Store tx.old.conn.now) (state S.Store tx.new.conn.now) (λ _. ⊥) }
+{
+    if outcomes.len() < 2 {
+        return match (kept.first(), outcomes.first()) {
+            (Some(kept), Some(outcome)) => write_changed(tx, site, page, place, kept, outcome),
+            _ => Ok(()),
+        };
+    }
+    let middle = outcomes.len() / 2;
+    let (kept_first, kept_second) = kept.split_at(middle);
+    let (first, second) = outcomes.split_at(middle);
+    let next = place_after(place, first.len())?;
+    write_each_changed(tx, site, page, place, kept_first, first)?;
+    write_each_changed(tx, site, page, next, kept_second, second)
+}
+
+// Puts outcomes in place of those of a page that are kept, which aren't more. What stays as it is isn't written.
+fn write_over<S: Alter>(
+    tx: &mut Transaction<'_, S>,
+    site: &str,
+    page: &str,
+    kept: &Outcomes,
+    outcomes: &Outcomes,
+) -> Result<(), StoreFault>
+    requires within { length kept.now.rows ≤ length outcomes.now.rows }
+    ensures same_reference { tx.new.conn.ghost_name ≡ tx.old.conn.ghost_name }
+    ensures makes { outcomes_in site.now page.now (state S.Store tx.old.conn.now) ≡ Some kept.now
+        → MakesInside (ChangesOutcomes site.now page.now (λ _. outcome_rows site.now page.now outcomes.now)) (state S.Store tx.old.conn.now) (state S.Store tx.new.conn.now) result }
+    ensures kept { HasCleanDisk (state S.Store tx.new.conn.now) → StaysInside (state S.Store tx.old.conn.now) (state S.Store tx.new.conn.now) result }
+    ensures survives { Survives (state S.Store tx.old.conn.now) (state S.Store tx.new.conn.now) (λ _. ⊥) }
+{
+    let (first, rest) = outcomes.rows.as_slice().split_at(kept.rows.len());
+    let next = place_after(1, first.len())?;
+    write_each_changed(tx, site, page, 1, kept.rows.as_slice(), first)?;
+    add_outcomes(tx, site, page, next, rest)
+}
+
+/// Puts outcomes in place of those of a page that are kept. Where they aren't fewer, what stays as it is at its place
+/// isn't written.
 pub fn write_outcomes<S: Alter>(
     tx: &mut Transaction<'_, S>,
     site: &str,
     page: &str,
+    kept: &Outcomes,
     outcomes: &Outcomes,
 ) -> Result<(), StoreFault>
     ensures same_reference { tx.new.conn.ghost_name ≡ tx.old.conn.ghost_name }
-    ensures makes { MakesInside (ChangesOutcomes site.now page.now (λ _. outcome_rows site.now page.now outcomes.now)) (state S.Store tx.old.conn.now) (state S.Store tx.new.conn.now) result }
+    ensures makes { outcomes_in site.now page.now (state S.Store tx.old.conn.now) ≡ Some kept.now
+        → MakesInside (ChangesOutcomes site.now page.now (λ _. outcome_rows site.now page.now outcomes.now)) (state S.Store tx.old.conn.now) (state S.Store tx.new.conn.now) result }
     ensures kept { HasCleanDisk (state S.Store tx.new.conn.now) → StaysInside (state S.Store tx.old.conn.now) (state S.Store tx.new.conn.now) result }
     ensures survives { Survives (state S.Store tx.old.conn.now) (state S.Store tx.new.conn.now) (λ _. ⊥) }
 {
+    if kept.rows.len() <= outcomes.rows.len() {
+        return write_over(tx, site, page, kept, outcomes);
+    }
     drop_outcomes(tx, site, page)?;
     add_outcomes(tx, site, page, 1, outcomes.rows.as_slice())
 }

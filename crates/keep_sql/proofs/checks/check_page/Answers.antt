@@ -31,3 +31,17 @@ returns-clause-finds g c clean ready =
           (sym judged ∙ c.in_ok-judgements.ensures.reads clean2 ready1) (sym audited ∙ c.in_ok-outcomes.ensures.reads clean ready2) (c.if-not-are_housed.ensures refl),
       unchanged_through s0 s2 s3 first_two same3,
     )
+
+pub returns-clause-reads : goal.returns-clause-reads
+returns-clause-reads g c clean ready =
+    let s0 = state g.S.Store c.args.tx.now.conn.now in
+    let s1 = state g.S.Store c.page_in.new.tx.conn.now in
+    let s2 = state g.S.Store c.judgements_in.new.tx.conn.now in
+    let clean2 : HasCleanDisk s2 = omega (arith, clean, c.outcomes_in.ensures.survives.clean) in
+    let clean1 : HasCleanDisk s1 = omega (arith, clean2, c.judgements_in.ensures.survives.clean) in
+    let same1 = c.in_ok-found.ensures.same clean1 ready in
+    let ready1 = ready_same s0 s1 ready same1 in
+    let same2 = c.in_ok-judgements.ensures.same clean2 ready1 in
+    let same = unchanged_through s0 s1 s2 same1 same2 in
+    sym (ap (λ (d : Database). outcomes_shown (outcomes_at c.args.site.now c.args.page.now (stored d.trees))) same.0.now_is)
+    ∙ c.in_ok-outcomes.ensures.reads clean (ready_same s1 s2 ready1 same2)

@@ -5,7 +5,7 @@ use Rattle.keep_sql.proofs.Wholes.{onward, of_ok, whole_outcomes}
 use Rattle.keep_sql.proofs.writes.write_outcomes.Goals as goal
 
 pub returns-clause-makes : goal.returns-clause-makes
-returns-clause-makes g c clean ready =
+returns-clause-makes g c _ clean ready =
     let s0 = state g.S.Store c.args.tx.now.conn.now in
     let s1 = state g.S.Store c.drop_outcomes.new.tx.conn.now in
     let s2 = state g.S.Store c.add_outcomes.new.tx.conn.now in
