@@ -1,6 +1,7 @@
-use Rattle.std.proofs.Common.{◌∙◌, refl, arith, map}
+use Rattle.std.proofs.Common.{◌∙◌, refl, arith}
 use Rattle.counts.proofs.CountLaws.{rose_after}
 use Rattle.rule_core.specs.Books.{Book}
+use Rattle.desk_http.proofs.Moments.{moment, desk_with}
 use Rattle.desk_http.proofs.Tables.{keeps_join}
 use Rattle.desk_http.proofs.DoorLaws.{door_none, door_more, door_keeps}
 use Rattle.desk_http.proofs.serving.serve.Goals as goal
@@ -10,9 +11,10 @@ loop-link-init g c =
     let door = g.D.Door in
     let link = g.D.Conn.Link in
     let keeper = g.K.Keeper in
+    let beside = moment keeper.tables keeper.faults g.B.RuleBook.calls in
     let book : Book = g.B.RuleBook.book in
     record {
-      served = door_none book link.wire link.faults (door.log c.args.door.now) (door.told c.args.door.now) (keeper.tables c.args.keeper.now) (keeper.faults c.args.keeper.now) (map g.B.RuleBook.calls c.args.books.now);
+      served = door_none book (desk_with link.wire link.faults (door.told c.args.door.now) (door.log c.args.door.now) (beside c.args.keeper.now c.args.books.now));
       sound = λ t is. (t, is, λ sound. sound);
       heard = refl;
       given_back = refl;
@@ -36,17 +38,16 @@ loop-link-preserved g c =
     let door = g.D.Door in
     let link = g.D.Conn.Link in
     let keeper = g.K.Keeper in
-    let calls = g.B.RuleBook.calls in
+    let beside = moment keeper.tables keeper.faults g.B.RuleBook.calls in
     let book : Book = g.B.RuleBook.book in
     let i = c.loop-link.invariant in
     let one = c.serve_next.ensures in
     let gave = rw c.in-Ok-Some.field-0-is at c.in-Ok-Some.ensures.gives in
     record {
-      served = door_more book link.wire link.faults (door.log c.args.door.now) (door.log c.loop-link.door) (door.log c.next.new.self) (door.log c.serve_next.new.door)
+      served = door_more book link.wire link.faults
           (door.told c.args.door.now) (door.told c.loop-link.door) (door.told c.next.new.self) (door.told c.serve_next.new.door)
-          (keeper.tables c.args.keeper.now) (keeper.tables c.loop-link.keeper) (keeper.tables c.serve_next.new.keeper)
-          (keeper.faults c.args.keeper.now) (keeper.faults c.loop-link.keeper) (keeper.faults c.serve_next.new.keeper)
-          (map calls c.args.books.now) (map calls c.loop-link.books) (map calls c.serve_next.new.books)
+          (door.log c.args.door.now) (door.log c.loop-link.door) (door.log c.next.new.self) (door.log c.serve_next.new.door)
+          (beside c.args.keeper.now c.args.books.now) (beside c.loop-link.keeper c.loop-link.books) (beside c.serve_next.new.keeper c.serve_next.new.books)
           i.served c.next.ensures.log gave one.served one.took;
       sound = keeps_join book (keeper.tables c.args.keeper.now) (keeper.tables c.loop-link.keeper) (keeper.tables c.serve_next.new.keeper) i.sound one.sound;
       heard = one.took.heard ∙ gave.heard ∙ i.heard;
@@ -60,13 +61,12 @@ returns-in-Ok-None-clause-served g c =
     let door = g.D.Door in
     let link = g.D.Conn.Link in
     let keeper = g.K.Keeper in
-    let calls = g.B.RuleBook.calls in
+    let beside = moment keeper.tables keeper.faults g.B.RuleBook.calls in
     let book : Book = g.B.RuleBook.book in
     let ended = rw c.in-Ok-None.field-0-is at c.in-Ok-None.ensures.gives in
-    door_keeps book link.wire link.faults (door.log c.args.door.now) (door.log c.loop-link.door) (door.log c.next.new.self)
-    (door.told c.args.door.now) (door.told c.loop-link.door) (door.told c.next.new.self) (keeper.tables c.args.keeper.now) (keeper.tables c.loop-link.keeper)
-    (keeper.faults c.args.keeper.now) (keeper.faults c.loop-link.keeper) (map calls c.args.books.now) (map calls c.loop-link.books)
-    c.loop-link.invariant.served c.next.ensures.log ended.0.allowed
+    door_keeps book link.wire link.faults (door.told c.args.door.now) (door.told c.loop-link.door) (door.told c.next.new.self)
+    (door.log c.args.door.now) (door.log c.loop-link.door) (door.log c.next.new.self)
+    (beside c.args.keeper.now c.args.books.now) (beside c.loop-link.keeper c.loop-link.books) c.loop-link.invariant.served c.next.ensures.log ended.0.allowed
 
 pub returns-in-Ok-None-clause-sound : goal.returns-in-Ok-None-clause-sound
 returns-in-Ok-None-clause-sound g c = c.loop-link.invariant.sound
@@ -95,12 +95,11 @@ returns-in-Err-clause-served g c =
     let door = g.D.Door in
     let link = g.D.Conn.Link in
     let keeper = g.K.Keeper in
-    let calls = g.B.RuleBook.calls in
+    let beside = moment keeper.tables keeper.faults g.B.RuleBook.calls in
     let book : Book = g.B.RuleBook.book in
-    door_keeps book link.wire link.faults (door.log c.args.door.now) (door.log c.loop-link.door) (door.log c.next.new.self)
-    (door.told c.args.door.now) (door.told c.loop-link.door) (door.told c.next.new.self) (keeper.tables c.args.keeper.now) (keeper.tables c.loop-link.keeper)
-    (keeper.faults c.args.keeper.now) (keeper.faults c.loop-link.keeper) (map calls c.args.books.now) (map calls c.loop-link.books)
-    c.loop-link.invariant.served c.next.ensures.log c.in-Err.ensures.gives.allowed
+    door_keeps book link.wire link.faults (door.told c.args.door.now) (door.told c.loop-link.door) (door.told c.next.new.self)
+    (door.log c.args.door.now) (door.log c.loop-link.door) (door.log c.next.new.self)
+    (beside c.args.keeper.now c.args.books.now) (beside c.loop-link.keeper c.loop-link.books) c.loop-link.invariant.served c.next.ensures.log c.in-Err.ensures.gives.allowed
 
 pub returns-in-Err-clause-sound : goal.returns-in-Err-clause-sound
 returns-in-Err-clause-sound g c = c.loop-link.invariant.sound
