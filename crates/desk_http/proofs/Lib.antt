@@ -1,4 +1,5 @@
 pub mod Quiet
+pub mod Moments
 pub mod Runs
 pub mod Tables
 pub mod Served

@@ -36,6 +36,7 @@ use Rattle.http_replies.specs.Made.{is_made}
 use Rattle.http_replies.specs.Answers.{answer_bytes, no_memory}
 use Rattle.desk_http.specs.Printed.{PrintsReply}
 use Rattle.desk_http.specs.Answering.{as_request, GetsRefusal, AnswersMessage, message_judgings, MessageGets, Gets, Refuses, MessageSpares}
+use Rattle.desk_http.specs.Desk.{Moment}
 use Rattle.desk_http.specs.Serving.{OthersRest, AnsweredBy, Settles, Responds, RespondsTo, IsEither, WritesAll, ServesItem}
 use Rattle.desk_http.proofs.Quiet.{unmade_keeps, unmade_stays}
 
@@ -54,10 +55,10 @@ costs_of book q old new calls before now costs =
     subst Q (sym (sum-map calls now)) (subst P (sym (sum-map calls before)) costs)
 
 -- the machine's reply was printed
-replied : (book : Book) (q : Request) (closes : Bool) (old new : Option Tables) (from to : ℕ) (calls now_calls : List ℕ) (reply : Reply) (bytes : List ℕ) →
-    machine.Serves book q old new from to reply → Costs book q.command old new (sum calls) (sum now_calls) → ((IsImport q.command → ⊥) → OthersRest calls now_calls) →
-    bytes ≡ answer_bytes book.infos (Replied reply) closes → RespondsTo book q closes old new from to calls now_calls bytes
-replied book q closes old new from to calls now_calls reply bytes served costs others printed = record {
+replied : (book : Book) (q : Request) (closes : Bool) (old new : Moment) (reply : Reply) (bytes : List ℕ) →
+    machine.Serves book q old.tables new.tables old.faults new.faults reply → Costs book q.command old.tables new.tables (sum old.calls) (sum new.calls) → ((IsImport q.command → ⊥) → OthersRest old.calls new.calls) →
+    bytes ≡ answer_bytes book.infos (Replied reply) closes → RespondsTo book q closes old new bytes
+replied book q closes old new reply bytes served costs others printed = record {
   reply = reply;
   bytes_are = printed;
   told = λ t is. let s = served.told t is in (s.0, s.1, λ sound. let z = s.2 sound in (z.0, (z.1, costs.told s.0 t s.1 is sound)));
@@ -78,10 +79,10 @@ no_fault : (from to : ℕ) → Refused OutOfMemory ≡ Refused KeeperFault → R
 no_fault from to same = cc
 
 -- the machine's reply wasn't printed, which is none to a change
-unprinted : (book : Book) (q : Request) (closes : Bool) (old new : Option Tables) (from to : ℕ) (calls now_calls : List ℕ) (reply : Reply) (bytes : List ℕ) →
-    FitsRequest book q → is_made reply ≡ false → machine.Serves book q old new from to reply → Costs book q.command old new (sum calls) (sum now_calls) →
-    ((IsImport q.command → ⊥) → OthersRest calls now_calls) → bytes ≡ answer_bytes book.infos no_memory closes → RespondsTo book q closes old new from to calls now_calls bytes
-unprinted book q closes old new from to calls now_calls reply bytes fits unmade served costs others full = record {
+unprinted : (book : Book) (q : Request) (closes : Bool) (old new : Moment) (reply : Reply) (bytes : List ℕ) →
+    FitsRequest book q → is_made reply ≡ false → machine.Serves book q old.tables new.tables old.faults new.faults reply → Costs book q.command old.tables new.tables (sum old.calls) (sum new.calls) →
+    ((IsImport q.command → ⊥) → OthersRest old.calls new.calls) → bytes ≡ answer_bytes book.infos no_memory closes → RespondsTo book q closes old new bytes
+unprinted book q closes old new reply bytes fits unmade served costs others full = record {
   reply = Refused OutOfMemory;
   bytes_are = full;
   told = λ t is.
@@ -90,10 +91,10 @@ unprinted book q closes old new from to calls now_calls reply bytes fits unmade 
         s.1,
         λ sound.
             let z = s.2 sound in
-            (z.0, (answers_full book (state_of s.0) (state_of t) q reply from to fits unmade z.1, costs.told s.0 t s.1 is sound)),
+            (z.0, (answers_full book (state_of s.0) (state_of t) q reply old.faults new.faults fits unmade z.1, costs.told s.0 t s.1 is sound)),
       );
   never_falls = served.never_falls;
-  failed = no_fault from to;
+  failed = no_fault old.faults new.faults;
   refused = λ refusal same t is.
       let s = served.told t is in
       s.1 ∙ ap Some (sym (unmade_stays book q s.0 t reply fits unmade (served.changed s.0 t s.1 is)));
@@ -101,23 +102,23 @@ unprinted book q closes old new from to calls now_calls reply bytes fits unmade 
 }
 
 -- the machine's reply was printed, or it wasn't
-pub answered : (book : Book) (q : Request) (closes : Bool) (old new : Option Tables) (from to : ℕ) (calls now_calls : List ℕ) (reply : Reply) (bytes : List ℕ) →
-    FitsRequest book q → machine.Serves book q old new from to reply → Costs book q.command old new (sum calls) (sum now_calls) →
-    ((IsImport q.command → ⊥) → OthersRest calls now_calls) → PrintsReply book.infos reply closes bytes → RespondsTo book q closes old new from to calls now_calls bytes
-answered book q closes old new from to calls now_calls reply bytes fits served costs others (inl printed) =
-    replied book q closes old new from to calls now_calls reply bytes served costs others printed
-answered book q closes old new from to calls now_calls reply bytes fits served costs others (inr (unmade, full)) =
-    unprinted book q closes old new from to calls now_calls reply bytes fits unmade served costs others full
+pub answered : (book : Book) (q : Request) (closes : Bool) (old new : Moment) (reply : Reply) (bytes : List ℕ) →
+    FitsRequest book q → machine.Serves book q old.tables new.tables old.faults new.faults reply → Costs book q.command old.tables new.tables (sum old.calls) (sum new.calls) →
+    ((IsImport q.command → ⊥) → OthersRest old.calls new.calls) → PrintsReply book.infos reply closes bytes → RespondsTo book q closes old new bytes
+answered book q closes old new reply bytes fits served costs others (inl printed) =
+    replied book q closes old new reply bytes served costs others printed
+answered book q closes old new reply bytes fits served costs others (inr (unmade, full)) =
+    unprinted book q closes old new reply bytes fits unmade served costs others full
 
 -- there was no memory before the request was handled
-pub unhandled : (book : Book) (q : Request) (closes : Bool) (kept : Option Tables) (f : ℕ) (c : List ℕ) (bytes : List ℕ) →
-    bytes ≡ answer_bytes book.infos no_memory closes → RespondsTo book q closes kept kept f f c c bytes
-unhandled book q closes kept f c bytes full = record {
+pub unhandled : (book : Book) (q : Request) (closes : Bool) (here : Moment) (bytes : List ℕ) →
+    bytes ≡ answer_bytes book.infos no_memory closes → RespondsTo book q closes here here bytes
+unhandled book q closes here bytes full = record {
   reply = Refused OutOfMemory;
   bytes_are = full;
   told = λ t is. (t, is, λ sound. (sound, (inr (refl, inr refl), omega arith)));
   never_falls = omega arith;
-  failed = no_fault f f;
+  failed = no_fault here.faults here.faults;
   refused = λ refusal same t is. is;
   others = λ none. refl;
 }
@@ -130,9 +131,9 @@ unmade false room most full is = refl
 -- ---- what came
 
 -- nothing is done
-stays : (book : Book) (came : Sent) (a : Answer) (kept : Option Tables) (f : ℕ) (c : List ℕ) → ((s : Tables) → AnsweredBy book came a f f c c s s) → Gets book.infos came a f f →
-    Settles book came a kept kept f f c c
-stays book came a kept f c answers gets = record {
+stays : (book : Book) (came : Sent) (a : Answer) (here : Moment) → ((s : Tables) → AnsweredBy book came a here here s s) → Gets book.infos came a here.faults here.faults →
+    Settles book came a here here
+stays book came a here answers gets = record {
   told = λ t is. (t, is, λ sound. (sound, answers t));
   never_falls = omega arith;
   gets = gets;
@@ -140,57 +141,59 @@ stays book came a kept f c answers gets = record {
   others = λ spares. refl;
 }
 
-declines : (book : Book) (refusal : Answer) (came : Sent) (closes : Bool) (kept : Option Tables) (f : ℕ) (c : List ℕ) (bytes : List ℕ) →
-    ((a : Answer) → GetsRefusal refusal a → (s : Tables) → AnsweredBy book came a f f c c s s) → ((a : Answer) → GetsRefusal refusal a → Gets book.infos came a f f) →
-    IsEither (answer_bytes book.infos refusal closes) (answer_bytes book.infos no_memory closes) bytes → Responds book came closes kept kept f f c c bytes
-declines book refusal came closes kept f c bytes answers gets (inl due) = record {
+declines : (book : Book) (refusal : Answer) (came : Sent) (closes : Bool) (here : Moment) (bytes : List ℕ) →
+    ((a : Answer) → GetsRefusal refusal a → (s : Tables) → AnsweredBy book came a here here s s) →
+    ((a : Answer) → GetsRefusal refusal a → Gets book.infos came a here.faults here.faults) →
+    IsEither (answer_bytes book.infos refusal closes) (answer_bytes book.infos no_memory closes) bytes → Responds book came closes here here bytes
+declines book refusal came closes here bytes answers gets (inl due) = record {
   answer = refusal;
   bytes_are = due;
-  settles = stays book came refusal kept f c (answers refusal (inl refl)) (gets refusal (inl refl));
+  settles = stays book came refusal here (answers refusal (inl refl)) (gets refusal (inl refl));
 }
-declines book refusal came closes kept f c bytes answers gets (inr full) = record {
+declines book refusal came closes here bytes answers gets (inr full) = record {
   answer = no_memory;
   bytes_are = full;
-  settles = stays book came no_memory kept f c (answers no_memory (inr refl)) (gets no_memory (inr refl));
+  settles = stays book came no_memory here (answers no_memory (inr refl)) (gets no_memory (inr refl));
 }
 
-pub misread : (book : Book) (fault : HeadFault) (closes : Bool) (kept : Option Tables) (f : ℕ) (c : List ℕ) (bytes : List ℕ) →
-    IsEither (answer_bytes book.infos (Misread fault) closes) (answer_bytes book.infos no_memory closes) bytes → Responds book (sent.Refused fault) closes kept kept f f c c bytes
-misread book fault closes kept f c bytes either =
-    declines book (Misread fault) (sent.Refused fault) closes kept f c bytes (λ (a : Answer) which (s : Tables). ((refl, which), omega arith)) (λ (a : Answer) which. which) either
+pub misread : (book : Book) (fault : HeadFault) (closes : Bool) (here : Moment) (bytes : List ℕ) →
+    IsEither (answer_bytes book.infos (Misread fault) closes) (answer_bytes book.infos no_memory closes) bytes → Responds book (sent.Refused fault) closes here here bytes
+misread book fault closes here bytes either =
+    declines book (Misread fault) (sent.Refused fault) closes here bytes (λ (a : Answer) which (s : Tables). ((refl, which), omega arith)) (λ (a : Answer) which. which) either
 
 -- what is said of a message, by the request that it makes
-abbrev ByRequest : Book → Result Asked RequestFault → Answer → ℕ → ℕ → List ℕ → List ℕ → Tables → Tables → Type 0
-ByRequest book asked answer from to calls now_calls s t =
-    AnswersMessage book (state_of s) asked answer (state_of t) from to × (sum now_calls ≤ sum calls + message_judgings book (state_of s) asked)
+abbrev ByRequest : Book → Result Asked RequestFault → Answer → Moment → Moment → Tables → Tables → Type 0
+ByRequest book asked answer old new s t =
+    AnswersMessage book (state_of s) asked answer (state_of t) old.faults new.faults
+    × (sum new.calls ≤ sum old.calls + message_judgings book (state_of s) asked)
 
-pub misasked : (book : Book) (m : Message) (fault : RequestFault) (closes : Bool) (kept : Option Tables) (f : ℕ) (c : List ℕ) (bytes : List ℕ) → Err fault ≡ request_of book.infos m.head m.body →
-    IsEither (answer_bytes book.infos (Misasked fault) closes) (answer_bytes book.infos no_memory closes) bytes → Responds book (sent.Asked m) closes kept kept f f c c bytes
-misasked book m fault closes kept f c bytes made either =
-    declines book (Misasked fault) (sent.Asked m) closes kept f c bytes
+pub misasked : (book : Book) (m : Message) (fault : RequestFault) (closes : Bool) (here : Moment) (bytes : List ℕ) → Err fault ≡ request_of book.infos m.head m.body →
+    IsEither (answer_bytes book.infos (Misasked fault) closes) (answer_bytes book.infos no_memory closes) bytes → Responds book (sent.Asked m) closes here here bytes
+misasked book m fault closes here bytes made either =
+    declines book (Misasked fault) (sent.Asked m) closes here bytes
     (λ (a : Answer) which (s : Tables).
-    let P : Result Asked RequestFault → Type 0 = λ r. ByRequest book r a f f c c s s in
+    let P : Result Asked RequestFault → Type 0 = λ r. ByRequest book r a here here s s in
     subst P made ((refl, which), omega arith))
     (λ (a : Answer) which.
-    let P : Result Asked RequestFault → Type 0 = λ r. MessageGets r a f f in
+    let P : Result Asked RequestFault → Type 0 = λ r. MessageGets r a here.faults here.faults in
     subst P made which)
     either
 
 -- there was no memory for reading a message
-pub unread : (book : Book) (m : Message) (closes : Bool) (kept : Option Tables) (f : ℕ) (c : List ℕ) (bytes : List ℕ) →
-    bytes ≡ answer_bytes book.infos no_memory closes → Responds book (sent.Asked m) closes kept kept f f c c bytes
-unread book m closes kept f c bytes full = record {
+pub unread : (book : Book) (m : Message) (closes : Bool) (here : Moment) (bytes : List ℕ) →
+    bytes ≡ answer_bytes book.infos no_memory closes → Responds book (sent.Asked m) closes here here bytes
+unread book m closes here bytes full = record {
   answer = no_memory;
   bytes_are = full;
-  settles = stays book (sent.Asked m) no_memory kept f c (λ t. of t (request_of book.infos m.head m.body)) (gets (request_of book.infos m.head m.body));
+  settles = stays book (sent.Asked m) no_memory here (λ t. of t (request_of book.infos m.head m.body)) (gets (request_of book.infos m.head m.body));
 }
   where
-    of : (t : Tables) (r : Result Asked RequestFault) → ByRequest book r no_memory f f c c t t
+    of : (t : Tables) (r : Result Asked RequestFault) → ByRequest book r no_memory here here t t
     of t (Ok asked) = ((Refused OutOfMemory, refl, inr (refl, inr refl)), omega arith)
     of t (Err fault) = ((refl, inr refl), omega arith)
 
-    gets : (r : Result Asked RequestFault) → MessageGets r no_memory f f
-    gets (Ok asked) = (Refused OutOfMemory, refl, no_fault f f)
+    gets : (r : Result Asked RequestFault) → MessageGets r no_memory here.faults here.faults
+    gets (Ok asked) = (Refused OutOfMemory, refl, no_fault here.faults here.faults)
     gets (Err fault) = inr refl
 
 -- a refusal of the machine's
@@ -198,10 +201,10 @@ refused_as : (reply : Reply) (old new : Option Tables) → ((refusal : Refusal) 
 refused_as reply old new refused (refusal, same) = refused refusal same
 
 -- the message makes a request, which was answered
-pub asked_so : (book : Book) (m : Message) (asked : Asked) (closes : Bool) (old new : Option Tables) (from to : ℕ) (calls now_calls : List ℕ) (bytes : List ℕ) →
-    Ok asked ≡ request_of book.infos m.head m.body → RespondsTo book (as_request asked) closes old new from to calls now_calls bytes →
-    Responds book (sent.Asked m) closes old new from to calls now_calls bytes
-asked_so book m asked closes old new from to calls now_calls bytes made so = record {
+pub asked_so : (book : Book) (m : Message) (asked : Asked) (closes : Bool) (old new : Moment) (bytes : List ℕ) →
+    Ok asked ≡ request_of book.infos m.head m.body → RespondsTo book (as_request asked) closes old new bytes →
+    Responds book (sent.Asked m) closes old new bytes
+asked_so book m asked closes old new bytes made so = record {
   answer = Replied so.reply;
   bytes_are = so.bytes_are;
   settles =
@@ -209,12 +212,12 @@ asked_so book m asked closes old new from to calls now_calls bytes made so = rec
         told =
             λ t is.
             let s = so.told t is in
-            let P : Result Asked RequestFault → Type 0 = λ r. ByRequest book r (Replied so.reply) from to calls now_calls s.0 t in
+            let P : Result Asked RequestFault → Type 0 = λ r. ByRequest book r (Replied so.reply) old new s.0 t in
             (s.0, s.1, λ sound. let z = s.2 sound in (z.0, subst P made ((so.reply, refl, z.1.0), z.1.1)));
         never_falls = so.never_falls;
-        gets = let P : Result Asked RequestFault → Type 0 = λ r. MessageGets r (Replied so.reply) from to in subst P made (so.reply, refl, so.failed);
-        refused = refused_as so.reply old new so.refused;
-        others = let P : Result Asked RequestFault → Type 0 = λ r. MessageSpares r → OthersRest calls now_calls in subst P made so.others;
+        gets = let P : Result Asked RequestFault → Type 0 = λ r. MessageGets r (Replied so.reply) old.faults new.faults in subst P made (so.reply, refl, so.failed);
+        refused = refused_as so.reply old.tables new.tables so.refused;
+        others = let P : Result Asked RequestFault → Type 0 = λ r. MessageSpares r → OthersRest old.calls new.calls in subst P made so.others;
       };
 }
 
@@ -231,10 +234,10 @@ wrote_all (Err e) due bytes old new same wrote broke w is =
     (z.0, z.1, sym (ap (λ (x : Wire). x.brought) z.2), sym (ap (λ (x : Wire). x.left) z.2), (take n bytes, drop n bytes, take-append-drop n bytes ∙ same, ap (λ (x : Wire). x.written) z.2))
 
 -- an item was answered, and the answer written, or a front of it
-pub item_served : {A : Type 0} (book : Book) (i : Item) (result : Result A Failed) (wire0 wire1 : Option Wire) (kept0 kept1 : Option Tables) (f0 f1 : ℕ) (c0 c1 : List ℕ) (bytes : List ℕ) →
-    Responds book i.sent i.closes kept0 kept1 f0 f1 c0 c1 bytes → OnOk result (Wrote extended bytes wire0 wire1) → OnErr result (WroteFront extended bytes wire0 wire1) →
-    ServesItem book i result wire0 kept0 wire1 kept1 f0 f1 c0 c1
-item_served book i result wire0 wire1 kept0 kept1 f0 f1 c0 c1 bytes so wrote broke = record {
+pub item_served : {A : Type 0} (book : Book) (i : Item) (result : Result A Failed) (wire0 wire1 : Option Wire) (old new : Moment) (bytes : List ℕ) →
+    Responds book i.sent i.closes old new bytes → OnOk result (Wrote extended bytes wire0 wire1) → OnErr result (WroteFront extended bytes wire0 wire1) →
+    ServesItem book i result wire0 wire1 old new
+item_served book i result wire0 wire1 old new bytes so wrote broke = record {
   answer = so.answer;
   wrote = wrote_all result (answer_bytes book.infos so.answer i.closes) bytes wire0 wire1 so.bytes_are wrote broke;
   settles = so.settles;

@@ -5,7 +5,6 @@ use Rattle.streams.specs.declared.failed.Failed.{Failed}
 use Rattle.streams.proofs.Told.{was_written}
 use Rattle.links.specs.Wires.{Wire, extended}
 use Rattle.rule_core.specs.Books.{Book}
-use Rattle.keep_core.specs.Tables.{Tables}
 use Rattle.http_messages.specs.declared.item.Item.{Item}
 use Rattle.http_messages.specs.declared.reading.Got.TheVariants as got
 use Rattle.http_messages.specs.declared.reading.ReadFault.TheVariants as read
@@ -16,14 +15,15 @@ use Rattle.http_replies.specs.Answers.{answer_bytes}
 use Rattle.desk_http.specs.declared.link_end.LinkEnd.TheVariants as end
 use Rattle.desk_http.specs.declared.link_end.LinkEnd.{LinkEnd}
 use Rattle.desk_http.specs.Answering.{answers}
-use Rattle.desk_http.specs.Linking.{Finishes, full}
+use Rattle.desk_http.specs.Linking.{Exchange, WritesAnswers, Finishes, full}
+use Rattle.desk_http.specs.Desk.{Moment}
 use Rattle.desk_http.specs.Serving.{Writes, ServesItem, Serves, SoFar, Ends, IsFull}
 use Rattle.desk_http.proofs.Runs.{answers_more, each_more, talk_more, talk_closes, talk_ended, talk_cut}
 use Rattle.desk_http.proofs.Tables.{settles_more, settles_none}
 
 -- nothing was served yet, and nothing is held
-pub begins : (book : Book) (held : List ℕ) (wire : Option Wire) (kept : Option Tables) (f : ℕ) (c : List ℕ) → held ≡ [] → Serves book (SoFar book.infos held) wire kept wire kept f f c c
-begins book held wire kept f c empty w is = (
+pub begins : (book : Book) (held : List ℕ) (wire : Option Wire) (m : Moment) → held ≡ [] → Serves book (SoFar book.infos held) wire wire m m
+begins book held wire m empty w is = (
   w,
   is,
   record {
@@ -34,7 +34,7 @@ begins book held wire kept f c empty w is = (
     each = refl;
     written = sym (append-nil w.written);
     holds = (sym (ap (λ h. h ++ w.left) empty), refl);
-    settles = settles_none book f c kept;
+    settles = settles_none book m;
   },
 )
 
@@ -45,20 +45,18 @@ written_more old mid now out more step first = step ∙ ap (λ l. l ++ more) fir
 -- ---- one item more
 
 -- what is to be shown of it: of the bytes of the link, of what came next and of what was written
-abbrev pub Step : {A : Type 0} → Book → Item → List ℕ → Result A Failed → (List ℕ → List ℕ → List Item → List Answer → List ℕ → Type 0) → Type 0
+abbrev pub Step : {A : Type 0} → Book → Item → List ℕ → Result A Failed → (List ℕ → Exchange → Type 0) → Type 0
 Step book i now_held result P =
     (v w : Wire) (bytes next : List ℕ) (is : List Item) (said : List Answer) (a : Answer) (out : List ℕ) → Talk bytes is (going next)
     → IsNext next (gives i (now_held ++ w.left)) → out ≡ answers book.infos is said
     → answers book.infos (is ++ i ∷ []) (said ++ a ∷ []) ≡ answers book.infos is said ++ answer_bytes book.infos a i.closes
     → Writes result v w (answer_bytes book.infos a i.closes)
-    → (more : List ℕ) × (w.written ≡ v.written ++ more) × P bytes w.left (is ++ i ∷ []) (said ++ a ∷ []) (out ++ more)
+    → (more : List ℕ) × (w.written ≡ v.written ++ more) × P w.left (record { bytes = bytes; items = is ++ i ∷ []; said = said ++ a ∷ []; written = out ++ more })
 
-pub one_more : {A : Type 0} (book : Book) (i : Item) (result : Result A Failed) (held now_held : List ℕ) (wire0 wire1 wire2 wire3 : Option Wire) (kept0 kept1 kept3 : Option Tables)
-    (f0 f1 f3 : ℕ) (c0 c1 c3 : List ℕ) (P : List ℕ → List ℕ → List Item → List Answer → List ℕ → Type 0) →
-    Serves book (SoFar book.infos held) wire0 kept0 wire1 kept1 f0 f1 c0 c1 → Moves (Says (got.Came i)) held now_held wire1 wire2 →
-    ServesItem book i result wire2 kept1 wire3 kept3 f1 f3 c1 c3 → Step book i now_held result P →
-    Serves book P wire0 kept0 wire3 kept3 f0 f3 c0 c3
-one_more book i result held now_held wire0 wire1 wire2 wire3 kept0 kept1 kept3 f0 f1 f3 c0 c1 c3 P so_far read served step w is_w =
+pub one_more : {A : Type 0} (book : Book) (i : Item) (result : Result A Failed) (held now_held : List ℕ) (wire0 wire1 wire2 wire3 : Option Wire) (m0 m1 m3 : Moment)
+    (P : List ℕ → Exchange → Type 0) → Serves book (SoFar book.infos held) wire0 wire1 m0 m1 → Moves (Says (got.Came i)) held now_held wire1 wire2 →
+    ServesItem book i result wire2 wire3 m1 m3 → Step book i now_held result P → Serves book P wire0 wire3 m0 m3
+one_more book i result held now_held wire0 wire1 wire2 wire3 m0 m1 m3 P so_far read served step w is_w =
     let z = served.wrote w is_w in
     let y = read z.0 z.1 in
     let x = so_far y.0 y.1 in
@@ -76,7 +74,7 @@ one_more book i result held now_held wire0 wire1 wire2 wire3 kept0 kept1 kept3 f
         each = each_more one.items one.said i a one.each;
         written = written_more x.0.written z.0.written w.written one.out more.0 more.1 (sym y.3 ∙ one.written);
         holds = more.2;
-        settles = settles_more book one.items one.said i a f0 f1 f3 c0 c1 c3 kept0 kept1 kept3 one.settles served.settles;
+        settles = settles_more book one.items one.said i a m0 m1 m3 one.settles served.settles;
       },
     )
 
@@ -98,17 +96,16 @@ breaks A book i now_held e v w bytes next is said a out talk here outs more (par
     last true shut = (closed, talk_closes bytes next (now_held ++ w.left) is i talk here shut)
     last false stays = (going (now_held ++ w.left), talk_more bytes next (now_held ++ w.left) is i talk here stays)
 
-    of : (end : End) × Talk bytes (is ++ i ∷ []) end → (more : List ℕ) × (w.written ≡ v.written ++ more) × Ends (Finishes book.infos end.LinkFault) bytes w.left (is ++ i ∷ []) (said ++ a ∷ []) (out ++ more)
+    of : (end : End) × Talk bytes (is ++ i ∷ []) end → (more : List ℕ) × (w.written ≡ v.written ++ more) × Finishes book.infos end.LinkFault (record { bytes = bytes; items = is ++ i ∷ []; said = said ++ a ∷ []; written = out ++ more })
     of (e, ends) = (part, written, inr (inr (is, i, said, a, e, refl, refl, ends, (part, rest, whole, ap (λ l. l ++ part) outs))))
 
 -- ---- the ends
 
 -- the connection ended, or the link failed, before another item
-pub ends : (book : Book) (result : LinkEnd) (Q : List ℕ → List ℕ → Type 0) (held now_held : List ℕ) (wire0 wire1 wire2 : Option Wire) (kept0 kept1 : Option Tables) (f0 f1 : ℕ) (c0 c1 : List ℕ) →
-    ((before now bytes : List ℕ) (is : List Item) (said : List Answer) (out : List ℕ) → Q before now → Talk bytes is (going before) → out ≡ answers book.infos is said → Finishes book.infos result bytes is said out) →
-    Serves book (SoFar book.infos held) wire0 kept0 wire1 kept1 f0 f1 c0 c1 → Moves Q held now_held wire1 wire2 →
-    Serves book (Ends (Finishes book.infos result)) wire0 kept0 wire2 kept1 f0 f1 c0 c1
-ends book result Q held now_held wire0 wire1 wire2 kept0 kept1 f0 f1 c0 c1 finish so_far read w is_w =
+pub ends : (book : Book) (result : LinkEnd) (Q : List ℕ → List ℕ → Type 0) (held now_held : List ℕ) (wire0 wire1 wire2 : Option Wire) (m0 m1 : Moment) →
+    ((before now : List ℕ) (x : Exchange) → Q before now → Talk x.bytes x.items (going before) → WritesAnswers book.infos x → Finishes book.infos result x) →
+    Serves book (SoFar book.infos held) wire0 wire1 m0 m1 → Moves Q held now_held wire1 wire2 → Serves book (Ends (Finishes book.infos result)) wire0 wire2 m0 m1
+ends book result Q held now_held wire0 wire1 wire2 m0 m1 finish so_far read w is_w =
     let y = read w is_w in
     let x = so_far y.0 y.1 in
     let one = x.2 in (
@@ -121,31 +118,31 @@ ends book result Q held now_held wire0 wire1 wire2 kept0 kept1 f0 f1 c0 c1 finis
         brought = one.brought ∙ y.2;
         each = one.each;
         written = sym y.3 ∙ one.written;
-        holds = finish (held ++ y.0.left) (now_held ++ w.left) x.0.left one.items one.said one.out y.4 one.holds.0 one.holds.1;
+        holds = finish (held ++ y.0.left) (now_held ++ w.left) (record { bytes = x.0.left; items = one.items; said = one.said; written = one.out }) y.4 one.holds.0 one.holds.1;
         settles = one.settles;
       },
     )
 
-pub ended_between : (book : Book) (held now_held : List ℕ) (wire0 wire1 wire2 : Option Wire) (kept0 kept1 : Option Tables) (f0 f1 : ℕ) (c0 c1 : List ℕ) →
-    Serves book (SoFar book.infos held) wire0 kept0 wire1 kept1 f0 f1 c0 c1 → Moves (Says got.Ended) held now_held wire1 wire2 →
-    Serves book (Ends (Finishes book.infos end.Ended)) wire0 kept0 wire2 kept1 f0 f1 c0 c1
-ended_between book held now_held wire0 wire1 wire2 kept0 kept1 f0 f1 c0 c1 =
-    ends book end.Ended (Says got.Ended) held now_held wire0 wire1 wire2 kept0 kept1 f0 f1 c0 c1
-    (λ (before now bytes : List ℕ) (is : List Item) (said : List Answer) (out : List ℕ) says talk outs. (talk_ended bytes before is talk says, outs))
+pub ended_between : (book : Book) (held now_held : List ℕ) (wire0 wire1 wire2 : Option Wire) (m0 m1 : Moment) →
+    Serves book (SoFar book.infos held) wire0 wire1 m0 m1 → Moves (Says got.Ended) held now_held wire1 wire2 →
+    Serves book (Ends (Finishes book.infos end.Ended)) wire0 wire2 m0 m1
+ended_between book held now_held wire0 wire1 wire2 m0 m1 =
+    ends book end.Ended (Says got.Ended) held now_held wire0 wire1 wire2 m0 m1
+    (λ (before now : List ℕ) (x : Exchange) says talk outs. (talk_ended x.bytes before x.items talk says, outs))
 
-pub ended_within : (book : Book) (held now_held : List ℕ) (wire0 wire1 wire2 : Option Wire) (kept0 kept1 : Option Tables) (f0 f1 : ℕ) (c0 c1 : List ℕ) →
-    Serves book (SoFar book.infos held) wire0 kept0 wire1 kept1 f0 f1 c0 c1 → Moves (Says got.Cut) held now_held wire1 wire2 →
-    Serves book (Ends (Finishes book.infos end.Cut)) wire0 kept0 wire2 kept1 f0 f1 c0 c1
-ended_within book held now_held wire0 wire1 wire2 kept0 kept1 f0 f1 c0 c1 =
-    ends book end.Cut (Says got.Cut) held now_held wire0 wire1 wire2 kept0 kept1 f0 f1 c0 c1
-    (λ (before now bytes : List ℕ) (is : List Item) (said : List Answer) (out : List ℕ) says talk outs. (talk_cut bytes before is talk says, outs))
+pub ended_within : (book : Book) (held now_held : List ℕ) (wire0 wire1 wire2 : Option Wire) (m0 m1 : Moment) →
+    Serves book (SoFar book.infos held) wire0 wire1 m0 m1 → Moves (Says got.Cut) held now_held wire1 wire2 →
+    Serves book (Ends (Finishes book.infos end.Cut)) wire0 wire2 m0 m1
+ended_within book held now_held wire0 wire1 wire2 m0 m1 =
+    ends book end.Cut (Says got.Cut) held now_held wire0 wire1 wire2 m0 m1
+    (λ (before now : List ℕ) (x : Exchange) says talk outs. (talk_cut x.bytes before x.items talk says, outs))
 
-pub failed_between : (book : Book) (held now_held : List ℕ) (wire0 wire1 wire2 : Option Wire) (kept0 kept1 : Option Tables) (f0 f1 : ℕ) (c0 c1 : List ℕ) →
-    Serves book (SoFar book.infos held) wire0 kept0 wire1 kept1 f0 f1 c0 c1 → Moves (Lost read.Failed) held now_held wire1 wire2 →
-    Serves book (Ends (Finishes book.infos end.LinkFault)) wire0 kept0 wire2 kept1 f0 f1 c0 c1
-failed_between book held now_held wire0 wire1 wire2 kept0 kept1 f0 f1 c0 c1 =
-    ends book end.LinkFault (Lost read.Failed) held now_held wire0 wire1 wire2 kept0 kept1 f0 f1 c0 c1
-    (λ (before now bytes : List ℕ) (is : List Item) (said : List Answer) (out : List ℕ) lost talk outs. inl (before, talk, outs))
+pub failed_between : (book : Book) (held now_held : List ℕ) (wire0 wire1 wire2 : Option Wire) (m0 m1 : Moment) →
+    Serves book (SoFar book.infos held) wire0 wire1 m0 m1 → Moves (Lost read.Failed) held now_held wire1 wire2 →
+    Serves book (Ends (Finishes book.infos end.LinkFault)) wire0 wire2 m0 m1
+failed_between book held now_held wire0 wire1 wire2 m0 m1 =
+    ends book end.LinkFault (Lost read.Failed) held now_held wire0 wire1 wire2 m0 m1
+    (λ (before now : List ℕ) (x : Exchange) lost talk outs. inl (before, talk, outs))
 
 -- a message couldn't be held, and the answer was written, or a front of it
 abbrev Writes_full : List ℕ → LinkEnd → Wire → Wire → Type 0
@@ -166,7 +163,7 @@ full_written bytes end.Cut old new full w is = absurd full
 
 full_finishes : (book : Book) (result : LinkEnd) (before bytes : List ℕ) (is : List Item) (said : List Answer) (out : List ℕ) (v w : Wire) → 0 < length before →
     Talk bytes is (going before) → out ≡ answers book.infos is said → Writes_full (full book.infos) result v w →
-    (more : List ℕ) × (w.written ≡ v.written ++ more) × Finishes book.infos result bytes is said (out ++ more)
+    (more : List ℕ) × (w.written ≡ v.written ++ more) × Finishes book.infos result (record { bytes = bytes; items = is; said = said; written = out ++ more })
 full_finishes book end.Closed before bytes is said out v w some talk outs wrote =
     (full book.infos, wrote, inr ((before, some, talk), ap (λ l. l ++ full book.infos) outs))
 full_finishes book end.LinkFault before bytes is said out v w some talk outs (part, rest, whole, wrote) =
@@ -174,10 +171,10 @@ full_finishes book end.LinkFault before bytes is said out v w some talk outs (pa
 full_finishes book end.Ended before bytes is said out v w some talk outs wrote = absurd wrote
 full_finishes book end.Cut before bytes is said out v w some talk outs wrote = absurd wrote
 
-pub not_held : (book : Book) (result : LinkEnd) (held now_held : List ℕ) (wire0 wire1 wire2 wire3 : Option Wire) (kept0 kept1 : Option Tables) (f0 f1 : ℕ) (c0 c1 : List ℕ) →
-    Serves book (SoFar book.infos held) wire0 kept0 wire1 kept1 f0 f1 c0 c1 → Moves (Lost read.OutOfMemory) held now_held wire1 wire2 →
-    IsFull (full book.infos) result wire2 wire3 → Serves book (Ends (Finishes book.infos result)) wire0 kept0 wire3 kept1 f0 f1 c0 c1
-not_held book result held now_held wire0 wire1 wire2 wire3 kept0 kept1 f0 f1 c0 c1 so_far read is_full w is_w =
+pub not_held : (book : Book) (result : LinkEnd) (held now_held : List ℕ) (wire0 wire1 wire2 wire3 : Option Wire) (m0 m1 : Moment) →
+    Serves book (SoFar book.infos held) wire0 wire1 m0 m1 → Moves (Lost read.OutOfMemory) held now_held wire1 wire2 →
+    IsFull (full book.infos) result wire2 wire3 → Serves book (Ends (Finishes book.infos result)) wire0 wire3 m0 m1
+not_held book result held now_held wire0 wire1 wire2 wire3 m0 m1 so_far read is_full w is_w =
     let z = full_written (full book.infos) result wire2 wire3 is_full w is_w in
     let y = read z.0 z.1 in
     let x = so_far y.0 y.1 in

@@ -1,11 +1,12 @@
 -- What is told of tables, over one call after another.
-use Rattle.std.proofs.Common.{ℕ, ◌+◌, ◌≤◌, List, [], ◌∷◌, ◌++◌, Option, refl, ◌∙◌, arith}
+use Rattle.std.proofs.Common.{◌+◌, ◌≤◌, List, [], ◌∷◌, ◌++◌, Option, refl, ◌∙◌, arith}
 use Rattle.rule_core.specs.Books.{Book}
 use Rattle.keep_core.specs.Tables.{Tables}
 use Rattle.desk_core.specs.State.{state_of}
 use Rattle.http_messages.specs.declared.item.Item.{Item}
 use Rattle.http_replies.specs.declared.answer.Answer.{Answer}
 use Rattle.desk_http.specs.Answering.{sent_judgings, Refuses, SparesOthers}
+use Rattle.desk_http.specs.Desk.{Moment}
 use Rattle.desk_http.specs.Serving.{KeepsSound, OfSound, AnsweredBy, Settles, Run, SettlesAll}
 use Rattle.desk_http.proofs.Runs.{runs_join, runs_one, all_get_join, all_get_one, all_front, all_back}
 
@@ -28,52 +29,52 @@ keeps_join book k0 k1 k3 first then t is = let y = then t is in let x = first y.
 
 -- ---- runs
 
-run_join : (book : Book) (is js : List Item) (said bs : List Answer) (f0 f1 f3 : ℕ) (c0 c1 c3 : List ℕ) (s m t : Tables) →
-    Run book is said f0 f1 c0 c1 s m → Run book js bs f1 f3 c1 c3 m t → Run book (is ++ js) (said ++ bs) f0 f3 c0 c3 s t
-run_join book is js said bs f0 f1 f3 c0 c1 c3 s m t one two =
+run_join : (book : Book) (is js : List Item) (said bs : List Answer) (m0 m1 m3 : Moment) (s m t : Tables) →
+    Run book is said m0 m1 s m → Run book js bs m1 m3 m t → Run book (is ++ js) (said ++ bs) m0 m3 s t
+run_join book is js said bs m0 m1 m3 s m t one two =
     let less = one.few in let more = two.few in
     record {
       most = one.most + two.most;
-      runs = runs_join book (state_of s) (state_of m) (state_of t) is js said bs f0 f1 f1 f3 one.most two.most one.runs (omega arith) two.runs;
+      runs = runs_join book (state_of s) (state_of m) (state_of t) is js said bs m0.faults m1.faults m1.faults m3.faults one.most two.most one.runs (omega arith) two.runs;
       few = omega (arith, less, more);
     }
 
-run_one : (book : Book) (i : Item) (a : Answer) (from to : ℕ) (calls now_calls : List ℕ) (s t : Tables) → from ≤ to →
-    AnsweredBy book i.sent a from to calls now_calls s t → Run book (i ∷ []) (a ∷ []) from to calls now_calls s t
-run_one book i a from to calls now_calls s t order (answered, few) = record {
+run_one : (book : Book) (i : Item) (a : Answer) (old new : Moment) (s t : Tables) → old.faults ≤ new.faults → AnsweredBy book i.sent a old new s t →
+    Run book (i ∷ []) (a ∷ []) old new s t
+run_one book i a old new s t order (answered, few) = record {
   most = sent_judgings book (state_of s) i.sent;
-  runs = runs_one book (state_of s) (state_of t) i a from to order answered;
+  runs = runs_one book (state_of s) (state_of t) i a old.faults new.faults order answered;
   few = few;
 }
 
-run_none : (book : Book) (f : ℕ) (c : List ℕ) (kept : Option Tables) → OfSound book (Run book [] [] f f c c) kept kept
-run_none book f c kept t is = (t, is, λ sound. (sound, record { most = 0; runs = (refl, omega arith, refl); few = omega arith }))
+run_none : (book : Book) (m : Moment) → OfSound book (Run book [] [] m m) m.tables m.tables
+run_none book m t is = (t, is, λ sound. (sound, record { most = 0; runs = (refl, omega arith, refl); few = omega arith }))
 
 -- ---- all that is said of items
 
 -- nothing was answered
-pub settles_none : (book : Book) (f : ℕ) (c : List ℕ) (kept : Option Tables) → SettlesAll book [] [] kept kept f f c c
-settles_none book f c kept = let same : f ≤ f = omega arith in record { told = run_none book f c kept; get = same; refused = λ all t is. is; others = λ all. refl }
+pub settles_none : (book : Book) (m : Moment) → SettlesAll book [] [] m m
+settles_none book m =
+    let same : m.faults ≤ m.faults = omega arith in record { told = run_none book m; get = same; refused = λ all t is. is; others = λ all. refl }
 
-settles_one : (book : Book) (i : Item) (a : Answer) (f1 f3 : ℕ) (c1 c3 : List ℕ) (k1 k3 : Option Tables) → Settles book i.sent a k1 k3 f1 f3 c1 c3 →
-    SettlesAll book (i ∷ []) (a ∷ []) k1 k3 f1 f3 c1 c3
-settles_one book i a f1 f3 c1 c3 k1 k3 one = record {
+settles_one : (book : Book) (i : Item) (a : Answer) (old new : Moment) → Settles book i.sent a old new → SettlesAll book (i ∷ []) (a ∷ []) old new
+settles_one book i a old new one = record {
   told =
-      of_sound_weaken book (AnsweredBy book i.sent a f1 f3 c1 c3) (Run book (i ∷ []) (a ∷ []) f1 f3 c1 c3) k1 k3
-      (λ (s t : Tables). run_one book i a f1 f3 c1 c3 s t one.never_falls) one.told;
-  get = all_get_one book.infos i a f1 f3 one.never_falls one.gets;
+      of_sound_weaken book (AnsweredBy book i.sent a old new) (Run book (i ∷ []) (a ∷ []) old new) old.tables new.tables
+      (λ (s t : Tables). run_one book i a old new s t one.never_falls) one.told;
+  get = all_get_one book.infos i a old.faults new.faults one.never_falls one.gets;
   refused = λ all. one.refused all.0;
   others = λ all. one.others all.0;
 }
 
 -- items after those that were answered
-pub settles_join : (book : Book) (is js : List Item) (said bs : List Answer) (f0 f1 f3 : ℕ) (c0 c1 c3 : List ℕ) (k0 k1 k3 : Option Tables) →
-    SettlesAll book is said k0 k1 f0 f1 c0 c1 → SettlesAll book js bs k1 k3 f1 f3 c1 c3 → SettlesAll book (is ++ js) (said ++ bs) k0 k3 f0 f3 c0 c3
-settles_join book is js said bs f0 f1 f3 c0 c1 c3 k0 k1 k3 first then = record {
+pub settles_join : (book : Book) (is js : List Item) (said bs : List Answer) (m0 m1 m3 : Moment) →
+    SettlesAll book is said m0 m1 → SettlesAll book js bs m1 m3 → SettlesAll book (is ++ js) (said ++ bs) m0 m3
+settles_join book is js said bs m0 m1 m3 first then = record {
   told =
-      of_sound_join book (Run book is said f0 f1 c0 c1) (Run book js bs f1 f3 c1 c3) (Run book (is ++ js) (said ++ bs) f0 f3 c0 c3) k0 k1 k3
-      (λ (s m t : Tables). run_join book is js said bs f0 f1 f3 c0 c1 c3 s m t) first.told then.told;
-  get = all_get_join book.infos is js said bs f0 f1 f1 f3 first.get (omega arith) then.get;
+      of_sound_join book (Run book is said m0 m1) (Run book js bs m1 m3) (Run book (is ++ js) (said ++ bs) m0 m3) m0.tables m1.tables m3.tables
+      (λ (s m t : Tables). run_join book is js said bs m0 m1 m3 s m t) first.told then.told;
+  get = all_get_join book.infos is js said bs m0.faults m1.faults m1.faults m3.faults first.get (omega arith) then.get;
   refused = λ all t told. first.refused (all_front Refuses said bs all) t (then.refused (all_back Refuses said bs all) t told);
   others =
       λ all.
@@ -82,7 +83,7 @@ settles_join book is js said bs f0 f1 f3 c0 c1 c3 k0 k1 k3 first then = record {
 }
 
 -- one item more
-pub settles_more : (book : Book) (is : List Item) (said : List Answer) (i : Item) (a : Answer) (f0 f1 f3 : ℕ) (c0 c1 c3 : List ℕ) (k0 k1 k3 : Option Tables) →
-    SettlesAll book is said k0 k1 f0 f1 c0 c1 → Settles book i.sent a k1 k3 f1 f3 c1 c3 → SettlesAll book (is ++ i ∷ []) (said ++ a ∷ []) k0 k3 f0 f3 c0 c3
-settles_more book is said i a f0 f1 f3 c0 c1 c3 k0 k1 k3 first one =
-    settles_join book is (i ∷ []) said (a ∷ []) f0 f1 f3 c0 c1 c3 k0 k1 k3 first (settles_one book i a f1 f3 c1 c3 k1 k3 one)
+pub settles_more : (book : Book) (is : List Item) (said : List Answer) (i : Item) (a : Answer) (m0 m1 m3 : Moment) →
+    SettlesAll book is said m0 m1 → Settles book i.sent a m1 m3 → SettlesAll book (is ++ i ∷ []) (said ++ a ∷ []) m0 m3
+settles_more book is said i a m0 m1 m3 first one =
+    settles_join book is (i ∷ []) said (a ∷ []) m0 m1 m3 first (settles_one book i a m1 m3 one)

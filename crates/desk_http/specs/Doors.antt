@@ -4,11 +4,11 @@ use Rattle.links.specs.Wires.{Wire}
 use Rattle.links.specs.Doors.{Doorway}
 use Rattle.rule_core.specs.declared.info.RuleInfo.{RuleInfo}
 use Rattle.rule_core.specs.Books.{Book}
-use Rattle.keep_core.specs.Tables.{Tables}
 use Rattle.http_messages.specs.declared.item.Item.{Item}
 use Rattle.http_replies.specs.declared.answer.Answer.{Answer}
 use Rattle.desk_http.specs.declared.link_end.LinkEnd.{LinkEnd}
-use Rattle.desk_http.specs.Linking.{Finishes, CountsFaults}
+use Rattle.desk_http.specs.Linking.{Exchange, Finishes, CountsFaults}
+use Rattle.desk_http.specs.Desk.{Desk, beside_door}
 use Rattle.desk_http.specs.Serving.{SettlesAll}
 
 -- ---- a link
@@ -20,12 +20,16 @@ pub record Visit : Type 0 where
   pub said : List Answer
   pub end : LinkEnd
 
+-- what was exchanged over it, of all bytes that it brings
+abbrev pub exchange_of : Visit → Exchange
+exchange_of v = record { bytes = v.wire.brought; items = v.items; said = v.said; written = v.wire.written }
+
 -- The link in the log was served so: all bytes that it brings end so after the items, each of which has its answer, and all that was
 -- written are the answers. A fault ended it only where the link counted one, and else it counted none.
 pub record IsVisit {C : Type 0} (infos : List RuleInfo) (wire : C → Option Wire) (faults : C → ℕ) (link : C) (v : Visit) : Type 0 where
   pub told : wire link ≡ Some v.wire
   pub each : length v.said ≡ length v.items
-  pub finishes : Finishes infos v.end v.wire.brought v.items v.said v.wire.written
+  pub finishes : Finishes infos v.end (exchange_of v)
   pub counted : CountsFaults v.end 0 (faults link)
 
 -- ---- the links of a log
@@ -56,18 +60,16 @@ pub record Grows {C : Type 0} (before log more : List C) (old new : Doorway) : T
   pub count : old.allowed ≡ new.allowed + length more
 
 -- Where the log is told, it grew by links that were served. Where each of these tells its wire, all items of all of them were
--- answered one after another, from tables to tables where the keeper tells them. The keeper's count of faults, and how often each
--- book judged, go from one to the other.
-abbrev pub ServesDoor : {C : Type 0} → Book → (C → Option Wire) → (C → ℕ) → Option (List C) → Doorway → Option Tables → Option (List C) → Doorway → Option Tables
-    → ℕ → ℕ → List ℕ → List ℕ → Type 0
-ServesDoor book wire faults old_log old kept new_log new now_kept from to calls now_calls =
-    (log : List _) → new_log ≡ Some log → (before : List _) × (more : List _) × (old_log ≡ Some before) × Grows before log more old new
-    × (AreTold wire more → (vs : List Visit) × AreVisits book.infos wire faults more vs
-    × SettlesAll book (all_items vs) (all_said vs) kept now_kept from to calls now_calls)
+-- answered one after another, from what stood beside the door to what stands there now.
+abbrev pub ServesDoor : {L : Type 0} → Book → Desk L → Desk L → Type 0
+ServesDoor book old new =
+    (log : List _) → new.log ≡ Some log → (before : List _) × (more : List _) × (old.log ≡ Some before) × Grows before log more old.door new.door
+    × (AreTold old.wire more → (vs : List Visit) × AreVisits book.infos old.wire old.broken more vs
+    × SettlesAll book (all_items vs) (all_said vs) (beside_door old) (beside_door new))
 
 -- one link was served and given back to the log
-abbrev pub ServesOne : {C : Type 0} → Book → (C → Option Wire) → (C → ℕ) → Option (List C) → Option Tables → Option (List C) → Option Tables → ℕ → ℕ → List ℕ → List ℕ → Type 0
-ServesOne book wire faults old_log kept new_log now_kept from to calls now_calls =
-    (log : List _) → new_log ≡ Some log → (before : List _) × (link : _) × (old_log ≡ Some before) × (log ≡ before ++ link ∷ [])
-    × ((w : Wire) → wire link ≡ Some w
-    → (v : Visit) × IsVisit book.infos wire faults link v × SettlesAll book v.items v.said kept now_kept from to calls now_calls)
+abbrev pub ServesOne : {L : Type 0} → Book → Desk L → Desk L → Type 0
+ServesOne book old new =
+    (log : List _) → new.log ≡ Some log → (before : List _) × (link : _) × (old.log ≡ Some before) × (log ≡ before ++ link ∷ [])
+    × ((w : Wire) → old.wire link ≡ Some w
+    → (v : Visit) × IsVisit book.infos old.wire old.broken link v × SettlesAll book v.items v.said (beside_door old) (beside_door new))

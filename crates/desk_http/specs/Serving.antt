@@ -25,7 +25,9 @@ use Rattle.http_messages.specs.declared.item.Item.{Item}
 use Rattle.http_replies.specs.declared.answer.Answer.{Answer}
 use Rattle.http_replies.specs.declared.answer.Answer.TheVariants.{Replied}
 use Rattle.http_replies.specs.Answers.{answer_bytes}
-use Rattle.desk_http.specs.Answering.{AnswersSent, sent_judgings, Gets, Refuses, SparesOthers, Runs, AllGet, answers}
+use Rattle.desk_http.specs.Answering.{AnswersSent, sent_judgings, Gets, Refuses, SparesOthers, Runs, AllGet}
+use Rattle.desk_http.specs.Linking.{Exchange, WritesAnswers}
+use Rattle.desk_http.specs.Desk.{Moment}
 use Rattle.desk_http.specs.declared.link_end.LinkEnd.{LinkEnd}
 use Rattle.desk_http.specs.declared.link_end.LinkEnd.TheVariants as end
 
@@ -45,42 +47,42 @@ OfSound book Q old new = (t : Tables) → new ≡ Some t → (s : Tables) × (ol
 abbrev pub OthersRest : List ℕ → List ℕ → Type 0
 OthersRest calls now_calls = drop 1 now_calls ≡ drop 1 calls
 
--- It was answered so, from these tables to those. The keeper's count of faults, and how often each book judged, go from one to the
--- other.
-abbrev pub AnsweredBy : Book → Sent → Answer → ℕ → ℕ → List ℕ → List ℕ → Tables → Tables → Type 0
-AnsweredBy book sent answer from to calls now_calls s t =
-    AnswersSent book (state_of s) sent answer (state_of t) from to × (sum now_calls ≤ sum calls + sent_judgings book (state_of s) sent)
+-- it was answered so, from one moment to another, where these tables became those
+abbrev pub AnsweredBy : Book → Sent → Answer → Moment → Moment → Tables → Tables → Type 0
+AnsweredBy book sent answer old new s t =
+    AnswersSent book (state_of s) sent answer (state_of t) old.faults new.faults
+    × (sum new.calls ≤ sum old.calls + sent_judgings book (state_of s) sent)
 
 -- It was answered so: as the machine does where the tables were sound; and whatever is kept, a refusal is the one that is due and
 -- leaves the tables, and only an import uses other books than the first.
-pub record Settles (book : Book) (sent : Sent) (answer : Answer) (old new : Option Tables) (from to : ℕ) (calls now_calls : List ℕ) : Type 0 where
-  pub told : OfSound book (AnsweredBy book sent answer from to calls now_calls) old new
-  pub never_falls : from ≤ to
-  pub gets : Gets book.infos sent answer from to
-  pub refused : Refuses answer → Stays old new
-  pub others : SparesOthers book.infos sent → OthersRest calls now_calls
+pub record Settles (book : Book) (sent : Sent) (answer : Answer) (old new : Moment) : Type 0 where
+  pub told : OfSound book (AnsweredBy book sent answer old new) old.tables new.tables
+  pub never_falls : old.faults ≤ new.faults
+  pub gets : Gets book.infos sent answer old.faults new.faults
+  pub refused : Refuses answer → Stays old.tables new.tables
+  pub others : SparesOthers book.infos sent → OthersRest old.calls new.calls
 
 -- it was answered by these bytes
-pub record Responds (book : Book) (sent : Sent) (closes : Bool) (old new : Option Tables) (from to : ℕ) (calls now_calls : List ℕ) (bytes : List ℕ) : Type 0 where
+pub record Responds (book : Book) (sent : Sent) (closes : Bool) (old new : Moment) (bytes : List ℕ) : Type 0 where
   pub answer : Answer
   pub bytes_are : bytes ≡ answer_bytes book.infos answer closes
-  pub settles : Settles book sent answer old new from to calls now_calls
+  pub settles : Settles book sent answer old new
 
 -- the machine replied so to a request
-abbrev pub RepliedBy : Book → Request → Reply → ℕ → ℕ → List ℕ → List ℕ → Tables → Tables → Type 0
-RepliedBy book request reply from to calls now_calls s t =
-    Answers book (state_of s) request reply (state_of t) from to
-    × (sum now_calls ≤ sum calls + command_judgings book request.command (site_at (site_of request.command) (state_of s)))
+abbrev pub RepliedBy : Book → Request → Reply → Moment → Moment → Tables → Tables → Type 0
+RepliedBy book request reply old new s t =
+    Answers book (state_of s) request reply (state_of t) old.faults new.faults
+    × (sum new.calls ≤ sum old.calls + command_judgings book request.command (site_at (site_of request.command) (state_of s)))
 
 -- the machine answered a request by these bytes
-pub record RespondsTo (book : Book) (request : Request) (closes : Bool) (old new : Option Tables) (from to : ℕ) (calls now_calls : List ℕ) (bytes : List ℕ) : Type 0 where
+pub record RespondsTo (book : Book) (request : Request) (closes : Bool) (old new : Moment) (bytes : List ℕ) : Type 0 where
   pub reply : Reply
   pub bytes_are : bytes ≡ answer_bytes book.infos (Replied reply) closes
-  pub told : OfSound book (RepliedBy book request reply from to calls now_calls) old new
-  pub never_falls : from ≤ to
-  pub failed : reply ≡ Refused KeeperFault → Rose from to
-  pub refused : (refusal : Refusal) → reply ≡ Refused refusal → Stays old new
-  pub others : (IsImport request.command → ⊥) → OthersRest calls now_calls
+  pub told : OfSound book (RepliedBy book request reply old new) old.tables new.tables
+  pub never_falls : old.faults ≤ new.faults
+  pub failed : reply ≡ Refused KeeperFault → Rose old.faults new.faults
+  pub refused : (refusal : Refusal) → reply ≡ Refused refusal → Stays old.tables new.tables
+  pub others : (IsImport request.command → ⊥) → OthersRest old.calls new.calls
 
 -- these bytes, or those for want of memory
 abbrev pub IsEither : List ℕ → List ℕ → List ℕ → Type 0
@@ -96,54 +98,50 @@ abbrev pub WritesAll : {A : Type 0} → Result A Failed → List ℕ → Option 
 WritesAll result bytes old new =
     (w : Wire) → new ≡ Some w → (v : Wire) × (old ≡ Some v) × (v.brought ≡ w.brought) × (v.left ≡ w.left) × Writes result v w bytes
 
--- an item was answered over a link
-pub record ServesItem {A : Type 0} (book : Book) (i : Item) (result : Result A Failed) (old_wire : Option Wire) (old : Option Tables) (wire : Option Wire)
-    (new : Option Tables) (from to : ℕ) (calls now_calls : List ℕ) : Type 0 where
+-- an item was answered over a link, of which these wires are told
+pub record ServesItem {A : Type 0} (book : Book) (i : Item) (result : Result A Failed) (old_wire wire : Option Wire) (old new : Moment) : Type 0 where
   pub answer : Answer
   pub wrote : WritesAll result (answer_bytes book.infos answer i.closes) old_wire wire
-  pub settles : Settles book i.sent answer old new from to calls now_calls
+  pub settles : Settles book i.sent answer old new
 
 -- ---- all that came
 
--- these items were answered so, from these tables to those
-pub record Run (book : Book) (items : List Item) (said : List Answer) (from to : ℕ) (calls now_calls : List ℕ) (s t : Tables) : Type 0 where
+-- these items were answered so, from one moment to another, where these tables became those
+pub record Run (book : Book) (items : List Item) (said : List Answer) (old new : Moment) (s t : Tables) : Type 0 where
   pub most : ℕ
-  pub runs : Runs book (state_of s) items said (state_of t) from to most
-  pub few : sum now_calls ≤ sum calls + most
+  pub runs : Runs book (state_of s) items said (state_of t) old.faults new.faults most
+  pub few : sum new.calls ≤ sum old.calls + most
 
 -- They were answered so: as the machine does where the tables were sound; and whatever is kept, each gets the refusal that is due,
 -- where all are refused the tables stay, and where none asks for an import only the first book is used.
-pub record SettlesAll (book : Book) (items : List Item) (said : List Answer) (old new : Option Tables) (from to : ℕ) (calls now_calls : List ℕ) : Type 0 where
-  pub told : OfSound book (Run book items said from to calls now_calls) old new
-  pub get : AllGet book.infos items said from to
-  pub refused : AllByRecursion Refuses said → Stays old new
-  pub others : AllByRecursion (λ (i : Item). SparesOthers book.infos i.sent) items → OthersRest calls now_calls
+pub record SettlesAll (book : Book) (items : List Item) (said : List Answer) (old new : Moment) : Type 0 where
+  pub told : OfSound book (Run book items said old new) old.tables new.tables
+  pub get : AllGet book.infos items said old.faults new.faults
+  pub refused : AllByRecursion Refuses said → Stays old.tables new.tables
+  pub others : AllByRecursion (λ (i : Item). SparesOthers book.infos i.sent) items → OthersRest old.calls new.calls
 
--- Items were answered over a link, each once. Of the bytes that it had still to give, those that it has, the items, the answers
--- and what was written, this holds.
-pub record Served (book : Book) (P : List ℕ → List ℕ → List Item → List Answer → List ℕ → Type 0) (v w : Wire) (old new : Option Tables)
-    (from to : ℕ) (calls now_calls : List ℕ) : Type 0 where
+-- Items were answered over a link, each once. Of the bytes that it has still to give, and of what was exchanged, this holds.
+pub record Served (book : Book) (P : List ℕ → Exchange → Type 0) (v w : Wire) (old new : Moment) : Type 0 where
   pub items : List Item
   pub said : List Answer
   pub out : List ℕ
   pub brought : v.brought ≡ w.brought
   pub each : length said ≡ length items
   pub written : w.written ≡ v.written ++ out
-  pub holds : P v.left w.left items said out
-  pub settles : SettlesAll book items said old new from to calls now_calls
+  pub holds : P w.left (record { bytes = v.left; items = items; said = said; written = out })
+  pub settles : SettlesAll book items said old new
 
-abbrev pub Serves : Book → (List ℕ → List ℕ → List Item → List Answer → List ℕ → Type 0) → Option Wire → Option Tables → Option Wire → Option Tables → ℕ → ℕ → List ℕ
-    → List ℕ → Type 0
-Serves book P old_wire old wire new from to calls now_calls =
-    (w : Wire) → wire ≡ Some w → (v : Wire) × (old_wire ≡ Some v) × Served book P v w old new from to calls now_calls
+-- the same of a link of which these wires are told
+abbrev pub Serves : Book → (List ℕ → Exchange → Type 0) → Option Wire → Option Wire → Moment → Moment → Type 0
+Serves book P old_wire wire old new = (w : Wire) → wire ≡ Some w → (v : Wire) × (old_wire ≡ Some v) × Served book P v w old new
 
--- the link had those bytes still to give, whatever is left of them
-abbrev pub Ends : (List ℕ → List Item → List Answer → List ℕ → Type 0) → List ℕ → List ℕ → List Item → List Answer → List ℕ → Type 0
-Ends Finished bytes left items said out = Finished bytes items said out
+-- this was exchanged, whatever is left of the bytes
+abbrev pub Ends : (Exchange → Type 0) → List ℕ → Exchange → Type 0
+Ends Finished left x = Finished x
 
 -- served so far: the connection goes on with what is held and what is left
-abbrev pub SoFar : List RuleInfo → List ℕ → List ℕ → List ℕ → List Item → List Answer → List ℕ → Type 0
-SoFar infos held bytes left items said out = Talk bytes items (going (held ++ left)) × (out ≡ answers infos items said)
+abbrev pub SoFar : List RuleInfo → List ℕ → List ℕ → Exchange → Type 0
+SoFar infos held left x = Talk x.bytes x.items (going (held ++ left)) × WritesAnswers infos x
 
 -- the answer for want of memory was written, after which the link is closed; or a front of it, where the link failed
 abbrev pub IsFull : List ℕ → LinkEnd → Option Wire → Option Wire → Type 0

@@ -34,8 +34,9 @@ pub(crate) fn answer<R: Threads + Sync, K: Keeper, B: RuleBook + Send>(
     closes: bool,
 ) -> Printed
     requires some { 0 < length books.old }
-    ensures { Responds B.book sent.now closes (K.tables keeper.old) (K.tables keeper.new)
-        (K.faults keeper.old) (K.faults keeper.new) (map B.calls books.old) (map B.calls books.new) (bytes_of result) }
+    ensures { Responds B.book sent.now closes
+        (record { tables = K.tables keeper.old; faults = K.faults keeper.old; calls = map B.calls books.old })
+        (record { tables = K.tables keeper.new; faults = K.faults keeper.new; calls = map B.calls books.new }) (bytes_of result) }
 {
     match sent {
         Sent::Refused(fault) => refuse(alloc, &books[0], Answer::Misread(*fault), closes),
@@ -53,8 +54,9 @@ fn answer_message<R: Threads + Sync, K: Keeper, B: RuleBook + Send>(
     closes: bool,
 ) -> Printed
     requires some { 0 < length books.old }
-    ensures { Responds B.book (came.Asked message.now) closes (K.tables keeper.old) (K.tables keeper.new)
-        (K.faults keeper.old) (K.faults keeper.new) (map B.calls books.old) (map B.calls books.new) (bytes_of result) }
+    ensures { Responds B.book (came.Asked message.now) closes
+        (record { tables = K.tables keeper.old; faults = K.faults keeper.old; calls = map B.calls books.old })
+        (record { tables = K.tables keeper.new; faults = K.faults keeper.new; calls = map B.calls books.new }) (bytes_of result) }
 {
     match request_of(
         alloc,
@@ -128,8 +130,9 @@ fn answer_request<R: Threads + Sync, K: Keeper, B: RuleBook + Send>(
 ) -> Printed
     requires some { 0 < length books.old }
     requires fits { FitsRequest B.book (as_request asked) }
-    ensures { RespondsTo B.book (as_request asked) closes (K.tables keeper.old) (K.tables keeper.new)
-        (K.faults keeper.old) (K.faults keeper.new) (map B.calls books.old) (map B.calls books.new) (bytes_of result) }
+    ensures { RespondsTo B.book (as_request asked) closes
+        (record { tables = K.tables keeper.old; faults = K.faults keeper.old; calls = map B.calls books.old })
+        (record { tables = K.tables keeper.new; faults = K.faults keeper.new; calls = map B.calls books.new }) (bytes_of result) }
 {
     match paper_for(alloc, &books[0]) {
         Ok(paper) => hand_over(rt, alloc, keeper, books, asked, paper, closes),
@@ -152,8 +155,9 @@ fn hand_over<R: Threads + Sync, K: Keeper, B: RuleBook + Send>(
     requires infos { paper.infos.items ≡ B.book.infos }
     requires empty { paper.room.items ≡ [] }
     requires room { MOST_REPLY ≤ vec_capacity paper.room }
-    ensures { RespondsTo B.book (as_request asked) closes (K.tables keeper.old) (K.tables keeper.new)
-        (K.faults keeper.old) (K.faults keeper.new) (map B.calls books.old) (map B.calls books.new) (bytes_of result) }
+    ensures { RespondsTo B.book (as_request asked) closes
+        (record { tables = K.tables keeper.old; faults = K.faults keeper.old; calls = map B.calls books.old })
+        (record { tables = K.tables keeper.new; faults = K.faults keeper.new; calls = map B.calls books.new }) (bytes_of result) }
 {
     let Asked { caller, command } = asked;
     let reply = handle(rt, alloc, books, keeper, &caller, command);

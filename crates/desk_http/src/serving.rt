@@ -37,8 +37,9 @@ pub fn serve<R: Threads + Sync, D: Door, K: Keeper, B: RuleBook + Send>(
     books: &mut [B],
 ) -> Result<(), Failed>
     requires some { 0 < length books.old }
-    ensures served { ServesDoor B.book D.Conn.wire D.Conn.faults (D.log door.old) (D.told door.old) (K.tables keeper.old)
-        (D.log door.new) (D.told door.new) (K.tables keeper.new) (K.faults keeper.old) (K.faults keeper.new) (map B.calls books.old) (map B.calls books.new) }
+    ensures served { ServesDoor B.book
+        (record { wire = D.Conn.wire; broken = D.Conn.faults; door = D.told door.old; log = D.log door.old; tables = K.tables keeper.old; faults = K.faults keeper.old; calls = map B.calls books.old })
+        (record { wire = D.Conn.wire; broken = D.Conn.faults; door = D.told door.new; log = D.log door.new; tables = K.tables keeper.new; faults = K.faults keeper.new; calls = map B.calls books.new }) }
     ensures sound { KeepsSound B.book (K.tables keeper.old) (K.tables keeper.new) }
     ensures heard { (D.told door.new).heard ≡ (D.told door.old).heard }
     ensures given_back { (D.told door.new).out ≡ (D.told door.old).out }
@@ -48,10 +49,9 @@ pub fn serve<R: Threads + Sync, D: Door, K: Keeper, B: RuleBook + Send>(
 {
     let table = Table::new(alloc).ok();
     loop {
-        match door.next() {
-            Ok(Some(link)) => serve_next(rt, alloc, table.as_ref(), door, keeper, books, link),
-            Ok(None) => return Ok(()),
-            Err(fault) => return Err(fault),
+        match door.next()? {
+            Some(link) => serve_next(rt, alloc, table.as_ref(), door, keeper, books, link),
+            None => return Ok(()),
         }
     }
 }
@@ -69,8 +69,9 @@ fn serve_next<R: Threads + Sync, D: Door, K: Keeper, B: RuleBook + Send>(
     requires some { 0 < length books.old }
     requires out { 0 < (D.told door.old).out }
     requires untouched { IsUntouched (D.Conn.wire link) (D.Conn.faults link) }
-    ensures served { ServesOne B.book D.Conn.wire D.Conn.faults (D.log door.old) (K.tables keeper.old)
-        (D.log door.new) (K.tables keeper.new) (K.faults keeper.old) (K.faults keeper.new) (map B.calls books.old) (map B.calls books.new) }
+    ensures served { ServesOne B.book
+        (record { wire = D.Conn.wire; broken = D.Conn.faults; door = D.told door.old; log = D.log door.old; tables = K.tables keeper.old; faults = K.faults keeper.old; calls = map B.calls books.old })
+        (record { wire = D.Conn.wire; broken = D.Conn.faults; door = D.told door.new; log = D.log door.new; tables = K.tables keeper.new; faults = K.faults keeper.new; calls = map B.calls books.new }) }
     ensures sound { KeepsSound B.book (K.tables keeper.old) (K.tables keeper.new) }
     ensures took { TookBack (D.told door.old) (D.told door.new) }
     ensures kept { K.faults keeper.old ≤ K.faults keeper.new }
@@ -98,8 +99,9 @@ pub fn serve_link<R: Threads + Sync, L: Link, K: Keeper, B: RuleBook + Send>(
     books: &mut [B],
 ) -> LinkEnd
     requires some { 0 < length books.old }
-    ensures served { Serves B.book (Ends (Finishes B.book.infos result)) (L.wire link.old) (K.tables keeper.old)
-        (L.wire link.new) (K.tables keeper.new) (K.faults keeper.old) (K.faults keeper.new) (map B.calls books.old) (map B.calls books.new) }
+    ensures served { Serves B.book (Ends (Finishes B.book.infos result)) (L.wire link.old) (L.wire link.new)
+        (record { tables = K.tables keeper.old; faults = K.faults keeper.old; calls = map B.calls books.old })
+        (record { tables = K.tables keeper.new; faults = K.faults keeper.new; calls = map B.calls books.new }) }
     ensures sound { KeepsSound B.book (K.tables keeper.old) (K.tables keeper.new) }
     ensures faults { CountsFaults result (L.faults link.old) (L.faults link.new) }
     ensures never_falls { L.faults link.old ≤ L.faults link.new }
@@ -119,8 +121,9 @@ fn serve_by<R: Threads + Sync, L: Link, K: Keeper, B: RuleBook + Send>(
     books: &mut [B],
 ) -> LinkEnd
     requires some { 0 < length books.old }
-    ensures served { Serves B.book (Ends (Finishes B.book.infos result)) (L.wire link.old) (K.tables keeper.old)
-        (L.wire link.new) (K.tables keeper.new) (K.faults keeper.old) (K.faults keeper.new) (map B.calls books.old) (map B.calls books.new) }
+    ensures served { Serves B.book (Ends (Finishes B.book.infos result)) (L.wire link.old) (L.wire link.new)
+        (record { tables = K.tables keeper.old; faults = K.faults keeper.old; calls = map B.calls books.old })
+        (record { tables = K.tables keeper.new; faults = K.faults keeper.new; calls = map B.calls books.new }) }
     ensures sound { KeepsSound B.book (K.tables keeper.old) (K.tables keeper.new) }
     ensures faults { CountsFaults result (L.faults link.old) (L.faults link.new) }
     ensures never_falls { L.faults link.old ≤ L.faults link.new }
@@ -158,8 +161,9 @@ fn serve_item<R: Threads + Sync, L: Link, K: Keeper, B: RuleBook + Send>(
     item: Item,
 ) -> Result<(), Failed>
     requires some { 0 < length books.old }
-    ensures served { ServesItem B.book item result (L.wire link.old) (K.tables keeper.old)
-        (L.wire link.new) (K.tables keeper.new) (K.faults keeper.old) (K.faults keeper.new) (map B.calls books.old) (map B.calls books.new) }
+    ensures served { ServesItem B.book item result (L.wire link.old) (L.wire link.new)
+        (record { tables = K.tables keeper.old; faults = K.faults keeper.old; calls = map B.calls books.old })
+        (record { tables = K.tables keeper.new; faults = K.faults keeper.new; calls = map B.calls books.new }) }
     ensures sound { KeepsSound B.book (K.tables keeper.old) (K.tables keeper.new) }
     ensures reads { L.reads link.new ≡ L.reads link.old }
     ensures counts { Counts (L.faults link.old) (L.faults link.new) result }

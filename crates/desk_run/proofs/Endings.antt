@@ -19,7 +19,7 @@ use Rattle.streams.specs.Told.{Outside}
 use Rattle.streams.specs.Streams.{ReadsAtMost, NoFaults, BrokeOff}
 use Rattle.desk_run.specs.Telling.{Writing, IsWritten, Tells}
 use Rattle.desk_run.specs.Audit.{Reports, AuditCause, AuditComplete, TellsPage, TellsFault, IsReported}
-use Rattle.desk_run.specs.Desk.{Desk}
+use Rattle.desk_http.specs.Desk.{Desk}
 use Rattle.desk_run.specs.Serve.{IsDeaf, IsServed, ServeCause, ServeBound, ServeComplete}
 use Rattle.desk_run.specs.Generate.{GenerateCause}
 use Rattle.desk_run.specs.Show.{ShowCause}

@@ -8,7 +8,7 @@ use Rattle.keep_core.specs.Tables.{Tables}
 use Rattle.desk_run.specs.declared.status.Status.{Status}
 use Rattle.streams.specs.Told.{Input}
 use Rattle.desk_run.specs.Telling.{Writing}
-use Rattle.desk_run.specs.Desk.{Desk}
+use Rattle.desk_http.specs.Desk.{Desk}
 use Rattle.desk_run.specs.Run.{Cause}
 
 pub lent : {L B : Type 0} (book : Book) (words : List (List ℕ)) (old new : Input) (wire : L → Option Wire) (broken : L → ℕ) (door door' : Doorway) (log log' : Option (List L)) (tables tables' : Option Tables) (faults faults' : ℕ) (calls : B → ℕ) (held borrowed given left : List B) (planned : Status) (writing : Writing) → borrowed ≡ held → left ≡ given →

@@ -7,7 +7,8 @@ use Rattle.desk_words.specs.declared.command.Command.TheVariants.{Audit, Serve, 
 use Rattle.desk_run.specs.declared.status.Status.{Status}
 use Rattle.streams.specs.Told.{Input, Outside}
 use Rattle.streams.specs.Streams.{NoFaults}
-use Rattle.desk_run.specs.Desk.{Desk, OnlyJudged}
+use Rattle.desk_http.specs.Desk.{Desk}
+use Rattle.desk_run.specs.Desk.{OnlyJudged}
 use Rattle.desk_run.specs.Telling.{Writing}
 use Rattle.desk_run.specs.Audit.{AuditCause, AuditBound, AuditComplete}
 use Rattle.desk_run.specs.Serve.{ServeCause, ServeBound, ServeComplete}

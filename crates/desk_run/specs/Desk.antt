@@ -1,19 +1,10 @@
--- What a run meets beside its streams.
-use Rattle.std.specs.Prelude.{◌≡◌, ℕ, List, drop, Option}
-use Rattle.links.specs.Wires.{Wire}
-use Rattle.links.specs.Doors.{Doorway}
-use Rattle.keep_core.specs.Tables.{Tables}
+-- How much of the desk that a run meets beside its streams was used.
+use Rattle.std.specs.Prelude.{◌≡◌, ℕ, List, take, drop}
+use Rattle.desk_http.specs.Desk.{Desk}
 
--- What its links tell of their bytes and their faults; a door, and the links in its log, where it tells them; the tables, where
--- the keeper tells them, and the count of its faults; and how often each book judged.
-pub record Desk (L : Type 0) : Type 0 where
-  pub wire : L → Option Wire
-  pub broken : L → ℕ
-  pub door : Doorway
-  pub log : Option (List L)
-  pub tables : Option Tables
-  pub faults : ℕ
-  pub calls : List ℕ
+-- the desk with the first n books alone
+abbrev pub with_first : {L : Type 0} → ℕ → Desk L → Desk L
+with_first n desk = record desk { calls = take n desk.calls }
 
 -- the books past the first n judged nothing
 abbrev pub Spares : ℕ → List ℕ → List ℕ → Type 0

@@ -8,7 +8,7 @@ use Rattle.desk_run.specs.declared.status.Status.{Status}
 use Rattle.desk_run.specs.declared.status.Status.TheVariants.{Done, WriteFault, NoMemory}
 use Rattle.desk_run.specs.Status.{status_line, OneOf}
 use Rattle.streams.specs.Told.{Outside}
-use Rattle.desk_run.specs.Desk.{Desk}
+use Rattle.desk_http.specs.Desk.{Desk}
 use Rattle.desk_run.specs.Telling.{Writing, output_alone, line_alone, IsDone}
 
 -- the line of the pages that are made, and the judgings of all of them

@@ -10,7 +10,7 @@ use Rattle.desk_run.specs.Status.{status_number, status_line, OneOf}
 use Rattle.streams.specs.Told.{Input, Outside}
 use Rattle.streams.specs.Streams.{ReadsAtMost, NoFaults}
 use Rattle.desk_run.specs.Telling.{Writing, line_alone, Tells}
-use Rattle.desk_run.specs.Desk.{Desk}
+use Rattle.desk_http.specs.Desk.{Desk}
 use Rattle.desk_run.specs.Commands.{CommandCause, CommandBound, CommandComplete}
 
 -- nothing was read, and nothing changed

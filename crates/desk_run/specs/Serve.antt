@@ -1,5 +1,5 @@
 -- The command `serve`: why it ends with each status, and what it writes then.
-use Rattle.std.specs.Prelude.{◌≡◌, ℕ, ◌<◌, ◌≤◌, ◌⊎◌, List, [], ◌∷◌, length, take, Option}
+use Rattle.std.specs.Prelude.{◌≡◌, ◌<◌, ◌≤◌, ◌⊎◌, List, [], ◌∷◌, length, Option}
 use Rattle.counts.specs.Counts.{Rose, StoodStill}
 use Rattle.links.specs.declared.door.Heard.{Heard}
 use Rattle.links.specs.Doors.{Doorway, Stays, Opened, KeepsLog}
@@ -10,7 +10,8 @@ use Rattle.desk_words.specs.declared.command.Serving.{Serving}
 use Rattle.desk_run.specs.declared.status.Status.{Status}
 use Rattle.desk_run.specs.declared.status.Status.TheVariants.{Done, UsageFault, WriteFault, ListenFault, NoMemory}
 use Rattle.desk_run.specs.Status.{status_line, OneOf}
-use Rattle.desk_run.specs.Desk.{Desk, Spares}
+use Rattle.desk_http.specs.Desk.{Desk}
+use Rattle.desk_run.specs.Desk.{with_first, Spares}
 use Rattle.desk_run.specs.Telling.{Writing, nothing, line_alone}
 
 -- what it listens at
@@ -39,8 +40,7 @@ pub record IsServed {L : Type 0} (book : Book) (serving : Serving) (old new : De
   pub enough : serving.workers ≤ length old.calls
   pub heard : new.door.heard ≡ door.heard
   pub given_back : new.door.out ≡ door.out
-  pub served :
-      ServesDoor book old.wire old.broken log door old.tables new.log new.door new.tables old.faults new.faults (take serving.workers old.calls) (take serving.workers new.calls)
+  pub served : ServesDoor book (with_first serving.workers (record old { door = door; log = log })) (with_first serving.workers new)
   pub sound : KeepsSound book old.tables new.tables
   pub spares : Spares serving.workers old.calls new.calls
 
@@ -60,4 +60,5 @@ ServeBound serving old status = length old.calls < serving.workers → OneOf (Us
 
 -- without faults of the door: no more workers than books serve to the end
 abbrev pub ServeComplete : {L : Type 0} → Serving → Desk L → Desk L → Status → Type 0
-ServeComplete serving old new status = StoodStill old.door.faults new.door.faults → serving.workers ≤ length old.calls → OneOf (Done ∷ NoMemory ∷ []) status
+ServeComplete serving old new status =
+    StoodStill old.door.faults new.door.faults → serving.workers ≤ length old.calls → OneOf (Done ∷ NoMemory ∷ []) status

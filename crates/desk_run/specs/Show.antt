@@ -17,7 +17,7 @@ use Rattle.desk_run.specs.declared.status.Status.{Status}
 use Rattle.desk_run.specs.declared.status.Status.TheVariants.{Done, UsageFault, WriteFault, StoreFault, NoMemory}
 use Rattle.desk_run.specs.Status.{status_line, OneOf}
 use Rattle.streams.specs.Told.{Outside}
-use Rattle.desk_run.specs.Desk.{Desk}
+use Rattle.desk_http.specs.Desk.{Desk}
 use Rattle.desk_run.specs.Telling.{Writing, line_alone, IsDone}
 
 -- the pages of a site in a form

@@ -17,6 +17,6 @@ mod telling;
 pub use fault_lines::fault_line;
 pub use found::Found;
 pub use running::run;
-pub use start::{command_words, made_books};
+pub use start::{made_books, words_in};
 pub use status::Status;
 pub use telling::{status_of, tell};

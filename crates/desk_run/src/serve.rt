@@ -55,9 +55,9 @@ fn serve_by<R: Threads + Sync, K: Keeper, D: Door, B: RuleBook + Send>(
 ) -> Result<(), Failed>
     requires some { 1 ≤ workers }
     requires enough { workers ≤ length books.old }
-    ensures served { ServesDoor B.book D.Conn.wire D.Conn.faults (D.log door.old) (D.told door.old) (K.tables keeper.old)
-        (D.log door.new) (D.told door.new) (K.tables keeper.new) (K.faults keeper.old) (K.faults keeper.new)
-        (take workers (map B.calls books.old)) (take workers (map B.calls books.new)) }
+    ensures served { ServesDoor B.book
+        (record { wire = D.Conn.wire; broken = D.Conn.faults; door = D.told door.old; log = D.log door.old; tables = K.tables keeper.old; faults = K.faults keeper.old; calls = take workers (map B.calls books.old) })
+        (record { wire = D.Conn.wire; broken = D.Conn.faults; door = D.told door.new; log = D.log door.new; tables = K.tables keeper.new; faults = K.faults keeper.new; calls = take workers (map B.calls books.new) }) }
     ensures sound { KeepsSound B.book (K.tables keeper.old) (K.tables keeper.new) }
     ensures heard { (D.told door.new).heard ≡ (D.told door.old).heard }
     ensures given_back { (D.told door.new).out ≡ (D.told door.old).out }

@@ -1,17 +1,16 @@
-ghost use Rattle.std.specs.Prelude.{◌≡◌, ◌<◌, ◌↔◌, length, map, codes, vec_len, IfOk, IfErr, IsTrue};
+ghost use Rattle.std.specs.Prelude.{◌≡◌, ◌<◌, map, vec_len, IfOk};
 ghost use Rattle.std.specs.String.{string_bytes};
 ghost use Rattle.std.specs.IoError.{error_kind};
 ghost use Rattle.std.specs.Vec.Iter.{into_iter_items};
-ghost use Rattle.desk_run.specs.Start.{found_by, IsRefusal, Starts};
+ghost use Rattle.desk_run.specs.Start.{found_by, Starts};
 
 use crate::found::Found;
 use rule_book::Thirty;
 use snap_tree::{List, OutOfMemory, Text};
 use std::alloc::{AllocError, Global};
-use std::env::{Args, FillError};
+use std::env::Args;
+use std::io;
 use std::io::ErrorKind;
-use std::rt::Env;
-use std::{env, io};
 
 // How many books the program has, and so how many workers it may be told.
 const MOST_WORKERS: usize = 16;
@@ -27,37 +26,9 @@ impl From<io::Error> for Found {
     }
 }
 
-/// The words of a command, which stand after the program's name and the store's. The store is looked at
-/// first: where it can't be opened, no word behind it matters.
-pub fn command_words<R: Env + AllocGlobal>(rt: &R) -> Result<List<Text>, Found>
-    ensures some { IfOk result (λ words. 0 < length words) }
-    ensures refused { IfErr result IsRefusal }
-{
-    open_store(rt)?;
-    words_in(rt.alloc(), env::args(rt)?)
-}
-
-// Opens the store that the second argument names: `-` is the one in memory, and no other opens yet.
-fn open_store(rt: &impl Env) -> Result<(), Found>
-    ensures { IfErr result IsRefusal }
-{
-    let mut name = [0; 2];
-    match rt.arg(1, &mut name) {
-        Ok(size) if is_memory(&name[..size]) => Ok(()),
-        Ok(_) | Err(FillError::TooLong) => Err(Found::StoreFault),
-        Err(FillError::NotPresent) => Err(Found::Usage),
-    }
-}
-
-// Whether that is the name of the store in memory.
-fn is_memory(name: &[u8]) -> bool
-    ensures { IsTrue result ↔ (name.now ≡ codes "-") }
-{
-    name == b"-".as_slice()
-}
-
-// The words of a command among a program's arguments, or why they give none.
-fn words_in(alloc: Global, mut args: Args) -> Result<List<Text>, Found>
+/// The words of a command among a program's arguments, which stand after the program's name and the store's.
+/// `Usage` comes where none stand there, and `NoMemory` for want of memory.
+pub fn words_in(alloc: Global, mut args: Args) -> Result<List<Text>, Found>
     ensures { Starts (map string_bytes (into_iter_items args)) result }
 {
     let (Some(_program), Some(_store)) = (args.next(), args.next()) else {

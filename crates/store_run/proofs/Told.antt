@@ -8,7 +8,7 @@ use Rattle.streams.specs.Told.{Input, Output, Outside}
 use Rattle.keep_sql.specs.declared.keeper.Prepared.{Prepared}
 use Rattle.keep_sql.specs.declared.keeper.Prepared.TheVariants as prepared
 use Rattle.keep_sql.specs.Keeper.{Keeper, tables, told_of, IsNoted}
-use Rattle.desk_run.specs.Desk.{Desk}
+use Rattle.desk_http.specs.Desk.{Desk}
 use Rattle.store_run.specs.declared.refusal.Refusal.{Refusal}
 use Rattle.store_run.specs.declared.refusal.Refusal.TheVariants.{OtherEdition, NoMemory}
 use Rattle.store_run.specs.Refusal.{edition_line, TellsLine, TellsOrWants}

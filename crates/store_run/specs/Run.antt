@@ -5,7 +5,7 @@ use Rattle.sqlite_trees.specs.declared.store.Store.{Ghosts}
 use Rattle.rule_core.specs.Books.{Book}
 use Rattle.streams.specs.Told.{Outside}
 use Rattle.keep_sql.specs.Keeper.{Keeper, tables, HasEdition}
-use Rattle.desk_run.specs.Desk.{Desk}
+use Rattle.desk_http.specs.Desk.{Desk}
 use Rattle.desk_run.specs.Run.{Runs}
 use Rattle.store_run.specs.declared.refusal.Refusal.{Refusal}
 use Rattle.store_run.specs.declared.refusal.Refusal.TheVariants.{OtherEdition, StoreFault, NoMemory}

@@ -1,13 +1,11 @@
-ghost use Rattle.std.specs.Prelude.{◌≡◌, ◌<◌, ◌↔◌, length, map, codes, IfOk, IfErr, IsTrue};
-ghost use Rattle.std.specs.String.{string_bytes};
-ghost use Rattle.std.specs.Vec.Iter.{into_iter_items};
-ghost use Rattle.desk_run.specs.Start.{IsRefusal, Starts};
+ghost use Rattle.std.specs.Prelude.{◌<◌, length, IfOk, IfErr};
+ghost use Rattle.desk_run.specs.Start.{IsRefusal};
 
-use desk_run::Found;
+use desk_run::{Found, words_in};
 use snap_tree::{List, OutOfMemory, Text};
 use std::alloc::Global;
 use std::env;
-use std::env::{Args, FillError};
+use std::env::FillError;
 use std::rt::Env;
 use std::str::from_utf8;
 
@@ -68,31 +66,4 @@ fn place_at(alloc: Global, name: &[u8]) -> Result<Place, Found>
         Ok(path) => Ok(Place::File { path }),
         Err(OutOfMemory) => Err(Found::NoMemory),
     }
-}
-
-// The words of a command among a program's arguments, or why they give none.
-fn words_in(alloc: Global, mut args: Args) -> Result<List<Text>, Found>
-    ensures { Starts (map string_bytes (into_iter_items args)) result }
-{
-    let (Some(_program), Some(_store)) = (args.next(), args.next()) else {
-        return Err(Found::Usage);
-    };
-    let Ok(words) = texts_of(alloc, args) else {
-        return Err(Found::NoMemory);
-    };
-    if words.is_empty() {
-        return Err(Found::Usage);
-    }
-    Ok(List::from_vec(words))
-}
-
-// The same texts, in order.
-fn texts_of(alloc: Global, strings: Args) -> Result<Vec<Text>, OutOfMemory>
-    ensures { IfOk result (λ texts. texts.items ≡ map string_bytes (into_iter_items strings)) }
-{
-    let mut texts = Vec::new(alloc);
-    for string in strings {
-        texts.push(Text::from_string(string))?;
-    }
-    Ok(texts)
 }

@@ -1,8 +1,9 @@
-//! The words that a program's arguments give, or the status that it ends with by them.
+//! The words that a program's arguments give after the store's name, or the status that it ends with by them.
 
-use desk_run::{Found, Status, command_words, status_of};
-use snap_tree::OutOfMemory;
+use desk_run::{Found, Status, status_of, words_in};
+use snap_tree::{List, OutOfMemory, Text};
 use std::alloc::Global;
+use std::env;
 use std::env::FillError;
 use std::process::Abort;
 use std::rt::Env;
@@ -34,7 +35,7 @@ impl Env for Arguments {
 
 // Arguments, and the status that the program ends with by them; none where they have the words of a
 // command.
-static ARGUMENTS: [(Arguments, Option<Status>); 9] = [
+static ARGUMENTS: [(Arguments, Option<Status>); 6] = [
     (Arguments(&[b"act_desk", b"-", b"audit"]), None),
     (Arguments(&[b"act_desk", b"-", b"audit", b"x"]), None),
     (Arguments(&[]), Some(Status::UsageFault)),
@@ -44,22 +45,14 @@ static ARGUMENTS: [(Arguments, Option<Status>); 9] = [
         Arguments(&[b"act_desk", b"-", b"\xff"]),
         Some(Status::UsageFault),
     ),
-    (
-        Arguments(&[b"act_desk", b"", b"audit"]),
-        Some(Status::StoreFault),
-    ),
-    (
-        Arguments(&[b"act_desk", b"--", b"\xff"]),
-        Some(Status::StoreFault),
-    ),
-    (
-        Arguments(&[b"act_desk", b"store"]),
-        Some(Status::StoreFault),
-    ),
 ];
 
+fn words<R: Env + AllocGlobal>(rt: &R) -> Result<List<Text>, Found> {
+    words_in(rt.alloc(), env::args(rt)?)
+}
+
 fn status_by(alloc: Global, arguments: &Arguments) -> Result<Option<Status>, Fail> {
-    match command_words(&(arguments, alloc)) {
+    match words(&(arguments, alloc)) {
         Ok(_) => Ok(None),
         Err(Found::NoMemory) => Err(Fail::from(OutOfMemory)),
         Err(found) => Ok(Some(status_of(&found))),

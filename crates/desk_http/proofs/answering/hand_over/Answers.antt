@@ -1,8 +1,9 @@
-use Rattle.std.proofs.Common.{List, map, subst}
+use Rattle.std.proofs.Common.{List, subst}
 use Rattle.rule_core.specs.declared.info.RuleInfo.{RuleInfo}
 use Rattle.rule_core.specs.Books.{Book}
 use Rattle.desk_http.specs.Printed.{bytes_of, PrintsReply}
 use Rattle.desk_http.specs.Answering.{as_request}
+use Rattle.desk_http.proofs.Moments.{moment}
 use Rattle.desk_http.proofs.Responding.{others_rest, costs_of, answered}
 use Rattle.desk_http.proofs.answering.hand_over.Goals as goal
 
@@ -10,10 +11,10 @@ pub returns : goal.returns
 returns g c =
     let keeper = g.K.Keeper in
     let calls = g.B.RuleBook.calls in
+    let beside = moment keeper.tables keeper.faults calls in
     let book : Book = g.B.RuleBook.book in
     let P : List RuleInfo → Type 0 = λ infos. PrintsReply infos c.handle-reply.result c.args.closes (bytes_of c.print_reply.result) in
-    answered book (as_request c.args.asked) c.args.closes (keeper.tables c.args.keeper.now) (keeper.tables c.handle-reply.new.keeper)
-    (keeper.faults c.args.keeper.now) (keeper.faults c.handle-reply.new.keeper) (map calls c.args.books.now) (map calls c.handle-reply.new.books)
+    answered book (as_request c.args.asked) c.args.closes (beside c.args.keeper.now c.args.books.now) (beside c.handle-reply.new.keeper c.handle-reply.new.books)
     c.handle-reply.result (bytes_of c.print_reply.result) c.requires.fits c.handle-reply.ensures.served
     (costs_of book (as_request c.args.asked).command (keeper.tables c.args.keeper.now) (keeper.tables c.handle-reply.new.keeper) calls c.args.books.now c.handle-reply.new.books c.handle-reply.ensures.counted)
     (others_rest calls (as_request c.args.asked).command c.args.books.now c.handle-reply.new.books c.handle-reply.ensures.others) (subst P c.requires.infos c.print_reply.ensures)

@@ -1,7 +1,8 @@
-use Rattle.std.proofs.Common.{◌≡◌, ◌≤◌, map}
+use Rattle.std.proofs.Common.{◌≡◌, ◌≤◌}
 use Rattle.rule_core.specs.Books.{Book}
 use Rattle.desk_http.specs.Serving.{KeepsSound}
 use Rattle.desk_http.specs.Doors.{ServesDoor}
+use Rattle.desk_http.proofs.Moments.{moment, desk_with}
 use Rattle.desk_http.proofs.serving.serve.Given as goal
 
 abbrev pub invariant-loop-link : goal.invariant-loop-link
@@ -9,11 +10,12 @@ invariant-loop-link g l =
     let door = g.D.Door in
     let link = g.D.Conn.Link in
     let keeper = g.K.Keeper in
-    let calls = g.B.RuleBook.calls in
+    let beside = moment keeper.tables keeper.faults g.B.RuleBook.calls in
+    let desk = desk_with link.wire link.faults in
     let book : Book = g.B.RuleBook.book in
     record {
-      served : ServesDoor book link.wire link.faults (door.log l.initial.door) (door.told l.initial.door) (keeper.tables l.initial.keeper)
-          (door.log l.door) (door.told l.door) (keeper.tables l.keeper) (keeper.faults l.initial.keeper) (keeper.faults l.keeper) (map calls l.initial.books) (map calls l.books);
+      served : ServesDoor book (desk (door.told l.initial.door) (door.log l.initial.door) (beside l.initial.keeper l.initial.books))
+          (desk (door.told l.door) (door.log l.door) (beside l.keeper l.books));
       sound : KeepsSound book (keeper.tables l.initial.keeper) (keeper.tables l.keeper);
       heard : (door.told l.door).heard ≡ (door.told l.initial.door).heard;
       given_back : (door.told l.door).out ≡ (door.told l.initial.door).out;

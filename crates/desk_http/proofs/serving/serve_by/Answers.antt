@@ -1,9 +1,10 @@
-use Rattle.std.proofs.Common.{ℕ, ◌≤◌, map, Ok, Err, refl, ◌∙◌, subst, arith}
+use Rattle.std.proofs.Common.{ℕ, ◌≤◌, Ok, Err, refl, ◌∙◌, subst, arith}
 use Rattle.counts.proofs.CountLaws.{rose_after}
 use Rattle.rule_core.specs.Books.{Book}
 use Rattle.desk_http.specs.declared.link_end.LinkEnd.TheVariants as end
 use Rattle.desk_http.specs.Linking.{Finishes, CountsFaults}
 use Rattle.desk_http.specs.Serving.{SoFar, Ends}
+use Rattle.desk_http.proofs.Moments.{moment}
 use Rattle.desk_http.proofs.Tables.{keeps_join}
 use Rattle.desk_http.proofs.Served.{begins, one_more, goes_on, closes, breaks, ended_between, ended_within, failed_between, not_held}
 use Rattle.desk_http.proofs.serving.serve_by.Goals as goal
@@ -12,10 +13,10 @@ pub loop-held-init : goal.loop-held-init
 loop-held-init g c =
     let link = g.L.Link in
     let keeper = g.K.Keeper in
-    let calls = g.B.RuleBook.calls in
+    let beside = moment keeper.tables keeper.faults g.B.RuleBook.calls in
     let book : Book = g.B.RuleBook.book in
     record {
-      served = begins book c.new-held.result.items (link.wire c.args.link.now) (keeper.tables c.args.keeper.now) (keeper.faults c.args.keeper.now) (map calls c.args.books.now) c.new-held.ensures.items;
+      served = begins book c.new-held.result.items (link.wire c.args.link.now) (beside c.args.keeper.now c.args.books.now) c.new-held.ensures.items;
       sound = λ t is. (t, is, λ sound. sound);
       faults = refl;
       kept = omega arith;
@@ -25,10 +26,10 @@ pub returns-in-Ok-Ended-clause-served : goal.returns-in-Ok-Ended-clause-served
 returns-in-Ok-Ended-clause-served g c =
     let link = g.L.Link in
     let keeper = g.K.Keeper in
-    let calls = g.B.RuleBook.calls in
+    let beside = moment keeper.tables keeper.faults g.B.RuleBook.calls in
     let book : Book = g.B.RuleBook.book in
     ended_between book c.loop-held.held.items c.read_item.new.held.items (link.wire c.args.link.now) (link.wire c.loop-held.link) (link.wire c.read_item.new.link)
-    (keeper.tables c.args.keeper.now) (keeper.tables c.loop-held.keeper) (keeper.faults c.args.keeper.now) (keeper.faults c.loop-held.keeper) (map calls c.args.books.now) (map calls c.loop-held.books)
+    (beside c.args.keeper.now c.args.books.now) (beside c.loop-held.keeper c.loop-held.books)
     c.loop-held.invariant.served (rw c.in-Ok-Ended.field-0-is at c.in-Ok-Ended.ensures.says)
 
 pub returns-in-Ok-Ended-clause-sound : goal.returns-in-Ok-Ended-clause-sound
@@ -47,10 +48,10 @@ pub returns-in-Ok-Cut-clause-served : goal.returns-in-Ok-Cut-clause-served
 returns-in-Ok-Cut-clause-served g c =
     let link = g.L.Link in
     let keeper = g.K.Keeper in
-    let calls = g.B.RuleBook.calls in
+    let beside = moment keeper.tables keeper.faults g.B.RuleBook.calls in
     let book : Book = g.B.RuleBook.book in
     ended_within book c.loop-held.held.items c.read_item.new.held.items (link.wire c.args.link.now) (link.wire c.loop-held.link) (link.wire c.read_item.new.link)
-    (keeper.tables c.args.keeper.now) (keeper.tables c.loop-held.keeper) (keeper.faults c.args.keeper.now) (keeper.faults c.loop-held.keeper) (map calls c.args.books.now) (map calls c.loop-held.books)
+    (beside c.args.keeper.now c.args.books.now) (beside c.loop-held.keeper c.loop-held.books)
     c.loop-held.invariant.served (rw c.in-Ok-Cut.field-0-is at c.in-Ok-Cut.ensures.says)
 
 pub returns-in-Ok-Cut-clause-sound : goal.returns-in-Ok-Cut-clause-sound
@@ -69,10 +70,10 @@ pub returns-in-Err-Failed-clause-served : goal.returns-in-Err-Failed-clause-serv
 returns-in-Err-Failed-clause-served g c =
     let link = g.L.Link in
     let keeper = g.K.Keeper in
-    let calls = g.B.RuleBook.calls in
+    let beside = moment keeper.tables keeper.faults g.B.RuleBook.calls in
     let book : Book = g.B.RuleBook.book in
     failed_between book c.loop-held.held.items c.read_item.new.held.items (link.wire c.args.link.now) (link.wire c.loop-held.link) (link.wire c.read_item.new.link)
-    (keeper.tables c.args.keeper.now) (keeper.tables c.loop-held.keeper) (keeper.faults c.args.keeper.now) (keeper.faults c.loop-held.keeper) (map calls c.args.books.now) (map calls c.loop-held.books)
+    (beside c.args.keeper.now c.args.books.now) (beside c.loop-held.keeper c.loop-held.books)
     c.loop-held.invariant.served (rw c.in-Err-Failed.field-0-is at c.in-Err-Failed.ensures.says)
 
 pub returns-in-Err-Failed-clause-sound : goal.returns-in-Err-Failed-clause-sound
@@ -93,11 +94,11 @@ pub returns-in-Err-clause-served : goal.returns-in-Err-clause-served
 returns-in-Err-clause-served g c =
     let link = g.L.Link in
     let keeper = g.K.Keeper in
-    let calls = g.B.RuleBook.calls in
+    let beside = moment keeper.tables keeper.faults g.B.RuleBook.calls in
     let book : Book = g.B.RuleBook.book in
     one_more book c.in-Ok-Came.item (Err c.in-Err.field-0) c.loop-held.held.items c.read_item.new.held.items (link.wire c.args.link.now) (link.wire c.loop-held.link) (link.wire c.read_item.new.link) (link.wire c.serve_item.new.link)
-    (keeper.tables c.args.keeper.now) (keeper.tables c.loop-held.keeper) (keeper.tables c.serve_item.new.keeper) (keeper.faults c.args.keeper.now) (keeper.faults c.loop-held.keeper) (keeper.faults c.serve_item.new.keeper)
-    (map calls c.args.books.now) (map calls c.loop-held.books) (map calls c.serve_item.new.books) (Ends (Finishes book.infos end.LinkFault))
+    (beside c.args.keeper.now c.args.books.now) (beside c.loop-held.keeper c.loop-held.books) (beside c.serve_item.new.keeper c.serve_item.new.books)
+    (Ends (Finishes book.infos end.LinkFault))
     c.loop-held.invariant.served (rw c.in-Ok-Came.field-0-is at c.in-Ok-Came.ensures.says) c.in-Err.ensures.served (breaks (Unit {0}) book c.in-Ok-Came.item c.read_item.new.held.items c.in-Err.field-0)
 
 pub returns-in-Err-clause-sound : goal.returns-in-Err-clause-sound
@@ -115,17 +116,19 @@ pub returns-in-Err-clause-never_falls : goal.returns-in-Err-clause-never_falls
 returns-in-Err-clause-never_falls g c = omega (arith, c.loop-held.invariant.faults, c.read_item.ensures.counted.never_falls, c.serve_item.ensures.counts.never_falls)
 
 pub returns-in-Err-clause-kept : goal.returns-in-Err-clause-kept
-returns-in-Err-clause-kept g c = omega (arith, c.loop-held.invariant.kept, c.serve_item.ensures.served.settles.never_falls)
+returns-in-Err-clause-kept g c =
+    let rises : g.K.Keeper.faults c.loop-held.keeper ≤ g.K.Keeper.faults c.serve_item.new.keeper = c.serve_item.ensures.served.settles.never_falls in
+    omega (arith, c.loop-held.invariant.kept, rises)
 
 pub returns-then-closes-clause-served : goal.returns-then-closes-clause-served
 returns-then-closes-clause-served g c =
     let link = g.L.Link in
     let keeper = g.K.Keeper in
-    let calls = g.B.RuleBook.calls in
+    let beside = moment keeper.tables keeper.faults g.B.RuleBook.calls in
     let book : Book = g.B.RuleBook.book in
     one_more book c.in-Ok-Came.item (Ok c.in-Ok.field-0) c.loop-held.held.items c.read_item.new.held.items (link.wire c.args.link.now) (link.wire c.loop-held.link) (link.wire c.read_item.new.link) (link.wire c.serve_item.new.link)
-    (keeper.tables c.args.keeper.now) (keeper.tables c.loop-held.keeper) (keeper.tables c.serve_item.new.keeper) (keeper.faults c.args.keeper.now) (keeper.faults c.loop-held.keeper) (keeper.faults c.serve_item.new.keeper)
-    (map calls c.args.books.now) (map calls c.loop-held.books) (map calls c.serve_item.new.books) (Ends (Finishes book.infos end.Closed))
+    (beside c.args.keeper.now c.args.books.now) (beside c.loop-held.keeper c.loop-held.books) (beside c.serve_item.new.keeper c.serve_item.new.books)
+    (Ends (Finishes book.infos end.Closed))
     c.loop-held.invariant.served (rw c.in-Ok-Came.field-0-is at c.in-Ok-Came.ensures.says) c.in-Ok.ensures.served (closes book c.in-Ok-Came.item c.read_item.new.held.items c.in-Ok.field-0 c.if-closes.true)
 
 pub returns-then-closes-clause-sound : goal.returns-then-closes-clause-sound
@@ -141,7 +144,9 @@ pub returns-then-closes-clause-never_falls : goal.returns-then-closes-clause-nev
 returns-then-closes-clause-never_falls g c = omega (arith, c.loop-held.invariant.faults, c.read_item.ensures.counted.never_falls, c.serve_item.ensures.counts.never_falls)
 
 pub returns-then-closes-clause-kept : goal.returns-then-closes-clause-kept
-returns-then-closes-clause-kept g c = omega (arith, c.loop-held.invariant.kept, c.serve_item.ensures.served.settles.never_falls)
+returns-then-closes-clause-kept g c =
+    let rises : g.K.Keeper.faults c.loop-held.keeper ≤ g.K.Keeper.faults c.serve_item.new.keeper = c.serve_item.ensures.served.settles.never_falls in
+    omega (arith, c.loop-held.invariant.kept, rises)
 
 pub loop-held-smaller : goal.loop-held-smaller
 loop-held-smaller g c =
@@ -152,26 +157,27 @@ pub loop-held-preserved : goal.loop-held-preserved
 loop-held-preserved g c =
     let link = g.L.Link in
     let keeper = g.K.Keeper in
-    let calls = g.B.RuleBook.calls in
+    let beside = moment keeper.tables keeper.faults g.B.RuleBook.calls in
     let book : Book = g.B.RuleBook.book in
+    let rises : keeper.faults c.loop-held.keeper ≤ keeper.faults c.serve_item.new.keeper = c.serve_item.ensures.served.settles.never_falls in
     record {
       served = one_more book c.in-Ok-Came.item (Ok c.in-Ok.field-0) c.loop-held.held.items c.read_item.new.held.items (link.wire c.args.link.now) (link.wire c.loop-held.link) (link.wire c.read_item.new.link) (link.wire c.serve_item.new.link)
-          (keeper.tables c.args.keeper.now) (keeper.tables c.loop-held.keeper) (keeper.tables c.serve_item.new.keeper) (keeper.faults c.args.keeper.now) (keeper.faults c.loop-held.keeper) (keeper.faults c.serve_item.new.keeper)
-          (map calls c.args.books.now) (map calls c.loop-held.books) (map calls c.serve_item.new.books) (SoFar book.infos c.read_item.new.held.items)
+          (beside c.args.keeper.now c.args.books.now) (beside c.loop-held.keeper c.loop-held.books) (beside c.serve_item.new.keeper c.serve_item.new.books)
+          (SoFar book.infos c.read_item.new.held.items)
           c.loop-held.invariant.served (rw c.in-Ok-Came.field-0-is at c.in-Ok-Came.ensures.says) c.in-Ok.ensures.served (goes_on book c.in-Ok-Came.item c.read_item.new.held.items c.in-Ok.field-0 c.if-closes.false);
       sound = keeps_join book (keeper.tables c.args.keeper.now) (keeper.tables c.loop-held.keeper) (keeper.tables c.serve_item.new.keeper) c.loop-held.invariant.sound c.serve_item.ensures.sound;
       faults = c.in-Ok.ensures.counts.same ∙ (c.in-Ok-Came.ensures.counted.same ∙ c.loop-held.invariant.faults);
-      kept = omega (arith, c.loop-held.invariant.kept, c.serve_item.ensures.served.settles.never_falls);
+      kept = omega (arith, c.loop-held.invariant.kept, rises);
     }
 
 pub returns-in-Err-OutOfMemory-clause-served : goal.returns-in-Err-OutOfMemory-clause-served
 returns-in-Err-OutOfMemory-clause-served g c =
     let link = g.L.Link in
     let keeper = g.K.Keeper in
-    let calls = g.B.RuleBook.calls in
+    let beside = moment keeper.tables keeper.faults g.B.RuleBook.calls in
     let book : Book = g.B.RuleBook.book in
     not_held book c.close_full.result c.loop-held.held.items c.read_item.new.held.items (link.wire c.args.link.now) (link.wire c.loop-held.link) (link.wire c.read_item.new.link) (link.wire c.close_full.new.link)
-    (keeper.tables c.args.keeper.now) (keeper.tables c.loop-held.keeper) (keeper.faults c.args.keeper.now) (keeper.faults c.loop-held.keeper) (map calls c.args.books.now) (map calls c.loop-held.books)
+    (beside c.args.keeper.now c.args.books.now) (beside c.loop-held.keeper c.loop-held.books)
     c.loop-held.invariant.served (rw c.in-Err-OutOfMemory.field-0-is at c.in-Err-OutOfMemory.ensures.says) (c.close_full.ensures.closed book.infos)
 
 pub returns-in-Err-OutOfMemory-clause-sound : goal.returns-in-Err-OutOfMemory-clause-sound

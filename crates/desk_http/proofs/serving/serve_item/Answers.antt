@@ -1,7 +1,7 @@
-use Rattle.std.proofs.Common.{map}
 use Rattle.rule_core.specs.Books.{Book}
 use Rattle.desk_http.specs.Printed.{bytes_of}
 use Rattle.desk_http.specs.Serving.{AnsweredBy}
+use Rattle.desk_http.proofs.Moments.{moment}
 use Rattle.desk_http.proofs.Responding.{item_served}
 use Rattle.desk_http.proofs.Tables.{keeps_sound}
 use Rattle.desk_http.proofs.serving.serve_item.Goals as goal
@@ -10,19 +10,19 @@ pub returns-clause-served : goal.returns-clause-served
 returns-clause-served g c =
     let link = g.L.Link in
     let keeper = g.K.Keeper in
-    let calls = g.B.RuleBook.calls in
+    let beside = moment keeper.tables keeper.faults g.B.RuleBook.calls in
     let book : Book = g.B.RuleBook.book in
-    item_served book c.args.item c.write.result (link.wire c.args.link.now) (link.wire c.write.new.link) (keeper.tables c.args.keeper.now) (keeper.tables c.answer-printed.new.keeper)
-    (keeper.faults c.args.keeper.now) (keeper.faults c.answer-printed.new.keeper) (map calls c.args.books.now) (map calls c.answer-printed.new.books)
+    item_served book c.args.item c.write.result (link.wire c.args.link.now) (link.wire c.write.new.link) (beside c.args.keeper.now c.args.books.now)
+    (beside c.answer-printed.new.keeper c.answer-printed.new.books)
     (bytes_of c.answer-printed.result) c.answer-printed.ensures c.write.ensures.wrote c.write.ensures.broke_off
 
 pub returns-clause-sound : goal.returns-clause-sound
 returns-clause-sound g c =
     let keeper = g.K.Keeper in
-    let calls = g.B.RuleBook.calls in
+    let beside = moment keeper.tables keeper.faults g.B.RuleBook.calls in
     let book : Book = g.B.RuleBook.book in
-    keeps_sound book (AnsweredBy book c.args.item.sent c.answer-printed.ensures.answer (keeper.faults c.args.keeper.now) (keeper.faults c.answer-printed.new.keeper)
-    (map calls c.args.books.now) (map calls c.answer-printed.new.books)) (keeper.tables c.args.keeper.now) (keeper.tables c.answer-printed.new.keeper) c.answer-printed.ensures.settles.told
+    keeps_sound book (AnsweredBy book c.args.item.sent c.answer-printed.ensures.answer (beside c.args.keeper.now c.args.books.now)
+    (beside c.answer-printed.new.keeper c.answer-printed.new.books)) (keeper.tables c.args.keeper.now) (keeper.tables c.answer-printed.new.keeper) c.answer-printed.ensures.settles.told
 
 pub returns-clause-reads : goal.returns-clause-reads
 returns-clause-reads g c = c.write.ensures.kept

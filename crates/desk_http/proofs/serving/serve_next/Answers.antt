@@ -1,5 +1,5 @@
-use Rattle.std.proofs.Common.{map}
 use Rattle.rule_core.specs.Books.{Book}
+use Rattle.desk_http.proofs.Moments.{moment}
 use Rattle.desk_http.proofs.DoorLaws.{one_served}
 use Rattle.desk_http.proofs.serving.serve_next.Goals as goal
 
@@ -8,11 +8,11 @@ returns-clause-served g c =
     let door = g.D.Door in
     let link = g.D.Conn.Link in
     let keeper = g.K.Keeper in
-    let calls = g.B.RuleBook.calls in
+    let beside = moment keeper.tables keeper.faults g.B.RuleBook.calls in
     let book : Book = g.B.RuleBook.book in
-    one_served book link.wire link.faults c.serve_by.new.link c.serve_by.result (link.wire c.args.link) (link.faults c.args.link) (door.log c.args.door.now) (door.log c.done.new.self)
-    (keeper.tables c.args.keeper.now) (keeper.tables c.serve_by.new.keeper) (keeper.faults c.args.keeper.now) (keeper.faults c.serve_by.new.keeper)
-    (map calls c.args.books.now) (map calls c.serve_by.new.books) c.requires.untouched c.serve_by.ensures.served c.serve_by.ensures.faults c.done.ensures.log
+    one_served book link.wire link.faults c.serve_by.new.link c.serve_by.result (link.wire c.args.link) (link.faults c.args.link)
+    (door.told c.args.door.now) (door.told c.done.new.self) (door.log c.args.door.now) (door.log c.done.new.self)
+    (beside c.args.keeper.now c.args.books.now) (beside c.serve_by.new.keeper c.serve_by.new.books) c.requires.untouched c.serve_by.ensures.served c.serve_by.ensures.faults c.done.ensures.log
 
 pub returns-clause-sound : goal.returns-clause-sound
 returns-clause-sound g c = c.serve_by.ensures.sound

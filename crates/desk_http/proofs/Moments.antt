@@ -1,0 +1,14 @@
+-- What stands beside a link or a door, of a keeper and of books.
+use Rattle.std.proofs.Common.{ℕ, List, Option, map}
+use Rattle.links.specs.Wires.{Wire}
+use Rattle.links.specs.Doors.{Doorway}
+use Rattle.keep_core.specs.Tables.{Tables}
+use Rattle.desk_http.specs.Desk.{Moment, Desk}
+
+abbrev pub moment : {K B : Type 0} → (K → Option Tables) → (K → ℕ) → (B → ℕ) → K → List B → Moment
+moment tables faults calls keeper books = record { tables = tables keeper; faults = faults keeper; calls = map calls books }
+
+-- the desk of a door, with this beside it
+abbrev pub desk_with : {L : Type 0} → (L → Option Wire) → (L → ℕ) → Doorway → Option (List L) → Moment → Desk L
+desk_with wire broken door log m =
+    record { wire = wire; broken = broken; door = door; log = log; tables = m.tables; faults = m.faults; calls = m.calls }
