@@ -4,3 +4,4 @@ pub mod Wholes
 pub mod FitLemmas
 pub mod KeepLemmas
 pub mod Noting
+pub mod PrepareLemmas
