@@ -5,3 +5,4 @@ pub mod FitLemmas
 pub mod KeepLemmas
 pub mod Noting
 pub mod PrepareLemmas
+pub mod Restart

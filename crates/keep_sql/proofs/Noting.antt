@@ -8,7 +8,7 @@ use Rattle.sqlite_trees.specs.Tree.{Trees}
 use Rattle.sqlite.specs.Effect.{Database}
 use Rattle.sqlite.specs.State.{State}
 use Rattle.store_texts.specs.Stored.{Stored, stored, editions_in, editions_at}
-use Rattle.store_texts.specs.Changes.{IsStore, Makes, AddsEdition}
+use Rattle.store_texts.specs.Changes.{IsStore, AddsEdition}
 use Rattle.store_texts.specs.Making.{nothing}
 use Rattle.keep_core.specs.declared.limits.TheConstants.{MOST_REVISION}
 use Rattle.store_tables.specs.Cells.{number_in}
@@ -49,11 +49,8 @@ pub notes_found : (old new : State) (number : ℕ) → IsStore old → edition_i
 notes_found old new number store found same = record { store = store_same old new same store; edition = ap (λ (d : Database). edition_shown (editions_at (stored d.trees))) same ∙ found; made = inl same }
 
 -- the first, noted in a transaction of which these trees were committed
-pub first_left : (old inside mid : State) (db : Trees) → inside.now ≡ old.now → edition_in old ≡ Some None → Makes (AddsEdition (pos 1)) inside mid → db ≡ mid.now.trees → NotesFirst old db
-first_left old inside mid db begun none made is =
-    (none, subst (λ (t : Trees). AddsEdition (pos 1) (rows_in old) (stored t)) (sym is) (subst (λ (d : Database). AddsEdition (pos 1) (stored d.trees) (rows_in mid)) begun made.change))
+pub first_left : (old mid : State) (db : Trees) → edition_in old ≡ Some None → AddsEdition (pos 1) (rows_in old) (rows_in mid) → db ≡ mid.now.trees → NotesFirst old db
+first_left old mid db none adds is = (none, subst (λ (t : Trees). AddsEdition (pos 1) (rows_in old) (stored t)) (sym is) adds)
 
-pub notes_first : (old inside mid new : State) → inside.now ≡ old.now → edition_in old ≡ Some None → Makes (AddsEdition (pos 1)) inside mid → new.now ≡ mid.now → Notes old new 1
-notes_first old inside mid new begun none made kept =
-    let first = first_left old inside mid new.now.trees begun none made (ap (λ (d : Database). d.trees) kept) in
-    record { store = store_same mid new kept made.ready.store; edition = none_noted old new none first.1; made = inr (refl, first) }
+pub notes_first : (old new : State) → IsStore new → edition_in old ≡ Some None → AddsEdition (pos 1) (rows_in old) (rows_in new) → Notes old new 1
+notes_first old new store none adds = record { store = store; edition = none_noted old new none adds; made = inr (refl, (none, adds)) }

@@ -12,14 +12,15 @@ use Rattle.sqlite.specs.State.{State, HasCleanDisk, Survives}
 use Rattle.sqlite.proofs.StateLemmas.{survives_weaker}
 use Rattle.sql_rows.specs.Tables.{Rise}
 use Rattle.store_texts.specs.Schema.{schema_of, the_schema}
-use Rattle.store_texts.specs.Stored.{Stored, stored}
+use Rattle.store_texts.specs.Stored.{Stored, stored, editions_at}
 use Rattle.store_texts.specs.Changes.{IsStore, AddsEdition}
 use Rattle.store_texts.specs.Making.{nothing}
 use Rattle.store_texts.specs.Opening.{OpensAgain}
-use Rattle.store_tables.specs.Told.{tables_in}
+use Rattle.store_tables.specs.Told.{tables_in, edition_shown}
 use Rattle.keep_sql.specs.Reading.{rows_in, edition_in}
 use Rattle.keep_sql.specs.Preparing.{IsSound, IsBare, HasNone, HasSix, IsPrepared, Prepares, Notes, NotesFirst}
-use Rattle.keep_sql.specs.Keeper.{Keeper, first_of, held, told, LeftBy, LeftShut, Leaves, LeavesPrepared, MadeOf, Across, Between, IsToldOf, StaysStored}
+use Rattle.keep_sql.specs.declared.keeper.Prepared.TheVariants.{Ready, OtherEdition}
+use Rattle.keep_sql.specs.Keeper.{Keeper, first_of, held, told, LeftBy, LeftShut, Leaves, LeavesPrepared, MadeOf, Across, Between, IsToldOf, FoundEdition, StaysStored}
 use Rattle.keep_sql.proofs.KeepLemmas.{told_rows}
 
 none_of : (s : State) → IsBare s → HasNone s.now.trees
@@ -74,7 +75,7 @@ prepared_made old new (Err e) mine h = tt
 -- ---- what is told
 
 -- an edition that is noted changes nothing that is told
-edition_told : (old new : Stored) → AddsEdition (pos 1) old new → tables_in new ≡ tables_in old
+pub edition_told : (old new : Stored) → AddsEdition (pos 1) old new → tables_in new ≡ tables_in old
 edition_told old new adds = ap tables_in adds.0
 
 -- what is told of a store that was opened again and prepared
@@ -95,6 +96,23 @@ module _ (old mid new : State) (again : OpensAgain old mid) (rows : HasCleanDisk
       by (inl (one, inl (none, adds))) = inl (none, now_told ∙ edition_told nothing (rows_in new) adds)
       by (inl (one, inr (six, unnoted, adds))) = inr (six, now_told ∙ edition_told (rows_in old) (rows_in new) adds)
       by (inr (six, same)) = inr (six, now_told ∙ ap (λ (t : Trees). tables_in (stored t)) same)
+
+  -- the edition that it had noted
+  pub found_one : (HasCleanDisk new → IsTrue new.is_open → Prepares 1 mid.now.trees new.now.trees) → (HasCleanDisk new → IsTrue new.is_open → edition_in new ≡ Some (Some 1)) → FoundEdition Ready old new
+  found_one made noted clean is_open = by (from_old 1 made clean is_open)
+    where
+      by : Prepares 1 old.now.trees new.now.trees → HasNone old.now.trees ⊎ ((edition_in old ≡ Some None) ⊎ (edition_in old ≡ Some (Some 1)))
+      by (inl (one, inl (none, adds))) = inl none
+      by (inl (one, inr (six, unnoted, adds))) = inr (inl unnoted)
+      by (inr (six, same)) = inr (inr (ap (λ (t : Trees). edition_shown (editions_at (stored t))) (sym same) ∙ noted clean is_open))
+
+  pub found_other : (number : ℕ) → (number ≡ 1 → ⊥) → (HasCleanDisk new → IsTrue new.is_open → Prepares number mid.now.trees new.now.trees)
+      → (HasCleanDisk new → IsTrue new.is_open → edition_in new ≡ Some (Some number)) → FoundEdition (OtherEdition number) old new
+  found_other number other made noted clean is_open = by (from_old number made clean is_open)
+    where
+      by : Prepares number old.now.trees new.now.trees → edition_in old ≡ Some (Some number)
+      by (inl (one, first)) = absurd (other one)
+      by (inr (six, same)) = ap (λ (t : Trees). edition_shown (editions_at (stored t))) (sym same) ∙ noted clean is_open
 
   -- where another edition was found, and where that failed
   pub stays_other : (number : ℕ) → (number ≡ 1 → ⊥) → (HasCleanDisk new → IsTrue new.is_open → Prepares number mid.now.trees new.now.trees) → StaysStored old new
@@ -151,6 +169,10 @@ module _ {S : Type 0} (g : Ghosts S) (old : Keeper S) (conn : Held S) (is : held
 
   pub across_held : (P : State → State → Type 0) (after : Held S) → P (state g conn) (state g after) → Across g P (held old) (Some after)
   across_held P after h = subst (λ o. Across g P o (Some after)) (sym is) h
+
+  -- a keeper that waits
+  pub found_held : (P : State → State → Type 0) (ready : Option (Held S)) (after : Held S) → ready ≡ None → P (state g conn) (state g after) → Across g P (held old) (first_of ready (Some after))
+  found_held P ready after none h = subst (λ o. Across g P (held old) (first_of o (Some after))) (sym none) (across_held P after h)
 
   pub between_held : (P : State → State → Type 0) (after : Held S) → P (state g conn) (state g after) → Between g P (held old) (Some after)
   between_held P after h = subst (λ o. Between g P o (Some after)) (sym is) h

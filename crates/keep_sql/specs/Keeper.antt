@@ -1,11 +1,11 @@
 -- A keeper over a store.
-use Rattle.std.specs.Prelude.{◌≡◌, ◌⊎◌, ℕ, [], false, ◌&&◌, if◌then◌else◌, Option, Some, None, IfSome, Result, Err, IsTrue, refl}
+use Rattle.std.specs.Prelude.{◌≡◌, ◌⊎◌, ℕ, [], false, ◌&&◌, if◌then◌else◌, Option, Some, None, IfSome, IsSomeAnd, Result, Err, IsTrue, refl}
 use Rattle.std.specs.Coded.{Coded, code_by, coded×, coded_ℕ, coded_option}
 use Rattle.counts.specs.Counts.{Rose}
 use Rattle.sqlite.specs.Held.{Held, held_code, state}
 use Rattle.sqlite.specs.State.{State, HasCleanDisk, Survives}
 use Rattle.sqlite_trees.specs.Tree.{Trees}
-use Rattle.sqlite_trees.specs.View.{IsClean}
+use Rattle.sqlite_trees.specs.View.{IsClean, IsQuiet}
 use Rattle.sqlite_trees.specs.declared.store.Store.{Ghosts}
 use Rattle.keep_core.specs.declared.fault.KeepFault.{KeepFault}
 use Rattle.keep_core.specs.declared.fault.KeepFault.TheVariants.{Failed}
@@ -98,6 +98,15 @@ module _ {S : Type 0} (g : Ghosts S) where
   abbrev pub LeavesPrepared : Keeper S → Keeper S → Type 0
   LeavesPrepared old new = (db : Trees) → Leaves new db → Leaves old db ⊎ MadeOf (held old) db
 
+  -- a store is given back: of a connection, after which a crash has no new outcome and no fault is forgotten, or else the
+  -- one that stayed shut
+  abbrev pub GivesStore : Option (Held S) → Option S → Option S → Type 0
+  GivesStore (Some conn) shut result = IsSomeAnd result (IsQuiet g.view g.faults g.recovers g.is_shielded conn.store)
+  GivesStore None shut result = result ≡ shut
+
+  abbrev pub GivesBack : Keeper S → Option S → Type 0
+  GivesBack k result = GivesStore (held k) k.shut result
+
   -- each connection that is there, if one was
   abbrev pub Between : (State → State → Type 0) → Option (Held S) → Option (Held S) → Type 0
   Between P old new = IfSome old (λ a. IfSome new (λ b. P (state g a) (state g b)))
@@ -105,6 +114,11 @@ module _ {S : Type 0} (g : Ghosts S) where
 -- of a store that is ready empty tables are told, where it had none, or what its rows told
 abbrev pub IsToldOf : State → State → Type 0
 IsToldOf old new = HasCleanDisk new → IsTrue new.is_open → (HasNone old.now.trees × (told new ≡ Some [])) ⊎ (HasSix old.now.trees × (told new ≡ tables_in (rows_in old)))
+
+-- and what it had noted: where it is ready no edition, or 1, and else this number
+abbrev pub FoundEdition : Prepared → State → State → Type 0
+FoundEdition Ready old new = HasCleanDisk new → IsTrue new.is_open → HasNone old.now.trees ⊎ ((edition_in old ≡ Some None) ⊎ (edition_in old ≡ Some (Some 1)))
+FoundEdition (OtherEdition number) old new = HasCleanDisk new → IsTrue new.is_open → edition_in old ≡ Some (Some number)
 
 -- the rows stay
 abbrev pub StaysStored : State → State → Type 0

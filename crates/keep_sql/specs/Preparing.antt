@@ -1,12 +1,12 @@
 -- A store that was opened anew, and what preparing makes of it.
-use Rattle.std.specs.Prelude.{◌≡◌, ◌⊎◌, ℕ, pos, [], None, Some}
+use Rattle.std.specs.Prelude.{◌≡◌, ◌⊎◌, ℕ, pos, [], Option, None, Some}
 use Rattle.sqlite_trees.specs.Tree.{Trees}
 use Rattle.sqlite.specs.Effect.{IsDatabase}
 use Rattle.sqlite.specs.State.{State}
 use Rattle.sql_rows.specs.Opened.{AllRise}
 use Rattle.store_texts.specs.Schema.{schema_of, the_schema}
-use Rattle.store_texts.specs.Stored.{stored, editions_at}
-use Rattle.store_texts.specs.Changes.{IsStore, AddsEdition}
+use Rattle.store_texts.specs.Stored.{Stored, stored, editions_at}
+use Rattle.store_texts.specs.Changes.{IsStore, IsReady, AddsEdition}
 use Rattle.store_texts.specs.Making.{nothing}
 use Rattle.store_tables.specs.Told.{edition_shown}
 use Rattle.keep_sql.specs.Reading.{rows_in, edition_in}
@@ -44,6 +44,16 @@ Prepares number old new = ((number ≡ 1) × IsPrepared old new) ⊎ (HasSix old
 -- of a store with the six tables, in which no edition is noted, the first was
 abbrev pub NotesFirst : State → Trees → Type 0
 NotesFirst s db = (edition_in s ≡ Some None) × AddsEdition (pos 1) (rows_in s) (stored db)
+
+-- in a transaction: an edition was found among the rows, or none was, and the first is noted
+abbrev pub NotesInside : Stored → State → Option ℕ → Type 0
+NotesInside s new (Some number) = edition_shown (editions_at s) ≡ Some (Some number)
+NotesInside s new None = IsReady new × (edition_shown (editions_at s) ≡ Some None) × AddsEdition (pos 1) s (rows_in new)
+
+-- as one transaction
+abbrev pub NotesStore : State → State → Option ℕ → Type 0
+NotesStore old new (Some number) = (new.now ≡ old.now) × (edition_in old ≡ Some (Some number))
+NotesStore old new None = IsStore new × (edition_in old ≡ Some None) × AddsEdition (pos 1) (rows_in old) (rows_in new)
 
 -- an edition is found, or the first is noted, which the store has then
 pub record Notes (old new : State) (number : ℕ) : Type 0 where

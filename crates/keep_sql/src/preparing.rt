@@ -13,7 +13,7 @@ ghost use Rattle.store_texts.specs.Changes.{IsStore, IsReady, AddsEdition};
 ghost use Rattle.store_texts.specs.Making.{HasTables, nothing};
 ghost use Rattle.store_texts.specs.Opening.{OpensAgain};
 ghost use Rattle.keep_sql.specs.Reading.{ReadsInside, edition_in, rows_in};
-ghost use Rattle.keep_sql.specs.Preparing.{IsBare, IsSound, IsPrepared, Prepares, Notes, NotesFirst};
+ghost use Rattle.keep_sql.specs.Preparing.{IsBare, IsSound, IsPrepared, Prepares, Notes, NotesFirst, NotesInside, NotesStore};
 
 use sqlite::{Alter, Connection, Transaction};
 use sqlite_schema::schema::Schema;
@@ -89,8 +89,42 @@ fn noted_inside<S: Alter>(tx: &mut Transaction<'_, S>) -> Result<Option<u64>, St
     store_tables::edition(rows.as_slice())
 }
 
-// The edition of a store, which gets the first where none is noted, as one transaction.
-#[tactic(auto, using(crate::proofs::Noting::notes_found, crate::proofs::Noting::notes_first, crate::proofs::Noting::first_left))]
+// The edition that is noted; None where none was, after which the first is.
+fn note_inside<S: Alter>(tx: &mut Transaction<'_, S>) -> Result<Option<u64>, StoreFault>
+    ensures same_reference { tx.new.conn.ghost_name ≡ tx.old.conn.ghost_name }
+    ensures notes { HasCleanDisk (state S.Store tx.new.conn.now) → IsReady (state S.Store tx.old.conn.now)
+        → IfOk result (NotesInside (rows_in (state S.Store tx.old.conn.now)) (state S.Store tx.new.conn.now)) }
+    ensures kept { HasCleanDisk (state S.Store tx.new.conn.now) → StaysInside (state S.Store tx.old.conn.now) (state S.Store tx.new.conn.now) result }
+    ensures survives { Survives (state S.Store tx.old.conn.now) (state S.Store tx.new.conn.now) (λ _. ⊥) }
+{
+    if let Some(number) = noted_inside(tx)? {
+        return Ok(Some(number));
+    }
+    add_edition(tx, 1)?;
+    Ok(None)
+}
+
+// The same as one transaction.
+#[tactic(auto, using(crate::proofs::Noting::first_left))]
+fn found_or_noted<S: Alter>(conn: &mut Connection<S>) -> Result<Option<u64>, StoreFault>
+    requires idle { conn.old.in_transaction ≡ false }
+    ensures idle { conn.new.in_transaction ≡ false }
+    ensures notes { HasCleanDisk (state S.Store conn.new) → IsTrue (state S.Store conn.new).is_open → IsStore (state S.Store conn.old)
+        → IfOk result (NotesStore (state S.Store conn.old) (state S.Store conn.new)) }
+    ensures kept { HasCleanDisk (state S.Store conn.new) → IsTrue (state S.Store conn.new).is_open → OnErr result ((state S.Store conn.new).now ≡ (state S.Store conn.old).now) }
+    ensures crash { Survives (state S.Store conn.old) (state S.Store conn.new) (λ db. IsStore (state S.Store conn.old) → NotesFirst (state S.Store conn.old) db) }
+{
+    let _idle = conn.is_autocommit();
+    let mut tx = conn.transaction();
+    if let Some(number) = note_inside(&mut tx)? {
+        return Ok(Some(number));
+    }
+    tx.commit()?;
+    Ok(None)
+}
+
+// The edition of a store, which gets the first where none is noted.
+#[tactic(auto, using(crate::proofs::Noting::notes_found, crate::proofs::Noting::notes_first))]
 fn note<S: Alter>(conn: &mut Connection<S>) -> Result<u64, StoreFault>
     requires idle { conn.old.in_transaction ≡ false }
     ensures idle { conn.new.in_transaction ≡ false }
@@ -99,14 +133,10 @@ fn note<S: Alter>(conn: &mut Connection<S>) -> Result<u64, StoreFault>
     ensures kept { HasCleanDisk (state S.Store conn.new) → IsTrue (state S.Store conn.new).is_open → OnErr result ((state S.Store conn.new).now ≡ (state S.Store conn.old).now) }
     ensures crash { Survives (state S.Store conn.old) (state S.Store conn.new) (λ db. IsStore (state S.Store conn.old) → NotesFirst (state S.Store conn.old) db) }
 {
-    let _idle = conn.is_autocommit();
-    let mut tx = conn.transaction();
-    if let Some(number) = noted_inside(&mut tx)? {
-        return Ok(number);
+    match found_or_noted(conn)? {
+        Some(number) => Ok(number),
+        None => Ok(FIRST),
     }
-    add_edition(&mut tx, 1)?;
-    tx.commit()?;
-    Ok(FIRST)
 }
 
 /// The edition of a store that was opened anew: of one that has the tables, or gets them now.
