@@ -6,3 +6,5 @@ pub mod Over
 pub mod FitLemmas
 pub mod KeepLemmas
 pub mod Noting
+pub mod PrepareLemmas
+pub mod Restart

@@ -1,18 +1,22 @@
 -- The first edition, noted where none is.
-use Rattle.std.proofs.Common.{◌≡◌, ℕ, pos, List, [], ◌∷◌, map, Some, None, refl, sym, ap, ◌∙◌}
+use Rattle.std.proofs.Common.{◌≡◌, inl, inr, ℕ, pos, List, [], ◌∷◌, map, Some, None, refl, sym, ap, subst, ◌∙◌}
 use Rattle.sqlite_value.specs.declared.value.Value.TheVariants.{Int}
 use Rattle.sqlite_value.specs.Order.{Row, column}
 use Rattle.named_rows.specs.ByName.{put_row}
 use Rattle.sql_rows.specs.Tables.{name_at}
+use Rattle.sqlite_trees.specs.Tree.{Trees}
+use Rattle.sqlite.specs.Effect.{Database}
 use Rattle.sqlite.specs.State.{State}
-use Rattle.store_texts.specs.Stored.{Stored, editions_in, editions_at}
-use Rattle.store_texts.specs.Changes.{AddsEdition}
+use Rattle.store_texts.specs.Stored.{Stored, stored, editions_in, editions_at}
+use Rattle.store_texts.specs.Changes.{IsStore, AddsEdition}
 use Rattle.store_texts.specs.Making.{nothing}
 use Rattle.keep_core.specs.declared.limits.TheConstants.{MOST_REVISION}
 use Rattle.store_tables.specs.Cells.{number_in}
 use Rattle.store_tables.specs.Told.{last_number, edition_shown}
 use Rattle.store_tables.proofs.Steps.{some_same, none_some, both_read}
 use Rattle.keep_sql.specs.Reading.{rows_in, edition_in}
+use Rattle.keep_sql.specs.Preparing.{Notes, NotesFirst}
+use Rattle.keep_sql.proofs.Ready.{store_same}
 
 number_stays : (n : ℕ) (rows : List Row) → last_number (Some n) rows ≡ Some None → ⊥
 number_stays n [] is = none_some n (sym (some_same (Some n) None is))
@@ -39,3 +43,14 @@ first_noted new adds = noted_over nothing (rows_in new) refl adds
 -- and one in which none was noted
 pub none_noted : (old new : State) → edition_in old ≡ Some None → AddsEdition (pos 1) (rows_in old) (rows_in new) → edition_in new ≡ Some (Some 1)
 none_noted old new none adds = noted_over (rows_in old) (rows_in new) (map_none (λ r. column r 0 ∷ []) (editions_in (rows_in old)) (none_shown (editions_at (rows_in old)) none)) adds
+
+-- a store whose rows stay
+pub notes_found : (old new : State) (number : ℕ) → IsStore old → edition_in old ≡ Some (Some number) → new.now ≡ old.now → Notes old new number
+notes_found old new number store found same = record { store = store_same old new same store; edition = ap (λ (d : Database). edition_shown (editions_at (stored d.trees))) same ∙ found; made = inl same }
+
+-- the first, noted in a transaction of which these trees were committed
+pub first_left : (old mid : State) (db : Trees) → edition_in old ≡ Some None → AddsEdition (pos 1) (rows_in old) (rows_in mid) → db ≡ mid.now.trees → NotesFirst old db
+first_left old mid db none adds is = (none, subst (λ (t : Trees). AddsEdition (pos 1) (rows_in old) (stored t)) (sym is) adds)
+
+pub notes_first : (old new : State) → IsStore new → edition_in old ≡ Some None → AddsEdition (pos 1) (rows_in old) (rows_in new) → Notes old new 1
+notes_first old new store none adds = record { store = store; edition = none_noted old new none adds; made = inr (refl, (none, adds)) }

@@ -1,21 +1,25 @@
 -- A keeper over a store.
-use Rattle.std.specs.Prelude.{◌≡◌, ℕ, false, ◌&&◌, if◌then◌else◌, Option, Some, None, IfSome, Result, Err, IsTrue, refl}
+use Rattle.std.specs.Prelude.{◌≡◌, ◌⊎◌, ℕ, [], false, ◌&&◌, if◌then◌else◌, Option, Some, None, IfSome, IsSomeAnd, Result, Err, IsTrue, refl}
 use Rattle.std.specs.Coded.{Coded, code_by, coded×, coded_ℕ, coded_option}
 use Rattle.counts.specs.Counts.{Rose}
 use Rattle.sqlite.specs.Held.{Held, held_code, state}
 use Rattle.sqlite.specs.State.{State, HasCleanDisk, Survives}
 use Rattle.sqlite_trees.specs.Tree.{Trees}
+use Rattle.sqlite_trees.specs.View.{IsClean, IsQuiet}
 use Rattle.sqlite_trees.specs.declared.store.Store.{Ghosts}
 use Rattle.keep_core.specs.declared.fault.KeepFault.{KeepFault}
 use Rattle.keep_core.specs.declared.fault.KeepFault.TheVariants.{Failed}
 use Rattle.keep_core.specs.declared.change.Change.{Change}
 use Rattle.keep_core.specs.Tables.{Tables}
+use Rattle.keep_core.specs.Changes.{changed}
+use Rattle.store_texts.specs.Stored.{stored}
 use Rattle.store_texts.specs.Changes.{IsStore}
 use Rattle.store_tables.specs.Told.{tables_in}
 use Rattle.keep_sql.specs.declared.keeper.Prepared.{Prepared}
 use Rattle.keep_sql.specs.declared.keeper.Prepared.TheVariants.{Ready, OtherEdition}
 use Rattle.keep_sql.specs.Reading.{rows_in, edition_in}
 use Rattle.keep_sql.specs.Writing.{MayLeave}
+use Rattle.keep_sql.specs.Preparing.{HasNone, HasSix, IsPrepared}
 
 -- the connection of a store that is ready, that of one that isn't yet, a store that was shut, and the count of faults
 pub record Keeper (S : Type 0) : Type 0 where
@@ -28,6 +32,14 @@ abbrev pub keeper_code : {S : Type 0} → Coded S → Coded (Keeper S)
 keeper_code {S} store =
     code_by (Option (Held S) × (Option (Held S) × (Option S × ℕ))) (coded× (coded_option (held_code store)) (coded× (coded_option (held_code store)) (coded× (coded_option store) coded_ℕ)))
     (λ k. (k.ready, (k.waiting, (k.shut, k.faults)))) (λ p. record { ready = p.0; waiting = p.1.0; shut = p.1.1.0; faults = p.1.1.1 }) (λ _. refl)
+
+-- the connection that is prepared: that of a keeper that is ready, or else of one that waits
+abbrev pub first_of : {S : Type 0} → Option (Held S) → Option (Held S) → Option (Held S)
+first_of (Some conn) waiting = Some conn
+first_of None waiting = waiting
+
+abbrev pub held : {S : Type 0} → Keeper S → Option (Held S)
+held k = first_of k.ready k.waiting
 
 -- what is told of a store: what its rows tell, where it is open and clean
 abbrev pub told : State → Option Tables
@@ -65,6 +77,53 @@ module _ {S : Type 0} (g : Ghosts S) where
   Across P (Some old) None = ⊥
   Across P (Some old) (Some new) = P (state g old) (state g new)
 
+  abbrev pub LeftBy : Option (Held S) → Trees → Type 0
+  LeftBy None db = ⊥
+  LeftBy (Some conn) db = HasCleanDisk (state g conn) × (state g conn).may_leave db
+
+  abbrev pub LeftShut : Option S → Trees → Type 0
+  LeftShut None db = ⊥
+  LeftShut (Some store) db = IsClean (g.view store) × g.recovers store db
+
+  -- what a crash may leave of a store that a keeper holds, ready, waiting or shut, where the store is clean
+  abbrev pub Leaves : Keeper S → Trees → Type 0
+  Leaves k db = LeftBy k.ready db ⊎ (LeftBy k.waiting db ⊎ LeftShut k.shut db)
+
+  -- what the transaction of `prepare` makes of a store that is held
+  abbrev pub MadeOf : Option (Held S) → Trees → Type 0
+  MadeOf None db = ⊥
+  MadeOf (Some conn) db = IsPrepared (state g conn).now.trees db
+
+  -- a crash leaves what it could leave before, or that
+  abbrev pub LeavesPrepared : Keeper S → Keeper S → Type 0
+  LeavesPrepared old new = (db : Trees) → Leaves new db → Leaves old db ⊎ MadeOf (held old) db
+
+  -- a store is given back: of a connection, after which a crash has no new outcome and no fault is forgotten, or else the
+  -- one that stayed shut
+  abbrev pub GivesStore : Option (Held S) → Option S → Option S → Type 0
+  GivesStore (Some conn) shut result = IsSomeAnd result (IsQuiet g.view g.faults g.recovers g.is_shielded conn.store)
+  GivesStore None shut result = result ≡ shut
+
+  abbrev pub GivesBack : Keeper S → Option S → Type 0
+  GivesBack k result = GivesStore (held k) k.shut result
+
+  -- each connection that is there, if one was
+  abbrev pub Between : (State → State → Type 0) → Option (Held S) → Option (Held S) → Type 0
+  Between P old new = IfSome old (λ a. IfSome new (λ b. P (state g a) (state g b)))
+
+-- of a store that is ready empty tables are told, where it had none, or what its rows told
+abbrev pub IsToldOf : State → State → Type 0
+IsToldOf old new = HasCleanDisk new → IsTrue new.is_open → (HasNone old.now.trees × (told new ≡ Some [])) ⊎ (HasSix old.now.trees × (told new ≡ tables_in (rows_in old)))
+
+-- and what it had noted: where it is ready no edition, or 1, and else this number
+abbrev pub FoundEdition : Prepared → State → State → Type 0
+FoundEdition Ready old new = HasCleanDisk new → IsTrue new.is_open → HasNone old.now.trees ⊎ ((edition_in old ≡ Some None) ⊎ (edition_in old ≡ Some (Some 1)))
+FoundEdition (OtherEdition number) old new = HasCleanDisk new → IsTrue new.is_open → edition_in old ≡ Some (Some number)
+
+-- the rows stay
+abbrev pub StaysStored : State → State → Type 0
+StaysStored old new = HasCleanDisk new → IsTrue new.is_open → new.now.trees ≡ old.now.trees
+
 -- a crash leaves what it could leave before, as after each call that reads
 abbrev pub LeavesAll : State → State → Type 0
 LeavesAll old new = Survives old new (λ _. ⊥)
@@ -72,6 +131,13 @@ LeavesAll old new = Survives old new (λ _. ⊥)
 -- or the change, as after one that was asked for
 abbrev pub LeavesChange : Change → State → State → Type 0
 LeavesChange change old new = Survives old new (MayLeave change old)
+
+-- in terms of tables: where it leaves something that it couldn't leave before, of a store that was open, and that tells
+-- tables, then tables were told, and the change of these is told
+abbrev pub LeavesTables : Change → State → State → Type 0
+LeavesTables change old new =
+    HasCleanDisk new → IsTrue old.is_open → (db : Trees) → new.may_leave db
+    → old.may_leave db ⊎ ((t : Tables) → tables_in (stored db) ≡ Some t → (before : Tables) × (told old ≡ Some before) × (t ≡ changed change before))
 
 -- and only the change, once it was made
 abbrev pub IsSettled : State → State → Type 0

@@ -1,9 +1,15 @@
--- A store that was opened anew.
-use Rattle.std.specs.Prelude.{◌≡◌, []}
+-- A store that was opened anew, and what preparing makes of it.
+use Rattle.std.specs.Prelude.{◌≡◌, ◌⊎◌, ℕ, pos, [], Option, None, Some}
+use Rattle.sqlite_trees.specs.Tree.{Trees}
 use Rattle.sqlite.specs.Effect.{IsDatabase}
 use Rattle.sqlite.specs.State.{State}
 use Rattle.sql_rows.specs.Opened.{AllRise}
-use Rattle.store_texts.specs.Schema.{schema_of}
+use Rattle.store_texts.specs.Schema.{schema_of, the_schema}
+use Rattle.store_texts.specs.Stored.{Stored, stored, editions_at}
+use Rattle.store_texts.specs.Changes.{IsStore, IsReady, AddsEdition}
+use Rattle.store_texts.specs.Making.{nothing}
+use Rattle.store_tables.specs.Told.{edition_shown}
+use Rattle.keep_sql.specs.Reading.{rows_in, edition_in}
 
 -- a database, the rows of whose tables rise
 pub record IsSound (s : State) : Type 0 where
@@ -14,3 +20,43 @@ pub record IsSound (s : State) : Type 0 where
 pub record IsBare (s : State) : Type 0 where
   pub schema_is : s.now.schema ≡ schema_of []
   pub database : IsDatabase s.now
+
+-- trees that are a database without tables, and one with the six
+abbrev pub HasNone : Trees → Type 0
+HasNone db = IsDatabase (record { schema = schema_of []; trees = db })
+
+abbrev pub HasSix : Trees → Type 0
+HasSix db = IsDatabase (record { schema = the_schema; trees = db })
+
+-- the one transaction: a store without tables gets the six, and in them the edition 1 and no other row; one that has them,
+-- and notes no edition, notes 1 beside what it has
+abbrev pub IsPrepared : Trees → Trees → Type 0
+IsPrepared old new =
+    (HasNone old × AddsEdition (pos 1) nothing (stored new))
+    ⊎ (HasSix old × (edition_shown (editions_at (stored old)) ≡ Some None) × AddsEdition (pos 1) (stored old) (stored new))
+
+-- the edition that is found: 1, once that was made, or that of a store with the six tables, which stays
+abbrev pub Prepares : ℕ → Trees → Trees → Type 0
+Prepares number old new = ((number ≡ 1) × IsPrepared old new) ⊎ (HasSix old × (new ≡ old))
+
+-- ---- steps
+
+-- of a store with the six tables, in which no edition is noted, the first was
+abbrev pub NotesFirst : State → Trees → Type 0
+NotesFirst s db = (edition_in s ≡ Some None) × AddsEdition (pos 1) (rows_in s) (stored db)
+
+-- in a transaction: an edition was found among the rows, or none was, and the first is noted
+abbrev pub NotesInside : Stored → State → Option ℕ → Type 0
+NotesInside s new (Some number) = edition_shown (editions_at s) ≡ Some (Some number)
+NotesInside s new None = IsReady new × (edition_shown (editions_at s) ≡ Some None) × AddsEdition (pos 1) s (rows_in new)
+
+-- as one transaction
+abbrev pub NotesStore : State → State → Option ℕ → Type 0
+NotesStore old new (Some number) = (new.now ≡ old.now) × (edition_in old ≡ Some (Some number))
+NotesStore old new None = IsStore new × (edition_in old ≡ Some None) × AddsEdition (pos 1) (rows_in old) (rows_in new)
+
+-- an edition is found, or the first is noted, which the store has then
+pub record Notes (old new : State) (number : ℕ) : Type 0 where
+  pub store : IsStore new
+  pub edition : edition_in new ≡ Some (Some number)
+  pub made : (new.now ≡ old.now) ⊎ ((number ≡ 1) × NotesFirst old new.now.trees)

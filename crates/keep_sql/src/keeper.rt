@@ -7,7 +7,7 @@ ghost use Rattle.keep_core.specs.Tables.{site_of, page_of, heads_of, judgements_
 ghost use Rattle.keep_core.specs.Fits.{Fits, FitsSite, FitsPage, FitsHeads, IsThere};
 ghost use Rattle.keep_core.specs.Keeping.{Reads, Makes, CountsFaults};
 ghost use Rattle.keep_sql.specs.declared.keeper.Prepared.TheVariants as prepared;
-ghost use Rattle.keep_sql.specs.Keeper.{tables as told_tables, WaitsFailing, Across, LeavesAll, LeavesChange, IsSettled, IsNoted};
+ghost use Rattle.keep_sql.specs.Keeper.{tables as told_tables, WaitsFailing, Across, Between, LeavesAll, LeavesChange, LeavesTables, LeavesPrepared, IsSettled, IsNoted, IsToldOf, FoundEdition, StaysStored, GivesBack, AreWell, first_of, held};
 
 use crate::calls::{read_heads, read_judgements, read_outcomes, read_page, read_site};
 use crate::{changes, preparing};
@@ -102,6 +102,11 @@ impl<S: Alter + Drop> SqlKeeper<S> {
         ensures waits { result ≢ ok prepared.Ready → self.new.ready ≡ None }
         ensures edition { IfOk result (λ p. (number : _) → p ≡ prepared.OtherEdition number → number ≢ 1) }
         ensures noted { IfOk result (λ p. IsNoted S.Store p self.new) }
+        ensures told { result ≡ ok prepared.Ready → Across S.Store IsToldOf (held self.old) self.new.ready }
+        ensures stays { result ≢ ok prepared.Ready → Between S.Store StaysStored (held self.old) self.new.waiting }
+        ensures found { IfOk result (λ p. Across S.Store (FoundEdition p) (held self.old) (held self.new)) }
+        ensures crash { LeavesPrepared S.Store self.old self.new }
+        ensures quiet { OnOk result (self.new.faults ≡ self.old.faults) }
         ensures faults { CountsFaults self.old.faults self.new.faults result }
     {
         let Some(conn) = taken(&mut self.ready, &mut self.waiting) else {
@@ -131,12 +136,37 @@ impl<S: Alter + Drop> SqlKeeper<S> {
     }
 }
 
+impl<S: Alter + Drop> SqlKeeper<S> {
+    /// The store that the keeper holds, without what isn't committed: that of its connection, ready or not, or else the one
+    /// that stayed shut. A crash leaves after it nothing that it couldn't leave before. None where there is no store.
+    pub fn into_store(self) -> Option<S>
+        ensures { GivesBack S.Store self result }
+    {
+        let SqlKeeper {
+            ready,
+            waiting,
+            shut,
+            faults: _,
+        } = self;
+        if let Some(conn) = ready {
+            return Some(conn.into_store());
+        }
+        if let Some(conn) = waiting {
+            return Some(conn.into_store());
+        }
+        shut
+    }
+}
+
 // The connection that is there, after which none is.
 fn taken<S: Alter + Drop>(
     ready: &mut Option<Connection<S>>,
     waiting: &mut Option<Connection<S>>,
 ) -> Option<Connection<S>>
+    requires idle { AreWell S.Store ready.old waiting.old }
     ensures none { (ready.new ≡ None) × (waiting.new ≡ None) }
+    ensures first { result ≡ first_of ready.old waiting.old }
+    ensures idle { IfSome result (λ conn. conn.in_transaction ≡ false) }
 {
     let first = ready.take();
     let second = waiting.take();
@@ -240,6 +270,7 @@ impl<S: Alter> Keeper for SqlKeeper<S> {
         ensures faults { CountsFaults self.old.faults self.new.faults result }
         ensures waits { WaitsFailing self.old self.new result }
         ensures crash { Across S.Store (LeavesChange batch.now.change) self.old.ready self.new.ready }
+        ensures leaves { Across S.Store (LeavesTables batch.now.change) self.old.ready self.new.ready }
         ensures settled { OnOk result (Across S.Store IsSettled self.old.ready self.new.ready) }
     {
         let Some(conn) = &mut self.ready else {

@@ -1,16 +1,19 @@
 //! A store that gets its tables, where it has none, and its edition, where none is noted.
 
-ghost use Rattle.std.specs.Prelude.{◌≡◌, false, IfOk, OnOk, IsTrue, [], pos, Some};
+ghost use Rattle.std.specs.Prelude.{◌≡◌, ◌≤◌, false, IfOk, IfErr, OnOk, OnErr, IsTrue, [], pos, Some};
+ghost use Rattle.sqlite_trees.specs.Tree.{Trees};
+ghost use Rattle.sqlite_trees.specs.View.{doubt};
 ghost use Rattle.sqlite.specs.Held.{state};
-ghost use Rattle.sqlite.specs.State.{HasCleanDisk, Survives};
+ghost use Rattle.sqlite.specs.State.{HasCleanDisk, Survives, IsUnchanged};
 ghost use Rattle.sql_rows.specs.Inside.{StaysInside};
 ghost use Rattle.sql_rows.specs.Stores as rows;
 ghost use Rattle.store_texts.specs.Schema.{schema_of};
 ghost use Rattle.store_texts.specs.Stored.{stored};
 ghost use Rattle.store_texts.specs.Changes.{IsStore, IsReady, AddsEdition};
 ghost use Rattle.store_texts.specs.Making.{HasTables, nothing};
-ghost use Rattle.keep_sql.specs.Reading.{LeavesStore, ReadsInside, ReadsStore, edition_in, rows_in};
-ghost use Rattle.keep_sql.specs.Preparing.{IsBare, IsSound};
+ghost use Rattle.store_texts.specs.Opening.{OpensAgain};
+ghost use Rattle.keep_sql.specs.Reading.{ReadsInside, edition_in, rows_in};
+ghost use Rattle.keep_sql.specs.Preparing.{IsBare, IsSound, IsPrepared, Prepares, Notes, NotesFirst, NotesInside, NotesStore};
 
 use sqlite::{Alter, Connection, Transaction};
 use sqlite_schema::schema::Schema;
@@ -20,22 +23,22 @@ use store_texts::{add_edition, edition_rows, is_ours, make_tables, reopen};
 
 const FIRST: u64 = 1;
 
-/// Opens the store of a connection anew, which is given back where that fails.
+/// Opens the store of a connection anew, which is given back where that fails. Its rows stay, and a crash leaves what it
+/// could leave before.
 pub fn open_anew<S: Alter + Drop>(
     alloc: Global,
     conn: Connection<S>,
 ) -> Result<Connection<S>, (StoreFault, S)>
+    requires idle { conn.in_transaction ≡ false }
     ensures idle { IfOk result (λ c. c.in_transaction ≡ false) }
     ensures sound { IfOk result (λ c. HasCleanDisk (state S.Store c) → IsSound (state S.Store c)) }
+    ensures again { IfOk result (λ c. OpensAgain (state S.Store conn) (state S.Store c)) }
+    ensures rows { IfOk result (λ c. HasCleanDisk (state S.Store c) → (state S.Store c).now.trees ≡ (state S.Store conn).now.trees) }
+    ensures given_back { IfErr result (λ e. (doubt (state S.Store conn).is_clean ≤ doubt (S.Store.view e.1).is_clean) × ((db : Trees) → S.Store.recovers e.1 db → (state S.Store conn).may_leave db)) }
 {
+    let _idle = conn.is_autocommit();
     match reopen(alloc, conn) {
-        Ok(conn) => {
-            if conn.is_autocommit() {
-                Ok(conn)
-            } else {
-                Err((StoreFault::Failed, conn.into_store()))
-            }
-        }
+        Ok(conn) => Ok(conn),
         Err((error, store)) => Err((StoreFault::from(error), store)),
     }
 }
@@ -64,6 +67,7 @@ fn make_store<S: Alter>(conn: &mut Connection<S>) -> Result<(), StoreFault>
     ensures idle { conn.new.in_transaction ≡ false }
     ensures made { HasCleanDisk (state S.Store conn.new) → IsBare (state S.Store conn.old)
         → OnOk result (IsStore (state S.Store conn.new) × AddsEdition (pos 1) nothing (rows_in (state S.Store conn.new))) }
+    ensures kept { HasCleanDisk (state S.Store conn.new) → IsTrue (state S.Store conn.new).is_open → OnErr result ((state S.Store conn.new).now ≡ (state S.Store conn.old).now) }
     ensures crash { Survives (state S.Store conn.old) (state S.Store conn.new) (λ db. IsBare (state S.Store conn.old) → AddsEdition (pos 1) nothing (stored db)) }
 {
     let _idle = conn.is_autocommit();
@@ -73,25 +77,11 @@ fn make_store<S: Alter>(conn: &mut Connection<S>) -> Result<(), StoreFault>
     Ok(())
 }
 
-// Notes the first edition of a store, as one transaction.
-fn note_first<S: Alter>(conn: &mut Connection<S>) -> Result<(), StoreFault>
-    requires idle { conn.old.in_transaction ≡ false }
-    ensures idle { conn.new.in_transaction ≡ false }
-    ensures was_open { HasCleanDisk (state S.Store conn.new) → IsTrue (state S.Store conn.new).is_open → IsTrue (state S.Store conn.old).is_open }
-    ensures made { HasCleanDisk (state S.Store conn.new) → IsStore (state S.Store conn.old)
-        → OnOk result (IsStore (state S.Store conn.new) × AddsEdition (pos 1) (rows_in (state S.Store conn.old)) (rows_in (state S.Store conn.new))) }
-    ensures crash { Survives (state S.Store conn.old) (state S.Store conn.new) (λ db. IsStore (state S.Store conn.old) → AddsEdition (pos 1) (rows_in (state S.Store conn.old)) (stored db)) }
-{
-    let _idle = conn.is_autocommit();
-    let mut tx = conn.transaction();
-    add_edition(&mut tx, 1)?;
-    tx.commit()?;
-    Ok(())
-}
-
+// The edition that is noted, if one is.
 fn noted_inside<S: Alter>(tx: &mut Transaction<'_, S>) -> Result<Option<u64>, StoreFault>
     ensures same_reference { tx.new.conn.ghost_name ≡ tx.old.conn.ghost_name }
     ensures reads { ReadsInside edition_in (state S.Store tx.old.conn.now) (state S.Store tx.new.conn.now) result }
+    ensures same { HasCleanDisk (state S.Store tx.new.conn.now) → IsReady (state S.Store tx.old.conn.now) → OnOk result (IsUnchanged (state S.Store tx.old.conn.now) (state S.Store tx.new.conn.now)) }
     ensures kept { HasCleanDisk (state S.Store tx.new.conn.now) → StaysInside (state S.Store tx.old.conn.now) (state S.Store tx.new.conn.now) result }
     ensures survives { Survives (state S.Store tx.old.conn.now) (state S.Store tx.new.conn.now) (λ _. ⊥) }
 {
@@ -99,17 +89,54 @@ fn noted_inside<S: Alter>(tx: &mut Transaction<'_, S>) -> Result<Option<u64>, St
     store_tables::edition(rows.as_slice())
 }
 
-// The edition that is noted of a store, if one is.
-fn noted<S: Alter>(conn: &mut Connection<S>) -> Result<Option<u64>, StoreFault>
+// The edition that is noted; None where none was, after which the first is.
+fn note_inside<S: Alter>(tx: &mut Transaction<'_, S>) -> Result<Option<u64>, StoreFault>
+    ensures same_reference { tx.new.conn.ghost_name ≡ tx.old.conn.ghost_name }
+    ensures notes { HasCleanDisk (state S.Store tx.new.conn.now) → IsReady (state S.Store tx.old.conn.now)
+        → IfOk result (NotesInside (rows_in (state S.Store tx.old.conn.now)) (state S.Store tx.new.conn.now)) }
+    ensures kept { HasCleanDisk (state S.Store tx.new.conn.now) → StaysInside (state S.Store tx.old.conn.now) (state S.Store tx.new.conn.now) result }
+    ensures survives { Survives (state S.Store tx.old.conn.now) (state S.Store tx.new.conn.now) (λ _. ⊥) }
+{
+    if let Some(number) = noted_inside(tx)? {
+        return Ok(Some(number));
+    }
+    add_edition(tx, 1)?;
+    Ok(None)
+}
+
+// The same as one transaction.
+#[tactic(auto, using(crate::proofs::Noting::first_left))]
+fn found_or_noted<S: Alter>(conn: &mut Connection<S>) -> Result<Option<u64>, StoreFault>
     requires idle { conn.old.in_transaction ≡ false }
     ensures idle { conn.new.in_transaction ≡ false }
-    ensures reads { ReadsStore edition_in (state S.Store conn.old) (state S.Store conn.new) result }
-    ensures leaves { LeavesStore (state S.Store conn.old) (state S.Store conn.new) }
-    ensures survives { Survives (state S.Store conn.old) (state S.Store conn.new) (λ _. ⊥) }
+    ensures notes { HasCleanDisk (state S.Store conn.new) → IsTrue (state S.Store conn.new).is_open → IsStore (state S.Store conn.old)
+        → IfOk result (NotesStore (state S.Store conn.old) (state S.Store conn.new)) }
+    ensures kept { HasCleanDisk (state S.Store conn.new) → IsTrue (state S.Store conn.new).is_open → OnErr result ((state S.Store conn.new).now ≡ (state S.Store conn.old).now) }
+    ensures crash { Survives (state S.Store conn.old) (state S.Store conn.new) (λ db. IsStore (state S.Store conn.old) → NotesFirst (state S.Store conn.old) db) }
 {
     let _idle = conn.is_autocommit();
     let mut tx = conn.transaction();
-    noted_inside(&mut tx)
+    if let Some(number) = note_inside(&mut tx)? {
+        return Ok(Some(number));
+    }
+    tx.commit()?;
+    Ok(None)
+}
+
+// The edition of a store, which gets the first where none is noted.
+#[tactic(auto, using(crate::proofs::Noting::notes_found, crate::proofs::Noting::notes_first))]
+fn note<S: Alter>(conn: &mut Connection<S>) -> Result<u64, StoreFault>
+    requires idle { conn.old.in_transaction ≡ false }
+    ensures idle { conn.new.in_transaction ≡ false }
+    ensures notes { HasCleanDisk (state S.Store conn.new) → IsTrue (state S.Store conn.new).is_open → IsStore (state S.Store conn.old)
+        → IfOk result (Notes (state S.Store conn.old) (state S.Store conn.new)) }
+    ensures kept { HasCleanDisk (state S.Store conn.new) → IsTrue (state S.Store conn.new).is_open → OnErr result ((state S.Store conn.new).now ≡ (state S.Store conn.old).now) }
+    ensures crash { Survives (state S.Store conn.old) (state S.Store conn.new) (λ db. IsStore (state S.Store conn.old) → NotesFirst (state S.Store conn.old) db) }
+{
+    match found_or_noted(conn)? {
+        Some(number) => Ok(number),
+        None => Ok(FIRST),
+    }
 }
 
 /// The edition of a store that was opened anew: of one that has the tables, or gets them now.
@@ -118,13 +145,17 @@ fn noted<S: Alter>(conn: &mut Connection<S>) -> Result<Option<u64>, StoreFault>
 ///
 /// `Failed` where the store has other tables, which stay as they are, where a noted edition doesn't read, or where a
 /// statement was refused for another cause than memory.
-#[tactic(auto, using(crate::proofs::Noting::first_noted, crate::proofs::Noting::none_noted))]
+#[tactic(auto, using(crate::proofs::Noting::first_noted, crate::proofs::PrepareLemmas::prepares_none, crate::proofs::PrepareLemmas::left_of_none))]
 pub fn prepare<S: Alter>(conn: &mut Connection<S>) -> Result<u64, StoreFault>
     requires idle { conn.old.in_transaction ≡ false }
     requires sound { HasCleanDisk (state S.Store conn.old) → IsSound (state S.Store conn.old) }
     ensures idle { conn.new.in_transaction ≡ false }
     ensures store { HasCleanDisk (state S.Store conn.new) → IsTrue (state S.Store conn.new).is_open
         → IfOk result (λ number. IsStore (state S.Store conn.new) × (edition_in (state S.Store conn.new) ≡ Some (Some number))) }
+    ensures made { HasCleanDisk (state S.Store conn.new) → IsTrue (state S.Store conn.new).is_open
+        → IfOk result (λ number. Prepares number (state S.Store conn.old).now.trees (state S.Store conn.new).now.trees) }
+    ensures kept { HasCleanDisk (state S.Store conn.new) → IsTrue (state S.Store conn.new).is_open → OnErr result ((state S.Store conn.new).now ≡ (state S.Store conn.old).now) }
+    ensures crash { Survives (state S.Store conn.old) (state S.Store conn.new) (IsPrepared (state S.Store conn.old).now.trees) }
 {
     if is_bare(conn.schema()) {
         make_store(conn)?;
@@ -133,9 +164,5 @@ pub fn prepare<S: Alter>(conn: &mut Connection<S>) -> Result<u64, StoreFault>
     if !is_ours(conn.schema()) {
         return Err(StoreFault::Failed);
     }
-    if let Some(number) = noted(conn)? {
-        return Ok(number);
-    }
-    note_first(conn)?;
-    Ok(FIRST)
+    note(conn)
 }

@@ -1,6 +1,6 @@
 use Rattle.std.proofs.Common.{sym, ap, ◌∙◌}
 use Rattle.keep_sql.specs.Keeper.{Keeper, LeavesChange, IsSettled}
-use Rattle.keep_sql.proofs.KeepLemmas.{made_of, kept_of, across_of}
+use Rattle.keep_sql.proofs.KeepLemmas.{made_of, kept_of, leaves_of, across_of}
 use Rattle.keep_sql.proofs.keeper.SqlKeeperKeeper.apply.Goals as goal
 
 pub returns-in-Ok-clause-makes : goal.returns-in-Ok-clause-makes
@@ -23,3 +23,13 @@ returns-in-Err-clause-crash g c =
 
 pub returns-in-Ok-clause-settled : goal.returns-in-Ok-clause-settled
 returns-in-Ok-clause-settled g c = across_of g.S.Store IsSettled c.args.self.now.ready c.in-Some.conn c.make.new.conn (ap (λ (k : Keeper g.row.S.Denot). k.ready) (sym c.self.view_is) ∙ c.in-Some.is) c.in-Ok.ensures.changes.settled
+
+pub returns-in-Ok-clause-leaves : goal.returns-in-Ok-clause-leaves
+returns-in-Ok-clause-leaves g c =
+    leaves_of g.S.Store c.self.inside.ready c.args.self.now.ready c.in-Some.conn c.make.new.conn c.in-Some.is (ap (λ (k : Keeper g.row.S.Denot). k.ready) (sym c.self.view_is) ∙ c.in-Some.is)
+    c.make.ensures.crash.clean c.self.invariant.ready_is c.args.batch.now.change c.requires.fits c.make.ensures.crash
+
+pub returns-in-Err-clause-leaves : goal.returns-in-Err-clause-leaves
+returns-in-Err-clause-leaves g c =
+    leaves_of g.S.Store c.self.inside.ready c.args.self.now.ready c.in-Some.conn c.make.new.conn c.in-Some.is (ap (λ (k : Keeper g.row.S.Denot). k.ready) (sym c.self.view_is) ∙ c.in-Some.is)
+    c.make.ensures.crash.clean c.self.invariant.ready_is c.args.batch.now.change c.requires.fits c.make.ensures.crash
