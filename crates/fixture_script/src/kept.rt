@@ -1,4 +1,4 @@
-//! What a keeper answers of the site of the script.
+//! What a keeper answers of a site, and of that of the script.
 
 use judge_core::{Judgement, Outcomes};
 use keep_core::{Keeper, PageHead, Site};
@@ -12,7 +12,7 @@ const SITE: &str = "acme";
 
 static PAGES: [&str; 3] = ["home", "news", "visit"];
 
-/// What the five reading calls of a keeper answer of the script's site and its pages.
+/// What the five reading calls of a keeper answer of a site and of pages of it.
 #[derive(Drop, PartialEq)]
 pub struct Kept {
     site: Option<Site>,
@@ -68,16 +68,44 @@ fn kept_page<K: Keeper>(
     })
 }
 
-/// What a keeper answers of the site and of each page that the script puts.
-pub fn look<K: Keeper>(alloc: Global, keeper: &mut K) -> Result<Kept, Fail> {
-    let name = Text::from_str(alloc, SITE)?;
+/// What a keeper answers of a site and of pages of it, whether they are kept or not. Fails where a call of the keeper does,
+/// and for want of memory.
+pub fn kept_of<K: Keeper>(
+    alloc: Global,
+    keeper: &mut K,
+    site: &str,
+    pages: &[&str],
+) -> Result<Kept, Fail> {
+    let name = Text::from_str(alloc, site)?;
     let site = keeper.site(alloc, &name)?;
     let heads = keeper.list(alloc, &name)?;
-    let mut pages = Vec::new(alloc);
-    for page in PAGES.as_slice() {
-        pages.push(kept_page(alloc, keeper, &name, page)?)?;
+    let mut kept = Vec::new(alloc);
+    for page in pages {
+        kept.push(kept_page(alloc, keeper, &name, page)?)?;
     }
-    Ok(Kept { site, heads, pages })
+    Ok(Kept {
+        site,
+        heads,
+        pages: kept,
+    })
+}
+
+/// What a keeper answers of the site and of each page that the script puts.
+pub fn look<K: Keeper>(alloc: Global, keeper: &mut K) -> Result<Kept, Fail> {
+    kept_of(alloc, keeper, SITE, PAGES.as_slice())
+}
+
+/// Whether two keepers answer the same of a site and of pages of it.
+pub fn keep_alike<J: Keeper, K: Keeper>(
+    alloc: Global,
+    one: &mut J,
+    other: &mut K,
+    site: &str,
+    pages: &[&str],
+) -> Result<bool, Fail> {
+    let first = kept_of(alloc, one, site, pages)?;
+    let second = kept_of(alloc, other, site, pages)?;
+    Ok(first == second)
 }
 
 /// Whether what is kept now is what is kept after so many requests.

@@ -1,0 +1,91 @@
+ghost use Rattle.std.specs.Prelude.{◌≡◌, false, None, IfOk, IsSome};
+
+use keep_core::KeepFault;
+use keep_sql::{Prepared, SqlKeeper};
+use sqlite::{Connection, Error, ErrorCode, FileStore, Files, Options};
+use sqlite_disk::Memory;
+use std::alloc::Global;
+use store_tables::StoreFault;
+use store_texts::make_tables;
+
+/// A store whose file and log are in memory.
+pub type MemStore = FileStore<Memory>;
+
+// A store with no tables.
+fn empty_store(alloc: Global) -> Result<Connection<MemStore>, Error>
+    ensures { IfOk result (λ conn. conn.in_transaction ≡ false) }
+{
+    let files = Files {
+        log: Memory::new(alloc),
+        db: Memory::new(alloc),
+    };
+    match Connection::open_files(alloc, files, Options::new(7)) {
+        Ok(conn) => Ok(conn),
+        Err((error, _)) => Err(error),
+    }
+}
+
+// Makes the six tables.
+fn make_six(conn: &mut Connection<MemStore>) -> Result<(), Error>
+    requires idle { conn.old.in_transaction ≡ false }
+{
+    let _idle = conn.is_autocommit();
+    let mut tx = conn.transaction();
+    make_tables(&mut tx)?;
+    tx.commit()?;
+    Ok(())
+}
+
+// Runs statements, after which no transaction may be open.
+fn run_all(
+    mut conn: Connection<MemStore>,
+    statements: &[&str],
+) -> Result<Connection<MemStore>, Error>
+    ensures { IfOk result (λ conn. conn.in_transaction ≡ false) }
+{
+    for sql in statements {
+        conn.execute_batch(sql)?;
+    }
+    if conn.is_autocommit() {
+        Ok(conn)
+    } else {
+        Err(Error::SqliteFailure(ErrorCode::TransactionState))
+    }
+}
+
+/// A keeper that isn't prepared yet, over a store that these statements made. Where `has_tables` holds they find the six
+/// tables of the desk, with no rows and no edition noted, and else a store without tables.
+///
+/// # Errors
+///
+/// `Failed` where a statement is refused for another cause than memory, or leaves a transaction open.
+pub fn waiting_keeper(
+    alloc: Global,
+    has_tables: bool,
+    statements: &[&str],
+) -> Result<SqlKeeper<MemStore>, StoreFault>
+    ensures { IfOk result (λ keeper. keeper.ready ≡ None) }
+{
+    let mut conn = empty_store(alloc)?;
+    if has_tables {
+        make_six(&mut conn)?;
+    }
+    let conn = run_all(conn, statements)?;
+    Ok(SqlKeeper::new(conn))
+}
+
+/// A keeper that is ready and keeps nothing.
+///
+/// # Errors
+///
+/// `Failed` where the store can't be made and prepared, for another cause than memory.
+pub fn ready_keeper(alloc: Global) -> Result<SqlKeeper<MemStore>, StoreFault>
+    ensures { IfOk result (λ keeper. IsSome keeper.ready) }
+{
+    let mut keeper = waiting_keeper(alloc, false, &[])?;
+    match keeper.prepare(alloc) {
+        Ok(Prepared::Ready) => Ok(keeper),
+        Err(KeepFault::OutOfMemory) => Err(StoreFault::OutOfMemory),
+        _ => Err(StoreFault::Failed),
+    }
+}
