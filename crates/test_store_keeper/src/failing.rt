@@ -3,10 +3,10 @@
 ghost use Rattle.std.specs.Prelude.{IfOk};
 ghost use Rattle.keep_core.specs.Fits.{Fits};
 
+use crate::keeping::go;
 use failing_keeper::FailingKeeper;
-use fixture_rules::Marks;
 use fixture_sites::Ask::Get;
-use fixture_sites::{Case, KEEPER_FAULT, Unasked, View, first_otherwise, named};
+use fixture_sites::{Case, KEEPER_FAULT, Unasked, View, named};
 use fixture_stores::{MemStore, ready_keeper, waiting_keeper};
 use keep_core::{Batch, Change, KeepFault, Keeper};
 use keep_sql::SqlKeeper;
@@ -21,7 +21,7 @@ const ALL: Failing = [true, true, true, true, true];
 
 const NONE: Failing = [false, false, false, false, false];
 
-fn has_failed<T>(answer: &Result<T, KeepFault>) -> bool {
+fn has_failed<T: Drop>(answer: Result<T, KeepFault>) -> bool {
     matches!(answer, Err(KeepFault::Failed))
 }
 
@@ -30,11 +30,11 @@ fn failing<K: Keeper>(alloc: Global, keeper: &mut K) -> Result<Failing, OutOfMem
     let site = Text::from_str(alloc, "acme")?;
     let page = Text::from_str(alloc, "home")?;
     Ok([
-        has_failed(&keeper.site(alloc, &site)),
-        has_failed(&keeper.load(alloc, &site, &page)),
-        has_failed(&keeper.list(alloc, &site)),
-        has_failed(&keeper.judgements(alloc, &site, &page)),
-        has_failed(&keeper.outcomes(alloc, &site, &page)),
+        has_failed(keeper.site(alloc, &site)),
+        has_failed(keeper.load(alloc, &site, &page)),
+        has_failed(keeper.list(alloc, &site)),
+        has_failed(keeper.judgements(alloc, &site, &page)),
+        has_failed(keeper.outcomes(alloc, &site, &page)),
     ])
 }
 
@@ -50,7 +50,7 @@ fn drop_home(alloc: Global) -> Result<Change, Unasked>
 fn fails_to_drop(alloc: Global, keeper: &mut SqlKeeper<MemStore>) -> Result<bool, Fail> {
     let change = drop_home(alloc)?;
     let dropped = keeper.apply(alloc, &Batch { change });
-    Ok(has_failed(&dropped))
+    Ok(has_failed(dropped))
 }
 
 // Whether those that read fail so, and dropping the page too or not.
@@ -63,14 +63,21 @@ fn all_fail(
     Ok(failing(alloc, keeper)? == wanted && fails_to_drop(alloc, keeper)? == drops)
 }
 
+// Whether before a store is prepared each call fails, and after it none.
+fn fails_until_prepared(alloc: Global) -> Result<bool, Fail> {
+    let mut keeper = waiting_keeper(alloc, false, &[])?;
+    let is_waiting = all_fail(alloc, &mut keeper, ALL, true)?;
+    keeper.prepare(alloc)?;
+    let is_ready = all_fail(alloc, &mut keeper, NONE, false)?;
+    Ok(is_waiting && is_ready)
+}
+
 #[test]
 fn each_call_fails_until_the_store_is_prepared(rt: HostRuntime) -> Result<(), Fail> {
-    let alloc = rt.alloc();
-    let mut keeper = waiting_keeper(alloc, false, &[])?;
-    assert!(rt; all_fail(alloc, &mut keeper, ALL, true)?);
-    keeper.prepare(alloc)?;
-    assert!(rt; all_fail(alloc, &mut keeper, NONE, false)?);
-    Ok(())
+    match fails_until_prepared(rt.alloc())? {
+        true => Ok(()),
+        false => Err(Fail::from("a call")),
+    }
 }
 
 // Whether the call of this number alone fails, of a keeper behind one that fails it.
@@ -202,15 +209,6 @@ static ASKED: [Case; 1] = [("ann", "acme", Get(View::Page, "home"), KEEPER_FAULT
 
 #[test]
 fn a_page_that_does_not_read_is_a_fault_of_the_keeper(rt: HostRuntime) -> Result<(), Fail> {
-    let alloc = rt.alloc();
-    let mut keeper = keeper_of(alloc, NO_SNAPSHOT)?;
-    let found = first_otherwise(
-        &rt,
-        alloc,
-        &mut [Marks::new()],
-        &mut keeper,
-        ASKED.as_slice(),
-    )?;
-    assert_eq!(rt; found, None);
-    Ok(())
+    let mut keeper = keeper_of(rt.alloc(), NO_SNAPSHOT)?;
+    go(&rt, rt.alloc(), &mut keeper, ASKED.as_slice())
 }

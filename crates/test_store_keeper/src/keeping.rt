@@ -68,9 +68,14 @@ static PLACES: [(&str, &[&str]); 3] = [
     ("none", &["home"]),
 ];
 
-// Fails where a request isn't answered as the table says, with its place.
-fn go<R: Threads + Sync, K: Keeper>(rt: &R, alloc: Global, keeper: &mut K) -> Result<(), Fail> {
-    match first_otherwise(rt, alloc, &mut [Marks::new()], keeper, CASES.as_slice())? {
+/// Fails where a request isn't answered as a table says, with its place.
+pub fn go<R: Threads + Sync, K: Keeper>(
+    rt: &R,
+    alloc: Global,
+    keeper: &mut K,
+    cases: &[Case],
+) -> Result<(), Fail> {
+    match first_otherwise(rt, alloc, &mut [Marks::new()], keeper, cases)? {
         None => Ok(()),
         Some(place) => Err(Fail::from(place)),
     }
@@ -81,8 +86,8 @@ fn a_store_keeps_what_memory_keeps(rt: HostRuntime) -> Result<(), Fail> {
     let alloc = rt.alloc();
     let mut memory = keeper_failing(alloc, &[])?;
     let mut stored = ready_keeper(alloc)?;
-    go(&rt, alloc, &mut memory)?;
-    go(&rt, alloc, &mut stored)?;
+    go(&rt, alloc, &mut memory, CASES.as_slice())?;
+    go(&rt, alloc, &mut stored, CASES.as_slice())?;
     for (site, pages) in PLACES.as_slice() {
         if !keep_alike(alloc, &mut memory, &mut stored, site, pages)? {
             return Err(Fail::from(*site));
