@@ -1,8 +1,9 @@
-//! Connections in memory to a desk of the thirty rules, and the bytes of requests and replies.
+//! Connections in memory to a desk of the thirty rules.
 
 ghost use Rattle.std.specs.Prelude.{◌<◌, length};
 
 use desk_http::{LinkEnd, serve_link};
+use fixture_requests::link_of;
 use keep_core::MemoryKeeper;
 use links::MemLink;
 use rule_book::Thirty;
@@ -10,11 +11,6 @@ use std::alloc::{AllocError, Global};
 use std::process::Abort;
 use std::thread::Threads;
 use texts::{List, OutOfMemory};
-
-// Room for what is written to a link, and how many reads it allows.
-const ROOM: usize = 100_000;
-
-const MOST_READS: u64 = 1_000_000;
 
 /// A site of the caller ann, and what is answered.
 pub(crate) const PUT_SITE: &str =
@@ -29,21 +25,7 @@ pub(crate) fn keeper_failing(alloc: Global, fails: &[u64]) -> Result<MemoryKeepe
     Ok(MemoryKeeper::new(alloc, List::from_vec(fails)))
 }
 
-/// A link that brings these bytes, so many in a read.
-pub(crate) fn link_of(alloc: Global, bytes: &[u8], piece: usize) -> Result<MemLink, OutOfMemory> {
-    let bytes = Vec::from_slice(alloc, bytes)?;
-    let none = Vec::new(alloc);
-    MemLink::new(
-        alloc,
-        List::from_vec(bytes),
-        piece,
-        ROOM,
-        MOST_READS,
-        List::from_vec(none),
-    )
-}
-
-/// How the service of such a link by these books ends, and the link, with what was written to it.
+/// How the service of a link by these books ends, and the link, with what was written to it.
 pub(crate) fn served<R: Threads + Sync>(
     rt: &R,
     alloc: Global,
@@ -106,26 +88,4 @@ pub(crate) fn put_site<R: Abort + Threads + Sync>(
         written: SITE_IS_PUT.as_bytes(),
     };
     goes_so(rt, alloc, keeper, exchange, "the site")
-}
-
-/// The bytes of a request with a body.
-pub(crate) fn request(
-    alloc: Global,
-    line: &str,
-    caller: &str,
-    rev: u64,
-    body: &str,
-) -> Result<String, AllocError> {
-    let length = body.len();
-    format!(in alloc;
-        "{line} HTTP/1.1\r\nx-caller: {caller}\r\nx-rev: {rev}\r\ncontent-length: {length}\r\n\r\n{body}"
-    )
-}
-
-/// The bytes of a reply after which the connection stays open.
-pub(crate) fn reply(alloc: Global, status: &str, body: &str) -> Result<String, AllocError> {
-    let length = body.len();
-    format!(in alloc;
-        "HTTP/1.1 {status}\r\ncontent-type: application/json\r\ncontent-length: {length}\r\n\r\n{body}"
-    )
 }

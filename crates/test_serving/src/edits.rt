@@ -2,7 +2,8 @@
 
 ghost use Rattle.std.specs.Prelude.{◌≡◌, ◌<◌, length};
 
-use crate::connection::{keeper_failing, link_of, put_site, request, served};
+use crate::connection::{keeper_failing, put_site, served};
+use fixture_requests::{link_of, request};
 use keep_core::MemoryKeeper;
 use rule_book::Thirty;
 use rule_core::RuleBook;
