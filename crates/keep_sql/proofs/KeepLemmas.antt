@@ -15,11 +15,13 @@ use Rattle.keep_core.specs.Tables.{Tables}
 use Rattle.store_texts.specs.Stored.{stored}
 use Rattle.store_texts.specs.Changes.{IsStore}
 use Rattle.store_tables.specs.Told.{tables_in}
+use Rattle.store_tables.specs.Numbers.{IsNumbered}
 use Rattle.store_tables.proofs.Applied.{applied}
+use Rattle.store_tables.proofs.Tells.{applies_tells}
 use Rattle.store_tables.proofs.Steps.{some_same}
 use Rattle.keep_sql.specs.Reading.{rows_in, LeavesStore}
 use Rattle.keep_sql.specs.Writing.{ChangesStore, MayLeave}
-use Rattle.keep_sql.specs.Keeper.{told, told_of, IsWell, Across, LeavesChange, LeavesTables}
+use Rattle.keep_sql.specs.Keeper.{told, told_of, IsWell, Across, LeavesChange, TellsChanged, LeavesTables}
 
 clean_of : (b : Bool) → doubt b ≡ 0 → b ≡ true
 unfolding doubt
@@ -89,17 +91,22 @@ module _ (old new : State) (clean : doubt old.is_clean ≤ doubt new.is_clean) w
       })
 
   -- what a crash leaves amid a change, in terms of tables
-  left_tables : (change : Change) → Fits change → LeavesChange change old new → (HasCleanDisk old → IsTrue old.is_open → IsStore old) → LeavesTables change old new
-  left_tables change fits h store now is_open db left = by (h.crash now db left)
+  left_tables : (change : Change) → Fits change → IsNumbered change → LeavesChange change old new → (HasCleanDisk old → IsTrue old.is_open → IsStore old) → LeavesTables change old new
+  left_tables change fits numbered h store now is_open db left = by (h.crash now db left)
     where
       clean_old : HasCleanDisk old
       clean_old = clean_before _ _ clean now
 
-      by : old.may_leave db ⊎ MayLeave change old db → old.may_leave db ⊎ ((t : Tables) → tables_in (stored db) ≡ Some t → (before : Tables) × (told old ≡ Some before) × (t ≡ changed change before))
+      by : old.may_leave db ⊎ MayLeave change old db → old.may_leave db ⊎ TellsChanged change old db
       by (inl earlier) = inl earlier
-      by (inr made) = inr (λ t is.
-          let before = applied change (rows_in old) (stored db) (made (store clean_old is_open)) fits t is in
-          (before.0, told_by old before.0 (record { clean = clean_old; is_open = is_open; gives = before.1 }), before.2))
+      by (inr made) =
+          let applies = made (store clean_old is_open) in
+          inr (record {
+            was = λ t is.
+                let before = applied change (rows_in old) (stored db) applies fits t is in
+                (before.0, told_by old before.0 (record { clean = clean_old; is_open = is_open; gives = before.1 }), before.2);
+            now = λ before is. applies_tells change (rows_in old) (stored db) applies fits numbered before (told_is old before is).gives;
+          })
 
 -- ---- a keeper that is ready
 
@@ -130,9 +137,9 @@ module _ {S : Type 0} (g : Ghosts S) (inside ready : Option (Held S)) (conn new 
       subst (λ (o : Option (Held S)). Makes {A = Unit {0}} change (told_of g o) (told (state g new)) (Err e)) (sym is)
       (record { made = tt; kept = kept_same (state g conn) (state g new) clean changes.was_open changes.kept })
 
-  pub leaves_of : (change : Change) → Fits change → LeavesChange change (state g conn) (state g new) → Across g (LeavesTables change) ready (Some new)
-  leaves_of change fits h =
-      subst (λ (o : Option (Held S)). Across g (LeavesTables change) o (Some new)) (sym is) (left_tables (state g conn) (state g new) clean change fits h store_of)
+  pub leaves_of : (change : Change) → Fits change → IsNumbered change → LeavesChange change (state g conn) (state g new) → Across g (LeavesTables change) ready (Some new)
+  leaves_of change fits numbered h =
+      subst (λ (o : Option (Held S)). Across g (LeavesTables change) o (Some new)) (sym is) (left_tables (state g conn) (state g new) clean change fits numbered h store_of)
 
 -- what holds of a store before and after a call, of a keeper that is ready
 pub across_of : {S : Type 0} (g : Ghosts S) (P : State → State → Type 0) (ready : Option (Held S)) (conn new : Held S) → ready ≡ Some conn → P (state g conn) (state g new) → Across g P ready (Some new)

@@ -14,7 +14,7 @@ use Rattle.store_tables.specs.Told.{tables_in}
 use Rattle.store_tables.proofs.Steps.{some_same}
 use Rattle.keep_sql.specs.Reading.{rows_in}
 use Rattle.keep_sql.specs.Preparing.{HasNone, HasSix, IsPrepared}
-use Rattle.keep_sql.specs.Keeper.{Keeper, told, told_of, held, LeftBy, Leaves, LeavesTables, MadeOf, Across, IsToldOf}
+use Rattle.keep_sql.specs.Keeper.{Keeper, told, told_of, held, LeftBy, Leaves, TellsChanged, LeavesTables, MadeOf, Across, IsToldOf}
 use Rattle.keep_sql.specs.Restart.{AreSound, AllSound, TellsSound, AsksSound, StartsAgain}
 use Rattle.keep_sql.proofs.KeepLemmas.{told_is}
 use Rattle.keep_sql.proofs.PrepareLemmas.{edition_told}
@@ -26,9 +26,9 @@ module _ (Sound : Tables → Type 0) where
       → HasCleanDisk new → new.may_leave db → AreSound Sound db
   batch_left change old new t now sound leaves db before clean left = by (leaves clean (told_is old t now).is_open db left)
     where
-      by : old.may_leave db ⊎ ((t' : Tables) → tables_in (stored db) ≡ Some t' → (was : Tables) × (told old ≡ Some was) × (t' ≡ changed change was)) → AreSound Sound db
+      by : old.may_leave db ⊎ TellsChanged change old db → AreSound Sound db
       by (inl earlier) = before earlier
-      by (inr made) = λ t' is. let m = made t' is in subst Sound (sym (m.2 ∙ ap (changed change) (some_same m.0 t (sym m.1 ∙ now)))) sound
+      by (inr made) = λ t' is. let m = made.was t' is in subst Sound (sym (m.2 ∙ ap (changed change) (some_same m.0 t (sym m.1 ∙ now)))) sound
 
   module _ {S : Type 0} (g : Ghosts S) where
     -- amid a batch and after it a crash leaves only sound tables

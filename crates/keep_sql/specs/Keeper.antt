@@ -132,12 +132,14 @@ LeavesAll old new = Survives old new (λ _. ⊥)
 abbrev pub LeavesChange : Change → State → State → Type 0
 LeavesChange change old new = Survives old new (MayLeave change old)
 
--- in terms of tables: where it leaves something that it couldn't leave before, of a store that was open, and that tells
--- tables, then tables were told, and the change of these is told
+-- what a database tells is the change of what a store told, and it does so where the store told tables
+pub record TellsChanged (change : Change) (s : State) (db : Trees) : Type 0 where
+  pub was : (t : Tables) → tables_in (stored db) ≡ Some t → (before : Tables) × (told s ≡ Some before) × (t ≡ changed change before)
+  pub now : (before : Tables) → told s ≡ Some before → tables_in (stored db) ≡ Some (changed change before)
+
+-- in terms of tables: what it leaves of a store that was open, and couldn't leave before, tells the change of the tables
 abbrev pub LeavesTables : Change → State → State → Type 0
-LeavesTables change old new =
-    HasCleanDisk new → IsTrue old.is_open → (db : Trees) → new.may_leave db
-    → old.may_leave db ⊎ ((t : Tables) → tables_in (stored db) ≡ Some t → (before : Tables) × (told old ≡ Some before) × (t ≡ changed change before))
+LeavesTables change old new = HasCleanDisk new → IsTrue old.is_open → (db : Trees) → new.may_leave db → old.may_leave db ⊎ TellsChanged change old db
 
 -- and only the change, once it was made
 abbrev pub IsSettled : State → State → Type 0

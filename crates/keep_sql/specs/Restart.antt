@@ -8,7 +8,7 @@ use Rattle.keep_core.specs.Changes.{changed}
 use Rattle.keep_core.specs.Tables.{Tables}
 use Rattle.store_texts.specs.Stored.{stored}
 use Rattle.store_tables.specs.Told.{tables_in}
-use Rattle.keep_sql.specs.Keeper.{Keeper, tables, held, LeftBy, Leaves, LeavesTables, LeavesPrepared, Across, IsToldOf}
+use Rattle.keep_sql.specs.Keeper.{Keeper, tables, held, LeftBy, LeavesTables, LeavesPrepared, Across, IsToldOf}
 
 module _ (Sound : Tables → Type 0) where
   -- where stored rows tell tables, these are sound

@@ -12,7 +12,7 @@ use keep_core::{Page, PageHead, Site};
 use snap_tree::{List, Text};
 use sqlite::{Alter, Connection};
 use std::alloc::Global;
-use store_tables::StoreFault;
+use store_tables::{Memo, StoreFault};
 
 /// The site of a name with its members; None where there is none.
 pub fn read_site<S: Alter>(
@@ -35,6 +35,7 @@ pub fn read_site<S: Alter>(
 /// A page of a site; None where there is none.
 pub fn read_page<S: Alter>(
     alloc: Global,
+    memo: &mut Memo,
     conn: &mut Connection<S>,
     site: &Text,
     page: &Text,
@@ -48,7 +49,7 @@ pub fn read_page<S: Alter>(
 {
     let _idle = conn.is_autocommit();
     let mut tx = conn.transaction();
-    reads::page_in(alloc, &mut tx, site, page)
+    reads::page_in(alloc, memo, &mut tx, site, page)
 }
 
 /// The heads of a site's pages, in byte order of their names.

@@ -18,7 +18,7 @@ use keep_core::{Change, PagePut, Site};
 use snap_tree::Text;
 use sqlite::{Alter, Connection, Transaction};
 use std::alloc::Global;
-use store_tables::StoreFault;
+use store_tables::{Memo, StoreFault};
 use store_texts::{drop_judgements, drop_outcomes, drop_page};
 
 fn put_site<S: Alter>(
@@ -40,6 +40,7 @@ fn put_site<S: Alter>(
 // Puts a page over one that reads.
 fn put_one<S: Alter>(
     alloc: Global,
+    memo: &mut Memo,
     tx: &mut Transaction<'_, S>,
     site: &Text,
     put: &PagePut,
@@ -51,14 +52,15 @@ fn put_one<S: Alter>(
     ensures survives { Survives (state S.Store tx.old.conn.now) (state S.Store tx.new.conn.now) (λ _. ⊥) }
 {
     let page = &put.page.head.page;
-    let kept = check_page(alloc, tx, site, page)?;
+    let kept = check_page(alloc, memo, tx, site, page)?;
     let site = site.as_str();
-    write_page(alloc, tx, site, &put.page)?;
+    write_page(alloc, memo, tx, site, &put.page)?;
     write_outcomes(tx, site, page.as_str(), &kept, &put.outcomes)
 }
 
 fn put_each<S: Alter>(
     alloc: Global,
+    memo: &mut Memo,
     tx: &mut Transaction<'_, S>,
     site: &Text,
     puts: &[PagePut],
@@ -72,12 +74,13 @@ fn put_each<S: Alter>(
     let Some((first, rest)) = puts.split_first() else {
         return Ok(());
     };
-    put_one(alloc, tx, site, first)?;
-    put_each(alloc, tx, site, rest)
+    put_one(alloc, memo, tx, site, first)?;
+    put_each(alloc, memo, tx, site, rest)
 }
 
 fn put_pages<S: Alter>(
     alloc: Global,
+    memo: &mut Memo,
     tx: &mut Transaction<'_, S>,
     site: &Text,
     counter: u64,
@@ -91,12 +94,13 @@ fn put_pages<S: Alter>(
 {
     check_kept(alloc, tx, site)?;
     write_site(tx, site.as_str(), counter)?;
-    put_each(alloc, tx, site, puts)
+    put_each(alloc, memo, tx, site, puts)
 }
 
 // Takes a page out that reads, of a site that is there.
 fn take_page<S: Alter>(
     alloc: Global,
+    memo: &mut Memo,
     tx: &mut Transaction<'_, S>,
     site: &Text,
     page: &Text,
@@ -106,7 +110,7 @@ fn take_page<S: Alter>(
     ensures kept { HasCleanDisk (state S.Store tx.new.conn.now) → StaysInside (state S.Store tx.old.conn.now) (state S.Store tx.new.conn.now) result }
     ensures survives { Survives (state S.Store tx.old.conn.now) (state S.Store tx.new.conn.now) (λ _. ⊥) }
 {
-    check_page(alloc, tx, site, page)?;
+    check_page(alloc, memo, tx, site, page)?;
     let (site, page) = (site.as_str(), page.as_str());
     drop_page(tx, site, page)?;
     drop_judgements(tx, site, page)?;
@@ -116,6 +120,7 @@ fn take_page<S: Alter>(
 
 fn take_out<S: Alter>(
     alloc: Global,
+    memo: &mut Memo,
     tx: &mut Transaction<'_, S>,
     site: &Text,
     page: &Text,
@@ -126,7 +131,7 @@ fn take_out<S: Alter>(
     ensures survives { Survives (state S.Store tx.old.conn.now) (state S.Store tx.new.conn.now) (λ _. ⊥) }
 {
     if has_site(tx, site.as_str())? {
-        take_page(alloc, tx, site, page)
+        take_page(alloc, memo, tx, site, page)
     } else {
         Ok(())
     }
@@ -154,6 +159,7 @@ fn judge<S: Alter>(
 /// Makes a change that fits, of rows that read.
 pub fn make_inside<S: Alter>(
     alloc: Global,
+    memo: &mut Memo,
     tx: &mut Transaction<'_, S>,
     change: &Change,
 ) -> Result<(), StoreFault>
@@ -169,8 +175,8 @@ pub fn make_inside<S: Alter>(
             site,
             counter,
             pages,
-        } => put_pages(alloc, tx, site, *counter, pages.as_slice()),
-        Change::DropPage { site, page } => take_out(alloc, tx, site, page),
+        } => put_pages(alloc, memo, tx, site, *counter, pages.as_slice()),
+        Change::DropPage { site, page } => take_out(alloc, memo, tx, site, page),
         Change::AddJudgement {
             site,
             page,
@@ -183,6 +189,7 @@ pub fn make_inside<S: Alter>(
 /// The same as one transaction, whose commit is the last call. After an error nothing is changed.
 pub fn make<S: Alter>(
     alloc: Global,
+    memo: &mut Memo,
     conn: &mut Connection<S>,
     change: &Change,
 ) -> Result<(), StoreFault>
@@ -194,7 +201,7 @@ pub fn make<S: Alter>(
 {
     let _idle = conn.is_autocommit();
     let mut tx = conn.transaction();
-    make_inside(alloc, &mut tx, change)?;
+    make_inside(alloc, memo, &mut tx, change)?;
     tx.commit()?;
     Ok(())
 }

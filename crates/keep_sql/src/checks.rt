@@ -17,7 +17,7 @@ use keep_core::Page;
 use snap_tree::{List, Text};
 use sqlite::{Alter, Transaction};
 use std::alloc::Global;
-use store_tables::StoreFault;
+use store_tables::{Memo, StoreFault};
 use store_texts::{heads, page_judgements, page_row, site_members, site_row};
 
 /// Whether there is a site of this name.
@@ -107,6 +107,7 @@ fn are_housed(page: &Option<Page>, judgements: &List<Judgement>, outcomes: &Outc
 /// The outcomes of a page. Its row, its judgements and its outcomes read; without the row there are none of its name.
 pub fn check_page<S: Alter>(
     alloc: Global,
+    memo: &mut Memo,
     tx: &mut Transaction<'_, S>,
     site: &Text,
     page: &Text,
@@ -117,7 +118,7 @@ pub fn check_page<S: Alter>(
     ensures kept { HasCleanDisk (state S.Store tx.new.conn.now) → StaysInside (state S.Store tx.old.conn.now) (state S.Store tx.new.conn.now) result }
     ensures survives { Survives (state S.Store tx.old.conn.now) (state S.Store tx.new.conn.now) (λ _. ⊥) }
 {
-    let found = reads::page_in(alloc, tx, site, page)?;
+    let found = reads::page_in(alloc, memo, tx, site, page)?;
     let judgements = reads::judgements_in(alloc, tx, site, page)?;
     let outcomes = reads::outcomes_in(alloc, tx, site, page)?;
     if !are_housed(&found, &judgements, &outcomes) {

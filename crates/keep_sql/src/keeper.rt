@@ -18,7 +18,7 @@ use snap_tree::{List, Text};
 use sqlite::{Alter, Connection};
 use std::alloc::Global;
 use std::marker::Model;
-use store_tables::StoreFault;
+use store_tables::{Memo, StoreFault, see_numbers};
 
 /// What a store is, once it was prepared.
 #[derive(Clone, Copy, Debug, PartialEq, Eq)]
@@ -39,6 +39,7 @@ pub struct SqlKeeper<S: Alter> {
     waiting: Option<Connection<S>>,
     shut: Option<S>,
     faults: u64,
+    memo: Memo,
 }
 
 impl<S: Alter> Model for SqlKeeper<S> {
@@ -85,6 +86,7 @@ impl<S: Alter> SqlKeeper<S> {
             waiting: Some(conn),
             shut: None,
             faults: 0,
+            memo: Memo::new(),
         }
     }
 }
@@ -147,6 +149,7 @@ impl<S: Alter + Drop> SqlKeeper<S> {
             waiting,
             shut,
             faults: _,
+            memo: _,
         } = self;
         if let Some(conn) = ready {
             return Some(conn.into_store());
@@ -207,7 +210,7 @@ impl<S: Alter> Keeper for SqlKeeper<S> {
         let Some(conn) = &mut self.ready else {
             return Err(refused(&mut self.faults));
         };
-        match read_page(alloc, conn, site, page) {
+        match read_page(alloc, &mut self.memo, conn, site, page) {
             Ok(found) => Ok(found),
             Err(fault) => Err(fault_of(fault, &mut self.faults)),
         }
@@ -276,7 +279,8 @@ impl<S: Alter> Keeper for SqlKeeper<S> {
         let Some(conn) = &mut self.ready else {
             return Err(refused(&mut self.faults));
         };
-        match changes::make(alloc, conn, &batch.change) {
+        see_numbers(&batch.change);
+        match changes::make(alloc, &mut self.memo, conn, &batch.change) {
             Ok(()) => Ok(()),
             Err(fault) => Err(fault_of(fault, &mut self.faults)),
         }

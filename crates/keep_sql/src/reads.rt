@@ -15,7 +15,7 @@ use keep_core::{Page, PageHead, Site};
 use snap_tree::{List, Text};
 use sqlite::{Alter, Transaction};
 use std::alloc::Global;
-use store_tables::StoreFault;
+use store_tables::{Memo, StoreFault};
 use store_texts::{heads, page_judgements, page_outcomes, page_row, site_members, site_row};
 
 /// The site of a name with its members; None where there is none.
@@ -39,6 +39,7 @@ pub fn site_in<S: Alter>(
 /// A page of a site; None where there is none.
 pub fn page_in<S: Alter>(
     alloc: Global,
+    memo: &mut Memo,
     tx: &mut Transaction<'_, S>,
     site: &Text,
     page: &Text,
@@ -51,7 +52,7 @@ pub fn page_in<S: Alter>(
     ensures survives { Survives (state S.Store tx.old.conn.now) (state S.Store tx.new.conn.now) (λ _. ⊥) }
 {
     let rows = page_row(tx, site.as_str(), page.as_str())?;
-    store_tables::page(alloc, page, rows.as_slice())
+    store_tables::page(alloc, memo, page, rows.as_slice())
 }
 
 /// The heads of a site's pages, in byte order of their names.

@@ -22,7 +22,7 @@ use rule_core::Auto;
 use snap_json::write_snapshot;
 use sqlite::{Alter, Transaction};
 use std::alloc::Global;
-use store_tables::StoreFault;
+use store_tables::{Memo, StoreFault};
 use store_texts::{
     JudgementRow, OutcomeRow, add_judgement, add_member, drop_members, drop_outcomes, put_outcome,
     put_page, put_site,
@@ -121,9 +121,10 @@ pub fn write_members<S: Alter>(
     add_members(tx, site, members)
 }
 
-/// Puts a page's row in place of the one of its name.
+/// Puts a page's row in place of the one of its name. Its snapshot is remembered.
 pub fn write_page<S: Alter>(
     alloc: Global,
+    memo: &mut Memo,
     tx: &mut Transaction<'_, S>,
     site: &str,
     page: &Page,
@@ -139,6 +140,7 @@ pub fn write_page<S: Alter>(
     let name = page.head.page.as_str();
     let hand = page.head.hand.as_str();
     put_page(tx, site, name, rev, hand, snapshot.as_slice())?;
+    memo.keep(snapshot, &page.tree);
     Ok(())
 }
 

@@ -21,7 +21,7 @@ use Rattle.store_tables.proofs.Counting.{pages_told}
 use Rattle.store_tables.proofs.Judging.{added_told}
 
 -- a site without a row isn't in the tables
-strange : (s : Stored) (t : Tables) → tables_in s ≡ Some t → (site : List ℕ) → is_site s site ≡ false → at site_name site t ≡ None
+pub strange : (s : Stored) (t : Tables) → tables_in s ≡ Some t → (site : List ℕ) → is_site s site ≡ false → at site_name site t ≡ None
 strange s t told site without = by (at (name_at 0) site (sites_in s)) refl (told_site s t told site).reads
   where
     by : (o : Option Row) → at (name_at 0) site (sites_in s) ≡ o → read_found (read_site (of_site site s)) o ≡ Some (at site_name site t) → at site_name site t ≡ None

@@ -32,13 +32,13 @@ use Rattle.store_tables.proofs.WithRows.{with_same, with_twice, with_alike}
 use Rattle.store_tables.proofs.Putting.{put_in, put_one_told}
 
 module _ (site : List ℕ) (counter : ℕ) where
-  abbrev cells : Row
+  abbrev pub cells : Row
   cells = Text site ∷ Int (pos counter) ∷ []
 
-  abbrev with_counter : KeptSite → KeptSite
+  abbrev pub with_counter : KeptSite → KeptSite
   with_counter s = record s { site = record s.site { counter = counter } }
 
-  counts_one : ChangesAt (name_at 0) site_name site (option_map with_counter) (with_row site_name site with_counter)
+  pub counts_one : ChangesAt (name_at 0) site_name site (option_map with_counter) (with_row site_name site with_counter)
   counts_one = record {
     in_order = λ ts up. in_order_with_row site_name site with_counter (λ _ _. refl) ts up;
     there = λ ts up. at_with_row site_name site with_counter (λ _ _. refl) ts;
@@ -95,7 +95,7 @@ module _ (site : List ℕ) (counter : ℕ) where
       → (ts : Tables) × (tables_in old ≡ Some ts) × (t ≡ with_row site_name site with_counter ts)
   counter_told old new puts kept whole t is = counted_told old new.sites puts.1 kept whole t (sym (ap tables_in puts.0) ∙ is)
 
-  still_kept : (old new : Stored) → PutsSite site (pos counter) old new → is_site new site ≡ true
+  pub still_kept : (old new : Stored) → PutsSite site (pos counter) old new → is_site new site ≡ true
   still_kept old new puts = ap (λ (rs : List Row). is_some (at (name_at 0) site rs)) puts.1.there ∙ ap is_some (at_put (name_at 0) cells (sites_in old))
 
 -- ---- pages that are put one after another
@@ -115,8 +115,16 @@ over_same put kept (p ∷ puts) =
     ap₂ (λ (k : KeptPage) (ks : List KeptPage). k ∷ ks) (ap (λ js. record { page = p.page; judgements = js; outcomes = p.outcomes }) (judged_same put kept p.page.head.page)) (over_same put kept puts)
 
 -- the site with pages that are put
-abbrev with_puts : List PagePut → KeptSite → KeptSite
+abbrev pub with_puts : List PagePut → KeptSite → KeptSite
 with_puts puts s = record s { pages = put_rows page_name (map (put_over s.pages) puts) s.pages }
+
+-- a page that is put, and others after it
+pub together : (site : List ℕ) (put : PagePut) (puts : List PagePut) (t : Tables) → with_row site_name site (with_puts puts) (with_row site_name site (λ s. record s { pages = put_in put s.pages }) t) ≡ with_row site_name site (with_puts (put ∷ puts)) t
+together site put puts t =
+    let with_one : KeptSite → KeptSite = λ s. record s { pages = put_in put s.pages } in
+    with_twice site_name site with_one (with_puts puts) (λ _. refl) t
+    ∙ with_alike site_name site (λ s. with_puts puts (with_one s)) (with_puts (put ∷ puts))
+    (λ s. ap (λ rows. record s { pages = put_rows page_name rows (put_in put s.pages) }) (over_same put s.pages puts)) t
 
 puts_told : (site : List ℕ) (puts : List PagePut) (old new : Stored) → PutsEach site puts old new → is_site old site ≡ true → (t : Tables) → tables_in new ≡ Some t
     → (ts : Tables) × (tables_in old ≡ Some ts) × (t ≡ with_row site_name site (with_puts puts) ts)
@@ -125,13 +133,10 @@ puts_told site (put ∷ puts) old new each kept t is =
     let one = each.2 in
     let still : is_site each.0 site ≡ true = ap (λ (s : Stored). is_site s site) one.same ∙ kept in
     let later = puts_told site puts each.0 new each.3 still t is in
-    let first = put_one_told site put old each.0 one kept each.1 later.0 later.1 in
-    let with_one : KeptSite → KeptSite = λ s. record s { pages = put_in put s.pages } in (
+    let first = put_one_told site put old each.0 one kept each.1 later.0 later.1 in (
       first.0,
       first.1,
-      later.2 ∙ ap (with_row site_name site (with_puts puts)) first.2 ∙ with_twice site_name site with_one (with_puts puts) (λ _. refl) first.0
-          ∙ with_alike site_name site (λ s. with_puts puts (with_one s)) (with_puts (put ∷ puts))
-          (λ s. ap (λ rows. record s { pages = put_rows page_name rows (put_in put s.pages) }) (over_same put s.pages puts)) first.0,
+      later.2 ∙ ap (with_row site_name site (with_puts puts)) first.2 ∙ together site put puts first.0,
     )
 
 -- where rows tell tables after pages were put, they told before what that changes to these

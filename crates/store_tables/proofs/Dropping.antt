@@ -29,10 +29,10 @@ use Rattle.store_tables.proofs.Telling.{Houses, TellsSite, tables_turned}
 use Rattle.store_tables.proofs.Elsewhere.{StaysElsewhere, stays_through, tells_elsewhere, pages_by, judgements_by, outcomes_by}
 
 module _ (site page : List ℕ) where
-  other_page : (p : List ℕ) → (p ≡ page → ⊥) → site ∷ p ∷ [] ≡ site ∷ page ∷ [] → ⊥
+  pub other_page : (p : List ℕ) → (p ≡ page → ⊥) → site ∷ p ∷ [] ≡ site ∷ page ∷ [] → ⊥
   other_page p other same = other cc
 
-  takes_one : ChangesAt (name_at 1) page_name page (λ _. None) (take_row page_name page)
+  pub takes_one : ChangesAt (name_at 1) page_name page (λ _. None) (take_row page_name page)
   takes_one = record {
     in_order = λ ts up. in_order_take page_name page ts up;
     there = λ ts up. at_take page_name page ts up;

@@ -52,24 +52,24 @@ as_many [] = refl
 as_many (r ∷ rs) = ap suc (as_many rs)
 
 module _ (site page : List ℕ) (judgement : Judgement) (outcomes : Outcomes) where
-  abbrev change : Option KeptPage → Option KeptPage
+  abbrev pub change : Option KeptPage → Option KeptPage
   change y = option_map (with_judgement judgement outcomes) y
 
-  abbrev judge_in : List KeptPage → List KeptPage
+  abbrev pub judge_in : List KeptPage → List KeptPage
   judge_in pages = with_row page_name page (with_judgement judgement outcomes) pages
 
-  judges_one : ChangesAt (name_at 1) page_name page change judge_in
+  pub judges_one : ChangesAt (name_at 1) page_name page change judge_in
   judges_one = record {
     in_order = λ ts up. in_order_with_row page_name page (with_judgement judgement outcomes) (λ _ _. refl) ts up;
     there = λ ts up. at_with_row page_name page (with_judgement judgement outcomes) (λ _ _. refl) ts;
     elsewhere = λ ts m other up. at_with_row_other page_name page (with_judgement judgement outcomes) (λ _ _. refl) m ts other;
   }
 
-  other_page : (p : List ℕ) → (p ≡ page → ⊥) → site ∷ p ∷ [] ≡ site ∷ page ∷ [] → ⊥
+  pub other_page : (p : List ℕ) → (p ≡ page → ⊥) → site ∷ p ∷ [] ≡ site ∷ page ∷ [] → ⊥
   other_page p other same = other cc
 
   module _ (old : Stored) where
-    abbrev cells : Row
+    abbrev pub cells : Row
     cells = judgement_cells site page (suc (length (judgements_at site page old))) judgement
 
     module _ (js os : List Row) (judged : Changes (site ∷ page ∷ []) (put_row (name_at 2) cells) old.judgements js)
@@ -94,7 +94,7 @@ module _ (site page : List ℕ) (judgement : Judgement) (outcomes : Outcomes) wh
         audited = λ r other had. stays (site ∷ page ∷ []) old.outcomes os audited r (not_led_by_page site page r other) had;
       }
 
-      judgements_there : judgements_at site page made ≡ judgements_at site page old ++ shown_judgement cells ∷ []
+      pub judgements_there : judgements_at site page made ≡ judgements_at site page old ++ shown_judgement cells ∷ []
       judgements_there =
           let read = some_of (judgements_shown (judgements_at site page old)) whole.judgements in
           let many = as_many (judgements_of site page old) in

@@ -17,5 +17,16 @@ pub mod Putting
 pub mod Judging
 pub mod Counting
 pub mod Applied
+pub mod Forth
+pub mod PagingForth
+pub mod Shows
+pub mod Undone
+pub mod PuttingForth
+pub mod CountingForth
+pub mod SitingForth
+pub mod DroppingForth
+pub mod JudgingForth
+pub mod Tells
 pub mod Stepping
 pub mod Rewritten
+pub mod Remembered

@@ -38,11 +38,55 @@ module _ (site page : List ℕ) where
     pub judged : (r : Row) → (name_at 1 r ≡ page → ⊥) → Has old.judgements r → Has new.judgements r
     pub audited : (r : Row) → (name_at 1 r ≡ page → ⊥) → Has old.outcomes r → Has new.outcomes r
 
+  module _ (s : Stored) where
+    pub told_page : Houses s site → (x : Option KeptPage) → read_found (read_page (of_site site s)) (at (name_at 1) page (pages_of site s)) ≡ Some x → TellsPage s x
+    told_page told x reads = record {
+      reads = reads;
+      judgements = λ r had mine its. ap (is_page s site) (sym its) ∙ told.judgements r had mine;
+      outcomes = λ r had mine its. ap (is_page s site) (sym its) ∙ told.outcomes r had mine;
+    }
+
+  -- what is told of every other page was told of it before
+  module _ (old new : Stored) (beside : StaysBeside old new) where
+    back : (r : Row) → (name_at 1 r ≡ page → ⊥) → (p : KeptPage) → read_page (of_site site new) r ≡ Some p → read_page (of_site site old) r ≡ Some p
+    back r other p is =
+        let parts = page_reads (of_site site new) r p is in
+        page_read (of_site site old) r p (record {
+          page = parts.page;
+          judgements = ap judgements_shown (sym (beside.judgements (name_at 1 r) other)) ∙ parts.judgements;
+          outcomes = ap outcomes_shown (sym (beside.outcomes (name_at 1 r) other)) ∙ parts.outcomes;
+        })
+
+    pub found_back : (m : List ℕ) → (m ≡ page → ⊥) → (x : Option KeptPage) → (o : Option Row) → IfSome o (λ r. name_at 1 r ≡ m) → read_found (read_page (of_site site new)) o ≡ Some x → read_found (read_page (of_site site old)) o ≡ Some x
+    found_back m other x None named reads = reads
+    found_back m other x (Some r) named reads =
+        let found = found_reads (read_page (of_site site new) r) x reads in
+        ap (option_map Some) (back r (λ e. other (sym named ∙ e)) found.0 found.1) ∙ sym (ap Some found.2)
+
+    page_stays : (p : List ℕ) → (p ≡ page → ⊥) → is_page new site p ≡ true → is_page old site p ≡ true
+    page_stays p other h = ap is_some (sym (beside.row p other)) ∙ h
+
+    pub houses_back : is_site old site ≡ true → Houses new site → (y : Option KeptPage) → TellsPage old y → Houses old site
+    houses_back kept told y was = record {
+      members = λ r had mine. kept;
+      pages = λ r had mine. kept;
+      judgements = λ r had mine. judged r had mine (same_or_not (name_at 1 r) page);
+      outcomes = λ r had mine. audited r had mine (same_or_not (name_at 1 r) page);
+    }
+      where
+        judged : (r : Row) → Has old.judgements r → name_at 0 r ≡ site → (name_at 1 r ≡ page) ⊎ (name_at 1 r ≡ page → ⊥) → is_page old site (name_at 1 r) ≡ true
+        judged r had mine (inl its) = ap (is_page old site) its ∙ was.judgements r had mine its
+        judged r had mine (inr other) = page_stays (name_at 1 r) other (told.judgements r (beside.judged r other had) mine)
+
+        audited : (r : Row) → Has old.outcomes r → name_at 0 r ≡ site → (name_at 1 r ≡ page) ⊎ (name_at 1 r ≡ page → ⊥) → is_page old site (name_at 1 r) ≡ true
+        audited r had mine (inl its) = ap (is_page old site) its ∙ was.outcomes r had mine its
+        audited r had mine (inr other) = page_stays (name_at 1 r) other (told.outcomes r (beside.audited r other had) mine)
+
   module _ (change : Option KeptPage → Option KeptPage) (changed : List KeptPage → List KeptPage) where
     abbrev pub with_changed : KeptSite → KeptSite
     with_changed s = record s { pages = changed s.pages }
 
-    changes_one : ChangesAt (name_at 0) site_name site (option_map with_changed) (with_row site_name site with_changed)
+    pub changes_one : ChangesAt (name_at 0) site_name site (option_map with_changed) (with_row site_name site with_changed)
     changes_one = record {
       in_order = λ ts up. in_order_with_row site_name site with_changed (λ _ _. refl) ts up;
       there = λ ts up. at_with_row site_name site with_changed (λ _ _. refl) ts;
@@ -57,56 +101,15 @@ module _ (site page : List ℕ) where
       abbrev after : OfSite
       after = of_site site new
 
-      back : (r : Row) → (name_at 1 r ≡ page → ⊥) → (p : KeptPage) → read_page after r ≡ Some p → read_page before r ≡ Some p
-      back r other p is =
-          let parts = page_reads after r p is in
-          page_read before r p (record {
-            page = parts.page;
-            judgements = ap judgements_shown (sym (beside.judgements (name_at 1 r) other)) ∙ parts.judgements;
-            outcomes = ap outcomes_shown (sym (beside.outcomes (name_at 1 r) other)) ∙ parts.outcomes;
-          })
-
-      found_back : (m : List ℕ) → (m ≡ page → ⊥) → (x : Option KeptPage) → (o : Option Row) → IfSome o (λ r. name_at 1 r ≡ m) → read_found (read_page after) o ≡ Some x → read_found (read_page before) o ≡ Some x
-      found_back m other x None named reads = reads
-      found_back m other x (Some r) named reads =
-          let found = found_reads (read_page after r) x reads in
-          ap (option_map Some) (back r (λ e. other (sym named ∙ e)) found.0 found.1) ∙ sym (ap Some found.2)
-
-      told_page : Houses new site → (x : Option KeptPage) → read_found (read_page after) (at (name_at 1) page after.pages) ≡ Some x → TellsPage new x
-      told_page told x reads = record {
-        reads = reads;
-        judgements = λ r had mine its. ap (is_page new site) (sym its) ∙ told.judgements r had mine;
-        outcomes = λ r had mine its. ap (is_page new site) (sym its) ∙ told.outcomes r had mine;
-      }
-
       pages_back : Houses new site → (ts : List KeptPage) → read_each (read_page after) after.pages ≡ Some ts → (ss : List KeptPage) × (read_each (read_page before) before.pages ≡ Some ss) × (ts ≡ changed ss)
       pages_back told ts is =
           turned (name_at 1) page_name page change changed (read_page before) (read_page after) before.pages after.pages (page_named before) (page_named after)
           changes (pages_in_order site old) (pages_in_order site new)
           (record {
-            there = λ x reads. let y = there x (told_page told x reads) in (y.0, y.1.reads, y.2);
-            elsewhere = λ m other x reads. found_back m other x (at (name_at 1) m before.pages) (at_named (name_at 1) m before.pages) (ap (read_found (read_page after)) (sym (beside.row m other)) ∙ reads);
+            there = λ x reads. let y = there x (told_page new told x reads) in (y.0, y.1.reads, y.2);
+            elsewhere = λ m other x reads. found_back old new beside m other x (at (name_at 1) m before.pages) (at_named (name_at 1) m before.pages) (ap (read_found (read_page after)) (sym (beside.row m other)) ∙ reads);
           })
           ts is
-
-      page_stays : (p : List ℕ) → (p ≡ page → ⊥) → is_page new site p ≡ true → is_page old site p ≡ true
-      page_stays p other h = ap is_some (sym (beside.row p other)) ∙ h
-
-      houses : Houses new site → (y : Option KeptPage) → TellsPage old y → Houses old site
-      houses told y was = record {
-        members = λ r had mine. kept;
-        pages = λ r had mine. kept;
-        judgements = λ r had mine. judged r had mine (same_or_not (name_at 1 r) page);
-        outcomes = λ r had mine. audited r had mine (same_or_not (name_at 1 r) page);
-      }
-        where
-          judged : (r : Row) → Has old.judgements r → name_at 0 r ≡ site → (name_at 1 r ≡ page) ⊎ (name_at 1 r ≡ page → ⊥) → is_page old site (name_at 1 r) ≡ true
-          judged r had mine (inl its) = ap (is_page old site) its ∙ was.judgements r had mine its
-          judged r had mine (inr other) = page_stays (name_at 1 r) other (told.judgements r (beside.judged r other had) mine)
-
-          audited : (r : Row) → Has old.outcomes r → name_at 0 r ≡ site → (name_at 1 r ≡ page) ⊎ (name_at 1 r ≡ page → ⊥) → is_page old site (name_at 1 r) ≡ true
-          audited r had mine (inl its) = ap (is_page old site) its ∙ was.outcomes r had mine its
-          audited r had mine (inr other) = page_stays (name_at 1 r) other (told.outcomes r (beside.audited r other had) mine)
 
       site_back : (x : Option KeptSite) → TellsSite new site x → (y : Option KeptSite) × TellsSite old site y × (x ≡ option_map with_changed y)
       site_back x told = by (at (name_at 0) site (sites_in old)) refl (ap (λ (rs : List Row). read_found (read_site after) (at (name_at 0) site rs)) (sym beside.sites) ∙ told.reads)
@@ -117,13 +120,13 @@ module _ (site page : List ℕ) where
               let found = found_reads (read_site after r) x reads in
               let parts = site_reads after r found.0 found.1 in
               let were = pages_back told.houses found.0.pages parts.pages in
-              let its = there (at page_name page found.0.pages) (told_page told.houses (at page_name page found.0.pages) (reads_at (read_page after) (name_at 1) page_name (page_named after) after.pages found.0.pages parts.pages page)) in
+              let its = there (at page_name page found.0.pages) (told_page new told.houses (at page_name page found.0.pages) (reads_at (read_page after) (name_at 1) page_name (page_named after) after.pages found.0.pages parts.pages page)) in
               let k : KeptSite = record { site = found.0.site; pages = were.0 } in (
                 Some k,
                 record {
                   reads = ap (read_found (read_site before)) is
                       ∙ ap (option_map Some) (site_read before r k (record { site = ap (site_from (name_at 0 r) (column r 1)) (sym beside.members) ∙ parts.site; pages = were.1 }));
-                  houses = houses told.houses its.0 its.1;
+                  houses = houses_back old new beside kept told.houses its.0 its.1;
                 },
                 found.2 ∙ ap (λ (l : List KeptPage). Some (record found.0 { pages = l })) were.2,
               )

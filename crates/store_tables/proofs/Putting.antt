@@ -35,20 +35,20 @@ abbrev pub put_in : PagePut → List KeptPage → List KeptPage
 put_in put pages = put_row page_name (put_over pages put) pages
 
 module _ (site : List ℕ) (put : PagePut) where
-  abbrev page : List ℕ
+  abbrev pub page : List ℕ
   page = put.page.head.page
 
-  abbrev change : Option KeptPage → Option KeptPage
+  abbrev pub change : Option KeptPage → Option KeptPage
   change y = Some (record { page = put.page; judgements = judgements_in y; outcomes = put.outcomes })
 
-  puts_one : ChangesAt (name_at 1) page_name page change (put_in put)
+  pub puts_one : ChangesAt (name_at 1) page_name page change (put_in put)
   puts_one = record {
     in_order = λ ts up. in_order_put page_name (put_over ts put) ts up;
     there = λ ts up. at_put page_name (put_over ts put) ts;
     elsewhere = λ ts m other up. at_put_other page_name m (put_over ts put) ts other;
   }
 
-  other_page : (p : List ℕ) → (p ≡ page → ⊥) → site ∷ p ∷ [] ≡ site ∷ page ∷ [] → ⊥
+  pub other_page : (p : List ℕ) → (p ≡ page → ⊥) → site ∷ p ∷ [] ≡ site ∷ page ∷ [] → ⊥
   other_page p other same = other cc
 
   module _ (old : Stored) (ps os : List Row) (bytes : List ℕ) (written : kept_tree bytes ≡ Ok put.page.tree) (pages : Changes (site ∷ []) (put_row (name_at 1) (page_cells site put.page bytes)) old.pages ps)

@@ -46,13 +46,13 @@ number_back most n m is = by (nat_le n most) is
     by true is = sym (some_same n m is)
     by false is = absurd (none_some m is)
 
-role_back : (role : MemberRole) → role_of (role_number role) ≡ Some role
+pub role_back : (role : MemberRole) → role_of (role_number role) ≡ Some role
 role_back Owner = refl
 role_back Editor = refl
 role_back Judge = refl
 role_back Reader = refl
 
-abbrev shown_member : Row → Row
+abbrev pub shown_member : Row → Row
 shown_member r = column r 1 ∷ column r 2 ∷ []
 
 member_back : (site : List ℕ) (m n : Member) → member_from (shown_member (member_cells site m)) ≡ Some n → n ≡ m
@@ -81,7 +81,7 @@ site_parts name counter members x is =
     (b.1 ∙ ap (λ (s : Site). Some s.counter) same, c.1 ∙ ap (λ (s : Site). Some s.members) same)
 
 -- a page reads by the judgements and outcomes of its site
-pages_by_these : (o : OfSite) (members : List Row) (rows : List Row) → read_each (read_page (record o { members = members })) rows ≡ read_each (read_page o) rows
+pub pages_by_these : (o : OfSite) (members : List Row) (rows : List Row) → read_each (read_page (record o { members = members })) rows ≡ read_each (read_page o) rows
 unfolding read_page
 pages_by_these o members rows = refl
 
@@ -90,10 +90,10 @@ map_none_from f [] none = refl
 map_none_from f (x ∷ xs) none = absurd cc
 
 module _ (site : Site) where
-  abbrev change : Option KeptSite → Option KeptSite
+  abbrev pub change : Option KeptSite → Option KeptSite
   change y = Some (record { site = site; pages = pages_in y })
 
-  changes_one : ChangesAt (name_at 0) site_name site.name change (put_site site)
+  pub changes_one : ChangesAt (name_at 0) site_name site.name change (put_site site)
   changes_one = record {
     in_order = λ ts up. in_order_put site_name (record { site = site; pages = keep.pages_of site.name ts }) ts up;
     there = λ ts up. at_put site_name (record { site = site; pages = keep.pages_of site.name ts }) ts;
@@ -113,10 +113,10 @@ module _ (site : Site) where
 
     -- ---- the site as it is read afterwards
 
-    row_there : at (name_at 0) site.name (sites_in made) ≡ Some (site_cells site)
+    pub row_there : at (name_at 0) site.name (sites_in made) ≡ Some (site_cells site)
     row_there = ap (at (name_at 0) site.name) sites.there ∙ at_put (name_at 0) (site_cells site) (sites_in old)
 
-    members_there : rows_of (site.name ∷ []) ms ≡ map (member_cells site.name) site.members
+    pub members_there : rows_of (site.name ∷ []) ms ≡ map (member_cells site.name) site.members
     members_there =
         members.there ∙ put_rows_map (λ (m : Member). m.user) (name_at 1) (member_cells site.name) (λ _. refl) site.members []
         ∙ ap (map (member_cells site.name)) (in_order_same (λ (m : Member). m.user) site.members fits.in_order)
@@ -131,7 +131,7 @@ module _ (site : Site) where
 
     -- ---- what was there
 
-    no_pages : is_site old site.name ≡ false → pages_of site.name old ≡ []
+    pub no_pages : is_site old site.name ≡ false → pages_of site.name old ≡ []
     no_pages strange = map_none_from (λ r. column r 1 ∷ column r 2 ∷ column r 3 ∷ []) (pages_of site.name old) (whole.pages strange)
 
     kept_or : (shown : Row → Row) (rows : List Row) → (is_site old site.name ≡ false → map shown (rows_of (site.name ∷ []) rows) ≡ []) → (r : Row) → Has rows r → name_at 0 r ≡ site.name → is_site old site.name ≡ true

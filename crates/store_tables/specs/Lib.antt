@@ -3,3 +3,4 @@ pub mod Cells
 pub mod Rows
 pub mod Told
 pub mod Batches
+pub mod Numbers

@@ -8,9 +8,9 @@ ghost use Rattle.web_address.specs.Address.{IsWebAddress};
 ghost use Rattle.store_tables.specs.Cells.{number_in, place_in, text_in, named, role_in, auto_in, reason_in, tree_in};
 
 use crate::fault::StoreFault;
+use crate::memo::Memo;
 use keep_core::{MemberRole, is_name};
 use rule_core::{Auto, Reason};
-use snap_json::{SnapFault, read_kept};
 use snap_tree::{Text, Tree};
 use sqlite::Row;
 use std::alloc::Global;
@@ -98,14 +98,10 @@ pub fn reason(row: &Row, at: usize) -> Result<Reason, StoreFault>
 }
 
 /// The tree of a snapshot.
-pub fn tree(alloc: Global, row: &Row, at: usize) -> Result<Tree, StoreFault>
+pub fn tree(alloc: Global, memo: &mut Memo, row: &Row, at: usize) -> Result<Tree, StoreFault>
     ensures reads { IfOk result (λ t. tree_in (column row.now at) ≡ Some t) }
     ensures web_address { IfOk result (λ t. IsWebAddress t.address) }
 {
     let bytes: Vec<u8> = row.get(at)?;
-    match read_kept(alloc, bytes.as_slice()) {
-        Ok(tree) => Ok(tree),
-        Err(SnapFault::OutOfMemory) => Err(StoreFault::OutOfMemory),
-        Err(_) => Err(StoreFault::Failed),
-    }
+    memo.read(alloc, bytes)
 }

@@ -5,6 +5,7 @@ ghost use Rattle.keep_core.specs.Changes.{changed};
 ghost use Rattle.keep_core.specs.Tables.{Tables, site_of, page_of, heads_of, judgements_of, outcomes_of};
 ghost use Rattle.store_texts.specs.Stored.{Stored, site_at, members_at, page_at, heads_at, judgements_at, outcomes_at};
 ghost use Rattle.store_tables.specs.Batches.{Applies};
+ghost use Rattle.store_tables.specs.Numbers.{IsNumbered};
 ghost use Rattle.store_tables.specs.Told.{tables_in, site_shown, page_shown, heads_shown, judgements_shown, outcomes_shown};
 
 /// Laws of reading. It does nothing: the clauses are what it is for.
@@ -27,8 +28,11 @@ pub fn laws_of_reading()
 /// Laws of changes. It does nothing: the clauses are what it is for.
 ///
 /// A change is made of stored rows that read, in place of those that it replaces or drops. Where the rows tell tables
-/// afterwards, they told tables before too, and the change of those is these.
+/// afterwards, they told tables before too, and the change of those is these. Where they told tables before, and the rules
+/// and nodes of the change have their numbers, the rows tell the change of those afterwards.
 pub fn laws_of_changes()
     ensures applied { (c : Change) (old new : Stored) → Applies c old new → Fits c
         → (t : Tables) → tables_in new ≡ Some t → (before : Tables) × (tables_in old ≡ Some before) × (t ≡ changed c before) }
+    ensures tells { (c : Change) (old new : Stored) → Applies c old new → Fits c → IsNumbered c
+        → (before : Tables) → tables_in old ≡ Some before → tables_in new ≡ Some (changed c before) }
 {}

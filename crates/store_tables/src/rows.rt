@@ -13,6 +13,7 @@ ghost use Rattle.store_tables.specs.Told.{site_shown, page_shown, heads_shown, j
 
 use crate::cells;
 use crate::fault::StoreFault;
+use crate::memo::Memo;
 use judge_core::{Judgement, OutRow, Outcomes};
 use keep_core::{MOST_REVISION, Member, Page, PageHead, Site, is_name};
 use rule_core::RuleNo;
@@ -103,9 +104,14 @@ pub fn heads(alloc: Global, rows: &[Row]) -> Result<List<PageHead>, StoreFault>
     Ok(List::from_vec(heads))
 }
 
-/// The page of a name, by what is shown of its row, if there is one.
+/// The page of a name, by what is shown of its row, if there is one. Its snapshot is remembered.
 #[tactic(auto, unfolding(crate::specs::Rows::page_from, crate::specs::Rows::head_from))]
-pub fn page(alloc: Global, name: &Text, rows: &[Row]) -> Result<Option<Page>, StoreFault>
+pub fn page(
+    alloc: Global,
+    memo: &mut Memo,
+    name: &Text,
+    rows: &[Row],
+) -> Result<Option<Page>, StoreFault>
     ensures reads { IfOk result (λ found. page_shown name.now rows.now ≡ Some found) }
     ensures fits { IfOk result (λ found. IfSome found FitsPage) }
 {
@@ -117,7 +123,7 @@ pub fn page(alloc: Global, name: &Text, rows: &[Row]) -> Result<Option<Page>, St
     }
     let rev = cells::number(row, 0, MOST_REVISION)?;
     let hand = cells::text(row, 1)?;
-    let tree = cells::tree(alloc, row, 2)?;
+    let tree = cells::tree(alloc, memo, row, 2)?;
     let page = name.copy(alloc)?;
     let head = PageHead { page, rev, hand };
     Ok(Some(Page { head, tree }))

@@ -1,8 +1,8 @@
-use Rattle.std.proofs.Common.{◌≡◌, Some, refl, sym, ap, subst, ◌∙◌}
+use Rattle.std.proofs.Common.{Some, refl, sym, ap, subst, ◌∙◌}
 use Rattle.sqlite.specs.Held.{state}
 use Rattle.keep_sql.specs.declared.keeper.Prepared.TheVariants.{Ready, OtherEdition}
 use Rattle.keep_sql.specs.Preparing.{Prepares}
-use Rattle.keep_sql.specs.Keeper.{Keeper, held, Across, IsToldOf, FoundEdition}
+use Rattle.keep_sql.specs.Keeper.{Keeper, held, IsToldOf, FoundEdition}
 use Rattle.keep_sql.proofs.PrepareLemmas.{told_prepared, found_one, found_other, left_prepared, leaves_ready, leaves_waiting, across_held, found_held}
 use Rattle.keep_sql.proofs.keeper.SqlKeeper.prepare.Goals as goal
 

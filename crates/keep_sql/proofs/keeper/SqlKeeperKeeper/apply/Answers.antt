@@ -27,9 +27,9 @@ returns-in-Ok-clause-settled g c = across_of g.S.Store IsSettled c.args.self.now
 pub returns-in-Ok-clause-leaves : goal.returns-in-Ok-clause-leaves
 returns-in-Ok-clause-leaves g c =
     leaves_of g.S.Store c.self.inside.ready c.args.self.now.ready c.in-Some.conn c.make.new.conn c.in-Some.is (ap (λ (k : Keeper g.row.S.Denot). k.ready) (sym c.self.view_is) ∙ c.in-Some.is)
-    c.make.ensures.crash.clean c.self.invariant.ready_is c.args.batch.now.change c.requires.fits c.make.ensures.crash
+    c.make.ensures.crash.clean c.self.invariant.ready_is c.args.batch.now.change c.requires.fits c.see_numbers.ensures c.make.ensures.crash
 
 pub returns-in-Err-clause-leaves : goal.returns-in-Err-clause-leaves
 returns-in-Err-clause-leaves g c =
     leaves_of g.S.Store c.self.inside.ready c.args.self.now.ready c.in-Some.conn c.make.new.conn c.in-Some.is (ap (λ (k : Keeper g.row.S.Denot). k.ready) (sym c.self.view_is) ∙ c.in-Some.is)
-    c.make.ensures.crash.clean c.self.invariant.ready_is c.args.batch.now.change c.requires.fits c.make.ensures.crash
+    c.make.ensures.crash.clean c.self.invariant.ready_is c.args.batch.now.change c.requires.fits c.see_numbers.ensures c.make.ensures.crash
