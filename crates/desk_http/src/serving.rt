@@ -49,10 +49,9 @@ pub fn serve<R: Threads + Sync, D: Door, K: Keeper, B: RuleBook + Send>(
 {
     let table = Table::new(alloc).ok();
     loop {
-        match door.next() {
-            Ok(Some(link)) => serve_next(rt, alloc, table.as_ref(), door, keeper, books, link),
-            Ok(None) => return Ok(()),
-            Err(fault) => return Err(fault),
+        match door.next()? {
+            Some(link) => serve_next(rt, alloc, table.as_ref(), door, keeper, books, link),
+            None => return Ok(()),
         }
     }
 }

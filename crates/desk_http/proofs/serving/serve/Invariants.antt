@@ -5,8 +5,8 @@ use Rattle.desk_http.specs.Doors.{ServesDoor}
 use Rattle.desk_http.proofs.Moments.{moment, desk_with}
 use Rattle.desk_http.proofs.serving.serve.Given as goal
 
-abbrev pub invariant-loop-link : goal.invariant-loop-link
-invariant-loop-link g l =
+abbrev pub invariant-loop-table : goal.invariant-loop-table
+invariant-loop-table g l =
     let door = g.D.Door in
     let link = g.D.Conn.Link in
     let keeper = g.K.Keeper in
@@ -23,5 +23,5 @@ invariant-loop-link g l =
       faults : (door.told l.door).faults ≡ (door.told l.initial.door).faults;
     }
 
-abbrev pub decreases-loop-link : goal.decreases-loop-link
-decreases-loop-link g l = (g.D.Door.told l.door).allowed
+abbrev pub decreases-loop-table : goal.decreases-loop-table
+decreases-loop-table g l = (g.D.Door.told l.door).allowed
