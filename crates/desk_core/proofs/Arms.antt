@@ -9,16 +9,17 @@ use Rattle.desk_core.specs.declared.decided.Decided.{Decided}
 use Rattle.desk_core.specs.declared.refusal.Refusal.{Refusal}
 use Rattle.desk_core.specs.Costs.{IsImport, Costs}
 use Rattle.desk_core.specs.Fitting.{FitsRequest}
+use Rattle.desk_core.specs.Told.{Told}
 use Rattle.desk_core.specs.Serving.{Decides}
 
 module _ {book : Book} {q arm : Command} (is : q ≡ arm) where
   pub fits_at : {caller : List ℕ} → FitsRequest book (record { caller = caller; command = q }) → FitsRequest book (record { caller = caller; command = arm })
   fits_at {caller} fits = let P : Command → Type 0 = λ c. FitsRequest book (record { caller = caller; command = c }) in subst P is fits
 
-  pub decides_at : {caller : List ℕ} {old new : Option Tables} {before now : ℕ} {result : Result Decided Refusal}
-      → Decides book (record { caller = caller; command = arm }) old new before now result → Decides book (record { caller = caller; command = q }) old new before now result
-  decides_at {caller} {old} {new} {before} {now} {result} decides =
-      let P : Command → Type 0 = λ c. Decides book (record { caller = caller; command = c }) old new before now result in subst P (sym is) decides
+  pub decides_at : {caller : List ℕ} {old new : Told} {result : Result Decided Refusal}
+      → Decides book (record { caller = caller; command = arm }) old new result → Decides book (record { caller = caller; command = q }) old new result
+  decides_at {caller} {old} {new} {result} decides =
+      let P : Command → Type 0 = λ c. Decides book (record { caller = caller; command = c }) old new result in subst P (sym is) decides
 
   pub costs_at : {old new : Option Tables} {from to : ℕ} → Costs book arm old new from to → Costs book q old new from to
   costs_at {old} {new} {from} {to} costs = let P : Command → Type 0 = λ c. Costs book c old new from to in subst P (sym is) costs

@@ -12,6 +12,7 @@ use Rattle.desk_core.specs.declared.decided.Decided.{Decided}
 use Rattle.desk_core.specs.declared.reply.Reply.{Reply}
 use Rattle.desk_core.specs.State.{state_of, site_at}
 use Rattle.desk_core.specs.Costs.{put_judgings, import_judgings, command_judgings, most_judgings, Costs}
+use Rattle.desk_core.specs.Told.{Told}
 use Rattle.desk_core.specs.Serving.{Commits}
 use Rattle.desk_core.specs.Soundness.{IsSound}
 use Rattle.desk_core.proofs.Served.{told_before}
@@ -49,10 +50,10 @@ costs_edit book site page rev edits old new from to stays counted most = record 
 }
 
 -- what is made of the tables later costs nothing
-pub costs_later : (book : Book) (q : Command) (d : Decided) (old mid new : Option Tables) (at now : ℕ) (reply : Reply) (from to : ℕ)
-    → Costs book q old mid from to → Commits d mid new at now reply → Costs book q old new from to
-costs_later book q d old mid new at now reply from to costs commits = record {
-  told = λ s t was is. let m = told_before d mid new at now reply commits t is in costs.told s m.0 was m.1;
-  most = λ s t was is. let m = told_before d mid new at now reply commits t is in costs.most s m.0 was m.1;
+pub costs_later : (book : Book) (q : Command) (d : Decided) (old : Option Tables) (mid new : Told) (reply : Reply) (from to : ℕ)
+    → Commits d mid new reply → Costs book q old mid.tables from to → Costs book q old new.tables from to
+costs_later book q d old mid new reply from to commits costs = record {
+  told = λ s t was is. let m = told_before d mid new reply commits t is in costs.told s m.0 was m.1;
+  most = λ s t was is. let m = told_before d mid new reply commits t is in costs.most s m.0 was m.1;
   untold = costs.untold;
 }

@@ -34,6 +34,7 @@ use Rattle.desk_core.specs.State.{PageState, SiteState, page_state, page_at}
 use Rattle.desk_core.specs.Pages.{revision_in, judged, rev_of, has_room_for, has_revisions, built, page_put, stored}
 use Rattle.desk_core.specs.Imports.{new_pages, first_stale, first_fault, puts, import}
 use Rattle.desk_core.specs.Costs.{import_judgings}
+use Rattle.desk_core.specs.Told.{Told}
 use Rattle.desk_core.specs.Placing.{placed, head_name, current_in, read_place, entries_of, new_among, current_of, is_stale, stale_of, stale_among, heads_from, work_of, put_of, puts_by, storing_all, import_placed, PlacesSome, Places}
 use Rattle.keep_core.specs.declared.site.Site.{Site}
 use Rattle.desk_core.specs.declared.refusal.Needed.TheVariants.{Editor}
@@ -72,10 +73,10 @@ places_read site t (e ∷ entries) =
     ap (λ w. w ∷ map (placed (map page_state (pages_of site t))) entries) (place_read site t e) ∙ ap (λ ws. read_place (heads_of site t) site t e ∷ ws) (places_read site t entries)
 
 -- one entry more is placed
-pub place_more : (site : List ℕ) (heads : List PageHead) (entries : List Entry) (e : Entry) (old mid new : Option Tables) (before at now : ℕ) (all more : List Placed) (w : Placed)
-    → PlacesSome site heads entries old mid before at all → Places site heads e mid new at now (Ok w) → more ≡ all ++ w ∷ []
-    → PlacesSome site heads (entries ++ e ∷ []) old new before now more
-place_more site heads entries e old mid new before at now all more w some one is = record {
+pub place_more : (site : List ℕ) (heads : List PageHead) (entries : List Entry) (e : Entry) (old mid new : Told) (all more : List Placed) (w : Placed)
+    → PlacesSome site heads entries old mid all → Places site heads e mid new (Ok w) → more ≡ all ++ w ∷ []
+    → PlacesSome site heads (entries ++ e ∷ []) old new more
+place_more site heads entries e old mid new all more w some one is = record {
   stays = λ t told. some.stays t (one.reads.stays t told);
   never_falls = omega (arith, some.never_falls, one.reads.never_falls);
   listed =

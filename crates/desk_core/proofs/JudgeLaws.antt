@@ -21,6 +21,7 @@ use Rattle.desk_core.specs.State.{PageState, page_state}
 use Rattle.desk_core.specs.Refusals.{Decision}
 use Rattle.desk_core.specs.Steps.{Request}
 use Rattle.desk_core.specs.Judging.{judged_row, judge, added, AddsTo}
+use Rattle.desk_core.specs.Told.{Told}
 use Rattle.desk_core.specs.Serving.{Stands, Agrees, Accepts, Judges, IsFirm, Decides, FindsKept, IsTrueTo}
 use Rattle.desk_core.proofs.Ways.{followed}
 use Rattle.desk_core.proofs.Onward.{untold, not_fault, agrees_with, only_read, read_as}
@@ -91,14 +92,14 @@ module _ (book : Book) (site caller page : List ℕ) (rule : RuleNo) (node : Nod
   no_fault_on kept result r same refused =
       err_no_fault result r (judged_row kept.outcomes.rows kept.page.head.hand caller rule node seen (λ _. Err r)) same (refused (λ _. Err r))
 
-  pub decides_judge : (old new : Option Tables) (before now : ℕ) (kept : KeptPage) (result : Result Decided Refusal)
+  pub decides_judge : (old new : Told) (kept : KeptPage) (result : Result Decided Refusal)
       → IsTrue (is_name site) → IsTrue (is_name page)
-      → FindsKept needed.Judge caller site page old new before now (Ok kept)
+      → FindsKept needed.Judge caller site page old new (Ok kept)
       → (IsTrueTo book kept → Agrees ⊥ result (judge book site caller page rule node verdict seen note (page_state kept)))
       → (IsErrOf result refusal.KeeperFault → ⊥) → IfOk result (λ d. IfSome d.change (AddsTo site page)) → Accepts result → Judges result
-      → Decides book (record { caller = caller; command = command.Judge site page rule node verdict seen note }) old new before now result
-  decides_judge old new before now kept result named page_named finds agrees no_fault adds accepted judges = record {
-    reads = only_read old new before now (let r : Result KeptPage Refusal = Ok kept in r) result (λ e. absurd (no_fault e)) finds.reads;
+      → Decides book (record { caller = caller; command = command.Judge site page rule node verdict seen note }) old new result
+  decides_judge old new kept result named page_named finds agrees no_fault adds accepted judges = record {
+    reads = only_read old new (let r : Result KeptPage Refusal = Ok kept in r) result (λ e. absurd (no_fault e)) finds.reads;
     agrees =
         λ t told sound.
         let f = finds.found t told in
@@ -106,15 +107,15 @@ module _ (book : Book) (site caller page : List ℕ) (rule : RuleNo) (node : Nod
         (followed needed.Judge caller site page t f.0 (Some (page_state kept)) (λ _ p. judge book site caller page rule node verdict seen note p) _ f.1 f.2 (λ k has same. refl))
         (agrees (found_is_true book t sound site page kept f.2 f.3));
     fits = all_fit site page named page_named result adds;
-    there = all_there site page new (λ t told. there_in (kept_page site page t) (page_state kept) (finds.found t told).2) result adds;
+    there = all_there site page new.tables (λ t told. there_in (kept_page site page t) (page_state kept) (finds.found t told).2) result adds;
     accepted = accepted;
-    firm = judged_firm book (record { caller = caller; command = command.Judge site page rule node verdict seen note }) new result judges;
+    firm = judged_firm book (record { caller = caller; command = command.Judge site page rule node verdict seen note }) new.tables result judges;
   }
 
-  pub decides_no_judge : (old new : Option Tables) (before now : ℕ) (r : Refusal) → FindsKept needed.Judge caller site page old new before now (Err r)
-      → Decides book (record { caller = caller; command = command.Judge site page rule node verdict seen note }) old new before now (Err r)
-  decides_no_judge old new before now r finds = record {
-    reads = read_as old new before now r finds.reads;
+  pub decides_no_judge : (old new : Told) (r : Refusal) → FindsKept needed.Judge caller site page old new (Err r)
+      → Decides book (record { caller = caller; command = command.Judge site page rule node verdict seen note }) old new (Err r)
+  decides_no_judge old new r finds = record {
+    reads = read_as old new r finds.reads;
     agrees = λ t told sound. finds.refused t told (λ _ p. judge book site caller page rule node verdict seen note p);
     fits = tt;
     there = tt;

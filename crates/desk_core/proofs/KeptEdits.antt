@@ -26,6 +26,7 @@ use Rattle.desk_core.specs.Pages.{storing, edit_page}
 use Rattle.desk_core.specs.Refusals.{Decision}
 use Rattle.desk_core.specs.State.{page_state, state_of}
 use Rattle.desk_core.specs.Steps.{Request}
+use Rattle.desk_core.specs.Told.{Told}
 use Rattle.desk_core.specs.Serving.{Stands, Agrees, Edits, PutsInto, IsStored, IsAccepted, Accepts, IsFirm, Decides, Finds, FindsWhole, IsTrueTo}
 use Rattle.desk_core.proofs.Fitted.{one_fits}
 use Rattle.desk_core.proofs.Onward.{untold, agrees_with, only_read, read_as, found_next, decides_not_found}
@@ -103,12 +104,12 @@ module _ (book : Book) (site caller page : List ℕ) (rev : ℕ) (edits : List E
   all_firm new (Ok d) e = inr (inl (inr e.1))
   all_firm new (Err r) e = tt
 
-  pub decides_edit : (old new : Option Tables) (before now : ℕ) (s : Site) (kept : KeptPage) (result : Result Decided Refusal)
-      → FindsWhole needed.Editor caller site page old new before now (Ok (s, kept))
+  pub decides_edit : (old new : Told) (s : Site) (kept : KeptPage) (result : Result Decided Refusal)
+      → FindsWhole needed.Editor caller site page old new (Ok (s, kept))
       → (IsTrueTo book kept → Agrees ⊥ result (edit_page book site caller page rev edits s (page_state kept))) → Edits site page result
-      → Decides book editing old new before now result
-  decides_edit old new before now s kept result finds agrees e = record {
-    reads = only_read old new before now (let r : Result (Site × KeptPage) Refusal = Ok (s, kept) in r) result (λ is. absurd (no_fault_of site page result e is)) finds.reads;
+      → Decides book editing old new result
+  decides_edit old new s kept result finds agrees e = record {
+    reads = only_read old new (let r : Result (Site × KeptPage) Refusal = Ok (s, kept) in r) result (λ is. absurd (no_fault_of site page result e is)) finds.reads;
     agrees =
         λ t told sound.
         let f = finds.found t told in
@@ -116,13 +117,13 @@ module _ (book : Book) (site caller page : List ℕ) (rev : ℕ) (edits : List E
         (found_next book editing needed.Editor site page (λ s p. edit_page book site caller page rev edits s p) (λ t. refl) t s (page_state kept) f.0 f.1)
         (agrees (found_is_true book t sound site page kept f.1 f.2));
     fits = all_fit site page result e;
-    there = all_there site page new (λ t told. there_in (kept_site site t) s (finds.found t told).0.kept) result e;
+    there = all_there site page new.tables (λ t told. there_in (kept_site site t) s (finds.found t told).0.kept) result e;
     accepted = all_accepted site page result e;
-    firm = all_firm new result e;
+    firm = all_firm new.tables result e;
   }
 
-  pub decides_no_edit : (old new : Option Tables) (before now : ℕ) (r : Refusal) → FindsWhole needed.Editor caller site page old new before now (Err r)
-      → Decides book editing old new before now (Err r)
-  decides_no_edit old new before now r finds =
-      decides_not_found book editing needed.Editor site page (λ s p. edit_page book site caller page rev edits s p) (λ t. refl) old new before now r
-      (record { reads = read_as old new before now r finds.reads; fits = tt; found = tt; refused = finds.refused })
+  pub decides_no_edit : (old new : Told) (r : Refusal) → FindsWhole needed.Editor caller site page old new (Err r)
+      → Decides book editing old new (Err r)
+  decides_no_edit old new r finds =
+      decides_not_found book editing needed.Editor site page (λ s p. edit_page book site caller page rev edits s p) (λ t. refl) old new r
+      (record { reads = read_as old new r finds.reads; fits = tt; found = tt; refused = finds.refused })

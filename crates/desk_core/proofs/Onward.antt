@@ -20,6 +20,7 @@ use Rattle.desk_core.specs.Pages.{revision_in, judged}
 use Rattle.desk_core.specs.State.{PageState, page_state, site_state, state_of, site_at, page_at}
 use Rattle.desk_core.specs.Rights.{entering, on_page}
 use Rattle.desk_core.specs.Steps.{Request, decided}
+use Rattle.desk_core.specs.Told.{Told}
 use Rattle.desk_core.specs.Serving.{Stands, Agrees, Accepts, IsFirm, Admits, OnlyReads, IsIn, Enters, Finds, FindsPage, ReadsPage, Decides, page_in}
 use Rattle.desk_core.proofs.Deciding.{Brings, brought}
 use Rattle.desk_core.proofs.Fitted.{IfAnyFits}
@@ -28,18 +29,18 @@ use Rattle.desk_core.proofs.Kept.{IfAnyIsThere, decided_is_there}
 use Rattle.desk_core.proofs.Ways.{not_allowed, entered, followed, page_is, pages_are}
 
 -- what is read after other reading is read after what came before
-pub thence : {A B : Type 0} (old mid new : Option Tables) (from at to : ℕ) (r : Result A Refusal) (s : Result B Refusal)
-    → OnlyReads old mid from at r → OnlyReads mid new at to s → OnlyReads old new from to s
-thence old mid new from at to r s earlier later = record {
+pub thence : {A B : Type 0} (old mid new : Told) (r : Result A Refusal) (s : Result B Refusal)
+    → OnlyReads old mid r → OnlyReads mid new s → OnlyReads old new s
+thence old mid new r s earlier later = record {
   stays = λ t told. earlier.stays t (later.stays t told);
   never_falls = omega (arith, earlier.never_falls, later.never_falls);
-  failed = λ e. rose_after from at to earlier.never_falls (later.failed e);
+  failed = λ e. rose_after old.faults mid.faults new.faults earlier.never_falls (later.failed e);
 }
 
 -- reading whose answer isn't the keeper's fault
-pub only_read : {A B : Type 0} (old new : Option Tables) (from to : ℕ) (r : Result A Refusal) (s : Result B Refusal)
-    → (IsErrOf s refusal.KeeperFault → IsErrOf r refusal.KeeperFault) → OnlyReads old new from to r → OnlyReads old new from to s
-only_read old new from to r s unless reads = record { stays = reads.stays; never_falls = reads.never_falls; failed = λ e. reads.failed (unless e) }
+pub only_read : {A B : Type 0} (old new : Told) (r : Result A Refusal) (s : Result B Refusal)
+    → (IsErrOf s refusal.KeeperFault → IsErrOf r refusal.KeeperFault) → OnlyReads old new r → OnlyReads old new s
+only_read old new r s unless reads = record { stays = reads.stays; never_falls = reads.never_falls; failed = λ e. reads.failed (unless e) }
 
 -- a refusal that stands where no keeper is asked stands anywhere, and it isn't the keeper's fault
 pub stands_anywhere : (r : Refusal) (decision : Decision) → Stands ⊥ r decision → Stands (Unit {0}) r decision
@@ -102,34 +103,34 @@ firm_by book request new (Ok d) decision agrees is = inr (inr (λ t told. is t t
 firm_by book request new (Err r) decision agrees is = tt
 
 -- a request whose answer is what is decided, whatever else is kept
-pub decides_by : {A : Type 0} (book : Book) (request : Request) (old new : Option Tables) (before now : ℕ) (r : Result A Refusal) (result : Result Decided Refusal) (decision : Decision)
-    → OnlyReads old new before now r → Agrees ⊥ result decision → Brings IfAnyFits decision → Accepts decision
-    → ((t : Tables) → new ≡ Some t → decided book request (state_of t) ≡ decision)
-    → Decides book request old new before now result
-decides_by book request old new before now r result decision reads agrees brings accepts is = record {
-  reads = only_read old new before now r result (λ e. absurd (not_fault result decision agrees e)) reads;
+pub decides_by : {A : Type 0} (book : Book) (request : Request) (old new : Told) (r : Result A Refusal) (result : Result Decided Refusal) (decision : Decision)
+    → OnlyReads old new r → Agrees ⊥ result decision → Brings IfAnyFits decision → Accepts decision
+    → ((t : Tables) → new.tables ≡ Some t → decided book request (state_of t) ≡ decision)
+    → Decides book request old new result
+decides_by book request old new r result decision reads agrees brings accepts is = record {
+  reads = only_read old new r result (λ e. absurd (not_fault result decision agrees e)) reads;
   agrees = λ t told sound. agrees_with result decision (decided book request (state_of t)) (is t told) agrees;
   fits = fits_by result decision agrees brings;
-  there = there_by book request new result (λ t told. agrees_as result decision (decided book request (state_of t)) (is t told) agrees);
+  there = there_by book request new.tables result (λ t told. agrees_as result decision (decided book request (state_of t)) (is t told) agrees);
   accepted = accepted_by result decision agrees accepts;
-  firm = firm_by book request new result decision agrees is;
+  firm = firm_by book request new.tables result decision agrees is;
 }
 
 -- a refusal of one reading is a refusal of any
-pub read_as : {A B : Type 0} (old new : Option Tables) (before now : ℕ) (r : Refusal) → OnlyReads {A = A} old new before now (Err r) → OnlyReads {A = B} old new before now (Err r)
-read_as {A} {B} old new before now r reads = only_read old new before now (let e : Result A Refusal = Err r in e) (let e : Result B Refusal = Err r in e) (λ e. cc) reads
+pub read_as : {A B : Type 0} (old new : Told) (r : Refusal) → OnlyReads {A = A} old new (Err r) → OnlyReads {A = B} old new (Err r)
+read_as {A} {B} old new r reads = only_read old new (let e : Result A Refusal = Err r in e) (let e : Result B Refusal = Err r in e) (λ e. cc) reads
 
 -- the row of a site that the caller may enter, and the refusal of one that the caller mayn't
-pub admitted : (leave : Needed) (caller name : List ℕ) (site : Site) (old new : Option Tables) (before now : ℕ) (result : Result Site Refusal)
-    → ((t : Tables) → new ≡ Some t → old ≡ Some t) → before ≤ now → FitsSite site → ((t : Tables) → new ≡ Some t → site_of name t ≡ Some site) → Admits leave caller site result
-    → Enters leave caller name old new before now result
-admitted leave caller name site old new before now (Ok given) stays never_falls fits kept admits = record {
+pub admitted : (leave : Needed) (caller name : List ℕ) (site : Site) (old new : Told) (result : Result Site Refusal)
+    → ((t : Tables) → new.tables ≡ Some t → old.tables ≡ Some t) → old.faults ≤ new.faults → FitsSite site → ((t : Tables) → new.tables ≡ Some t → site_of name t ≡ Some site) → Admits leave caller site result
+    → Enters leave caller name old new result
+admitted leave caller name site old new (Ok given) stays never_falls fits kept admits = record {
   reads = record { stays = stays; never_falls = never_falls; failed = λ e. cc };
   fits = subst FitsSite admits.0 fits;
   found = λ t told. record { kept = kept t told ∙ ap Some admits.0; may_do = admits.1 };
   refused = tt;
 }
-admitted leave caller name site old new before now (Err r) stays never_falls fits kept admits = record {
+admitted leave caller name site old new (Err r) stays never_falls fits kept admits = record {
   reads = record { stays = stays; never_falls = never_falls; failed = λ e. let is : r ≡ refusal.NotAllowed leave = admits.0 in cc };
   fits = tt;
   found = tt;
@@ -147,18 +148,18 @@ module _ (book : Book) (request : Request) (leave : Needed) (site page : List �
       is t ∙ followed leave request.caller site page t found (Some p) (λ s. next s.site) (next found p) entered there (λ k kept same. ap (λ (s : Site). next s p) same)
 
   -- a request about a page that was found is decided
-  pub decides_found : (old new : Option Tables) (before now : ℕ) (found : Site) (p : PageState) (result : Result Decided Refusal)
-      → Finds leave request.caller site page old new before now (Ok (found, p)) → Agrees ⊥ result (next found p) → Brings IfAnyFits (next found p) → Accepts (next found p)
-      → Decides book request old new before now result
-  decides_found old new before now found p result finds agrees brings accepts =
-      decides_by book request old new before now (let r : Result (Site × PageState) Refusal = Ok (found, p) in r) result (next found p) finds.reads agrees brings accepts
+  pub decides_found : (old new : Told) (found : Site) (p : PageState) (result : Result Decided Refusal)
+      → Finds leave request.caller site page old new (Ok (found, p)) → Agrees ⊥ result (next found p) → Brings IfAnyFits (next found p) → Accepts (next found p)
+      → Decides book request old new result
+  decides_found old new found p result finds agrees brings accepts =
+      decides_by book request old new (let r : Result (Site × PageState) Refusal = Ok (found, p) in r) result (next found p) finds.reads agrees brings accepts
       (λ t told. found_next t found p (finds.found t told).0 (finds.found t told).1)
 
   -- and one about a page that wasn't is refused
-  pub decides_not_found : (old new : Option Tables) (before now : ℕ) (r : Refusal) → Finds leave request.caller site page old new before now (Err r)
-      → Decides book request old new before now (Err r)
-  decides_not_found old new before now r finds = record {
-    reads = read_as old new before now r finds.reads;
+  pub decides_not_found : (old new : Told) (r : Refusal) → Finds leave request.caller site page old new (Err r)
+      → Decides book request old new (Err r)
+  decides_not_found old new r finds = record {
+    reads = read_as old new r finds.reads;
     agrees = λ t told sound. subst (Stands (Unit {0}) r) (sym (is t)) (finds.refused t told (λ s. next s.site));
     fits = tt;
     there = tt;
@@ -169,20 +170,20 @@ module _ (book : Book) (request : Request) (leave : Needed) (site page : List �
 module _ (book : Book) (request : Request) (leave : Needed) (site page : List ℕ) (next : Page → Decision)
     (is : (t : Tables) → decided book request (state_of t) ≡ entering leave request.caller (site_at site (state_of t)) (λ s. on_page page s (λ p. next p.page))) where
   -- a request about a page alone that was found is decided
-  pub decides_page : (old new : Option Tables) (before now : ℕ) (found : Page) (result : Result Decided Refusal)
-      → FindsPage leave request.caller site page old new before now (Ok found) → Agrees ⊥ result (next found) → Brings IfAnyFits (next found) → Accepts (next found)
-      → Decides book request old new before now result
-  decides_page old new before now found result finds agrees brings accepts =
-      decides_by book request old new before now (let r : Result Page Refusal = Ok found in r) result (next found) finds.reads agrees brings accepts
+  pub decides_page : (old new : Told) (found : Page) (result : Result Decided Refusal)
+      → FindsPage leave request.caller site page old new (Ok found) → Agrees ⊥ result (next found) → Brings IfAnyFits (next found) → Accepts (next found)
+      → Decides book request old new result
+  decides_page old new found result finds agrees brings accepts =
+      decides_by book request old new (let r : Result Page Refusal = Ok found in r) result (next found) finds.reads agrees brings accepts
       (λ t told.
       let f = finds.found t told in
       is t ∙ followed leave request.caller site page t f.0 (Some (record { page = found; judgements = f.1 })) (λ s p. next p.page) (next found) f.2 f.3 (λ k kept same. refl))
 
   -- and one about a page that wasn't is refused
-  pub decides_no_page : (old new : Option Tables) (before now : ℕ) (r : Refusal) → FindsPage leave request.caller site page old new before now (Err r)
-      → Decides book request old new before now (Err r)
-  decides_no_page old new before now r finds = record {
-    reads = read_as old new before now r finds.reads;
+  pub decides_no_page : (old new : Told) (r : Refusal) → FindsPage leave request.caller site page old new (Err r)
+      → Decides book request old new (Err r)
+  decides_no_page old new r finds = record {
+    reads = read_as old new r finds.reads;
     agrees = λ t told sound. subst (Stands (Unit {0}) r) (sym (is t)) (finds.refused t told (λ s p. next p.page));
     fits = tt;
     there = tt;
@@ -212,13 +213,13 @@ pub refused_so : {A : Type 0} (P : Result A Refusal → Type 0) (result : Result
 refused_so P (Ok x) r same holds = absurd same
 refused_so P (Err s) r same holds = subst (λ (e : Refusal). P (Err e)) (sym same) holds
 
-pub decides_so : {book : Book} {request : Request} {old new : Option Tables} {from to : ℕ} {result : Result Decided Refusal} (r : Refusal)
-    → IsErrAnd result (λ s. s ≡ r) → Decides book request old new from to (Err r) → Decides book request old new from to result
-decides_so {book} {request} {old} {new} {from} {to} {result} r same holds = refused_so (λ answer. Decides book request old new from to answer) result r same holds
+pub decides_so : {book : Book} {request : Request} {old new : Told} {result : Result Decided Refusal} (r : Refusal)
+    → IsErrAnd result (λ s. s ≡ r) → Decides book request old new (Err r) → Decides book request old new result
+decides_so {book} {request} {old} {new} {result} r same holds = refused_so (λ answer. Decides book request old new answer) result r same holds
 
 pub agrees_so : (fault : Type 0) (result : Result Decided Refusal) (decision : Decision) (r : Refusal) → IsErrAnd result (λ s. s ≡ r) → Agrees fault (Err r) decision → Agrees fault result decision
 agrees_so fault result decision r same holds = refused_so (λ answer. Agrees fault answer decision) result r same holds
 
-pub reads_so : {book : Book} {caller site page : List ℕ} {old new : Option Tables} {from to : ℕ} {result : Result SitePage Refusal} (r : Refusal)
-    → IsErrAnd result (λ s. s ≡ r) → ReadsPage book caller site page old new from to (Err r) → ReadsPage book caller site page old new from to result
-reads_so {book} {caller} {site} {page} {old} {new} {from} {to} {result} r same holds = refused_so (λ answer. ReadsPage book caller site page old new from to answer) result r same holds
+pub reads_so : {book : Book} {caller site page : List ℕ} {old new : Told} {result : Result SitePage Refusal} (r : Refusal)
+    → IsErrAnd result (λ s. s ≡ r) → ReadsPage book caller site page old new (Err r) → ReadsPage book caller site page old new result
+reads_so {book} {caller} {site} {page} {old} {new} {result} r same holds = refused_so (λ answer. ReadsPage book caller site page old new answer) result r same holds

@@ -22,6 +22,7 @@ use Rattle.desk_core.specs.declared.reads.Showing.TheVariants as showing
 use Rattle.desk_core.specs.Reading.{answered, site_page, asked_as, shown_as}
 use Rattle.desk_core.specs.Steps.{Request, read_page, decided}
 use Rattle.desk_core.specs.Soundness.{IsSound, IsSoundSite, IsSoundPage}
+use Rattle.desk_core.specs.Told.{Told}
 use Rattle.desk_core.specs.Serving.{Stands, IsAccepted, IsIn, IsTrueTo, ReadsPage, Decides, page_in}
 use Rattle.desk_core.proofs.Ways.{followed}
 use Rattle.desk_core.proofs.Onward.{only_read, read_as}
@@ -79,21 +80,21 @@ module _ (book : Book) (caller site page : List ℕ) (way : Showing) where
   abbrev request : Request
   request = record { caller = caller; command = asked_as way site page }
 
-  pub decides_read : (old new : Option Tables) (before now : ℕ) (shown : SitePage) (d : Decided) → d ≡ record { change = None; reply = shown_as way shown }
-      → ReadsPage book caller site page old new before now (Ok shown) → Decides book request old new before now (Ok d)
-  decides_read old new before now shown d same reads = record {
-    reads = only_read old new before now (let r : Result SitePage Refusal = Ok shown in r) (let r : Result Decided Refusal = Ok d in r) (λ e. cc) reads.reads;
+  pub decides_read : (old new : Told) (shown : SitePage) (d : Decided) → d ≡ record { change = None; reply = shown_as way shown }
+      → ReadsPage book caller site page old new (Ok shown) → Decides book request old new (Ok d)
+  decides_read old new shown d same reads = record {
+    reads = only_read old new (let r : Result SitePage Refusal = Ok shown in r) (let r : Result Decided Refusal = Ok d in r) (λ e. cc) reads.reads;
     agrees = λ t told sound. asked book caller site page way t ∙ (reads.shows t told sound (shown_as way) ∙ ap Ok (sym same));
     fits = let P : Decided → Type 0 = λ e. IfSome e.change Fits in subst P (sym same) tt;
-    there = let P : Decided → Type 0 = λ e. IfSome e.change (λ change. IfSome new (IsThere change)) in subst P (sym same) tt;
+    there = let P : Decided → Type 0 = λ e. IfSome e.change (λ change. IfSome new.tables (IsThere change)) in subst P (sym same) tt;
     accepted = let P : Decided → Type 0 = λ e. IsAccepted e.reply in subst P (sym same) (shown_accepted way shown);
     firm = inl (ap (λ (e : Decided). e.change) same);
   }
 
-  pub decides_not_read : (old new : Option Tables) (before now : ℕ) (r : Refusal) → ReadsPage book caller site page old new before now (Err r)
-      → Decides book request old new before now (Err r)
-  decides_not_read old new before now r reads = record {
-    reads = read_as old new before now r reads.reads;
+  pub decides_not_read : (old new : Told) (r : Refusal) → ReadsPage book caller site page old new (Err r)
+      → Decides book request old new (Err r)
+  decides_not_read old new r reads = record {
+    reads = read_as old new r reads.reads;
     agrees = λ t told sound. subst (Stands (Unit {0}) r) (sym (asked book caller site page way t)) (reads.shows t told sound (shown_as way));
     fits = tt;
     there = tt;

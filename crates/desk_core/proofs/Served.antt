@@ -17,6 +17,7 @@ use Rattle.desk_core.specs.Steps.{Request, site_of, decided, stepped}
 use Rattle.desk_core.specs.Fitting.{FitsRequest}
 use Rattle.desk_core.specs.Soundness.{IsSound, made}
 use Rattle.desk_core.specs.Runs.{Fails, Answers}
+use Rattle.desk_core.specs.Told.{Told}
 use Rattle.desk_core.specs.Serving.{Stands, IsAccepted, RestsOnKept, IsFirm, IsDone, Decides, Commits, TurnsBy, OthersStay, Serves}
 use Rattle.desk_core.proofs.Views.{changes_seen}
 use Rattle.desk_core.proofs.Keeping.{keeps_sound}
@@ -28,16 +29,16 @@ turned None mid new turns t is = (t, turns t is, refl)
 turned (Some change) mid new turns t is = turns t is
 
 -- how a decided request ended: with its reply, or by failing
-abbrev Ends : Decided → Option Tables → Option Tables → ℕ → ℕ → Reply → Type 0
-Ends d mid new at now reply = ((reply ≡ d.reply) × TurnsBy d.change mid new) ⊎ (Fails reply at now × Stays mid new)
+abbrev Ends : Decided → Told → Told → Reply → Type 0
+Ends d mid new reply = ((reply ≡ d.reply) × TurnsBy d.change mid.tables new.tables) ⊎ (Fails reply mid.faults new.faults × Stays mid.tables new.tables)
 
-told_by : (d : Decided) (mid new : Option Tables) (at now : ℕ) (reply : Reply) → Ends d mid new at now reply → (t : Tables) → new ≡ Some t → (s : Tables) × (mid ≡ Some s)
-told_by d mid new at now reply (inl is) t told = let from = turned d.change mid new is.1 t told in (from.0, from.1)
-told_by d mid new at now reply (inr is) t told = (t, is.1 t told)
+told_by : (d : Decided) (mid new : Told) (reply : Reply) → Ends d mid new reply → (t : Tables) → new.tables ≡ Some t → (s : Tables) × (mid.tables ≡ Some s)
+told_by d mid new reply (inl is) t told = let from = turned d.change mid.tables new.tables is.1 t told in (from.0, from.1)
+told_by d mid new reply (inr is) t told = (t, is.1 t told)
 
 -- what is told at the end was told when the request was decided
-pub told_before : (d : Decided) (mid new : Option Tables) (at now : ℕ) (reply : Reply) → Commits d mid new at now reply → (t : Tables) → new ≡ Some t → (s : Tables) × (mid ≡ Some s)
-told_before d mid new at now reply commits = told_by d mid new at now reply commits.made
+pub told_before : (d : Decided) (mid new : Told) (reply : Reply) → Commits d mid new reply → (t : Tables) → new.tables ≡ Some t → (s : Tables) × (mid.tables ≡ Some s)
+told_before d mid new reply commits = told_by d mid new reply commits.made
 
 -- ---- faults
 
@@ -48,14 +49,16 @@ fault_rose : (at now : ℕ) (reply : Reply) → Fails reply at now → reply ≡
 fault_rose at now reply (inl is) fault = is.1
 fault_rose at now reply (inr is) fault = let no : Refused refusal.OutOfMemory ≡ Refused refusal.KeeperFault = sym is ∙ fault in cc
 
-failed_by : (before at now : ℕ) (d : Decided) (mid new : Option Tables) (reply : Reply) → before ≤ at → IsAccepted d.reply → Ends d mid new at now reply → reply ≡ Refused refusal.KeeperFault → Rose before now
-failed_by before at now d mid new reply le accepted (inl is) fault = absurd (not_accepted refusal.KeeperFault d.reply accepted (sym is.0 ∙ fault))
-failed_by before at now d mid new reply le accepted (inr is) fault = rose_after before at now le (fault_rose at now reply is.0 fault)
+failed_by : (before : ℕ) (d : Decided) (mid new : Told) (reply : Reply) → before ≤ mid.faults → IsAccepted d.reply → Ends d mid new reply → reply ≡ Refused refusal.KeeperFault
+    → Rose before new.faults
+failed_by before d mid new reply le accepted (inl is) fault = absurd (not_accepted refusal.KeeperFault d.reply accepted (sym is.0 ∙ fault))
+failed_by before d mid new reply le accepted (inr is) fault = rose_after before mid.faults new.faults le (fault_rose mid.faults new.faults reply is.0 fault)
 
 -- a reply that refuses is none that was made with a change, so the tables are as they were
-stays_by : (old mid new : Option Tables) (at now : ℕ) (d : Decided) (reply : Reply) (r : Refusal) → reply ≡ Refused r → IsAccepted d.reply → Stays old mid → Ends d mid new at now reply → Stays old new
-stays_by old mid new at now d reply r refused accepted stays (inl is) = absurd (not_accepted r d.reply accepted (sym is.0 ∙ refused))
-stays_by old mid new at now d reply r refused accepted stays (inr is) = λ t told. stays t (is.1 t told)
+stays_by : (old mid new : Told) (d : Decided) (reply : Reply) (r : Refusal) → reply ≡ Refused r → IsAccepted d.reply → Stays old.tables mid.tables → Ends d mid new reply
+    → Stays old.tables new.tables
+stays_by old mid new d reply r refused accepted stays (inl is) = absurd (not_accepted r d.reply accepted (sym is.0 ∙ refused))
+stays_by old mid new d reply r refused accepted stays (inr is) = λ t told. stays t (is.1 t told)
 
 same_tables : (s t : Tables) (old : Option Tables) → old ≡ Some s → old ≡ Some t → s ≡ t
 same_tables s t old was is = let both : Some s ≡ Some t = sym was ∙ is in cc
@@ -82,17 +85,17 @@ module _ (book : Book) (request : Request) where
   refused_by state refusal.SameHand before now rose stands = by_step state refusal.SameHand before now stands
   refused_by state (refusal.EvidenceMoved current) before now rose stands = by_step state (refusal.EvidenceMoved current) before now stands
 
-  pub serves_refused : (old new : Option Tables) (before now : ℕ) (r : Refusal) → Decides book request old new before now (Err r) → Serves book request old new before now (Refused r)
-  serves_refused old new before now r decides = record {
+  pub serves_refused : (old new : Told) (r : Refusal) → Decides book request old new (Err r) → Serves book request old new (Refused r)
+  serves_refused old new r decides = record {
     told =
         λ t is. (
           t,
           decides.reads.stays t is,
-          λ sound. (sound, refused_by (state_of t) r before now (λ e. decides.reads.failed (ap Err e)) (decides.agrees t is sound)),
+          λ sound. (sound, refused_by (state_of t) r old.faults new.faults (λ e. decides.reads.failed (ap Err e)) (decides.agrees t is sound)),
         );
-    others = λ s t was is sound n other. ap (kept_site n) (sym (same_tables s t old was (decides.reads.stays t is)));
+    others = λ s t was is sound n other. ap (kept_site n) (sym (same_tables s t old.tables was (decides.reads.stays t is)));
     refused = λ _ _. decides.reads.stays;
-    changed = λ s t was is. inl (sym (same_tables s t old was (decides.reads.stays t is)));
+    changed = λ s t was is. inl (sym (same_tables s t old.tables was (decides.reads.stays t is)));
     never_falls = decides.reads.never_falls;
     failed = λ fault. let same : r ≡ refusal.KeeperFault = cc in decides.reads.failed (ap Err same);
   }
@@ -113,49 +116,50 @@ module _ (book : Book) (request : Request) where
       ∙ (ap (λ (n : State). let p : State × Reply = (n, d.reply) in p) (state_after d.change s ∙ sym (ap state_of became))
       ∙ ap (λ (r : Reply). let p : State × Reply = (state_of t, r) in p) (sym replied)))
 
-  served_by : (old mid new : Option Tables) (before at now : ℕ) (d : Decided) (reply : Reply) → FitsRequest book request → Decides book request old mid before at (Ok d) → before ≤ at → Ends d mid new at now reply
-      → (t : Tables) → new ≡ Some t → (s : Tables) × (old ≡ Some s) × (IsSound book s → IsSound book t × Answers book (state_of s) request reply (state_of t) before now)
-  served_by old mid new before at now d reply fits decides le (inl is) t told =
-      let from = turned d.change mid new is.1 t told in (
+  served_by : (old mid new : Told) (d : Decided) (reply : Reply) → FitsRequest book request → Decides book request old mid (Ok d) → Ends d mid new reply
+      → (t : Tables) → new.tables ≡ Some t
+      → (s : Tables) × (old.tables ≡ Some s) × (IsSound book s → IsSound book t × Answers book (state_of s) request reply (state_of t) old.faults new.faults)
+  served_by old mid new d reply fits decides (inl is) t told =
+      let from = turned d.change mid.tables new.tables is.1 t told in (
         from.0,
         decides.reads.stays from.0 from.1,
         λ sound.
             let agrees = decides.agrees from.0 from.1 sound in (
               subst (IsSound book) (sym from.2) (keeps_sound book request from.0 d fits sound agrees),
-              answered_by from.0 t d reply before now agrees is.0 from.2,
+              answered_by from.0 t d reply old.faults new.faults agrees is.0 from.2,
             ),
       )
-  served_by old mid new before at now d reply fits decides le (inr is) t told = (
+  served_by old mid new d reply fits decides (inr is) t told = (
     t,
     decides.reads.stays t (is.1 t told),
-    λ sound. (sound, inr (refl, failed_later before at now reply le is.0)),
+    λ sound. (sound, inr (refl, failed_later old.faults mid.faults new.faults reply decides.reads.never_falls is.0)),
   )
 
-  others_by : (old mid new : Option Tables) (before at now : ℕ) (d : Decided) (reply : Reply) → Decides book request old mid before at (Ok d) → Ends d mid new at now reply
-      → (s t : Tables) → old ≡ Some s → new ≡ Some t → IsSound book s → OthersStay (site_of request.command) s t
-  others_by old mid new before at now d reply decides (inl is) s t was told sound n other =
-      let from = turned d.change mid new is.1 t told in
+  others_by : (old mid new : Told) (d : Decided) (reply : Reply) → Decides book request old mid (Ok d) → Ends d mid new reply
+      → (s t : Tables) → old.tables ≡ Some s → new.tables ≡ Some t → IsSound book s → OthersStay (site_of request.command) s t
+  others_by old mid new d reply decides (inl is) s t was told sound n other =
+      let from = turned d.change mid.tables new.tables is.1 t told in
       let m = from.0 in
-      let same : s ≡ m = same_tables s m old was (decides.reads.stays m from.1) in
+      let same : s ≡ m = same_tables s m old.tables was (decides.reads.stays m from.1) in
       let agrees = decides.agrees m from.1 (subst (IsSound book) same sound) in
       let names = brought (Names (site_of request.command)) (decided book request (state_of m)) d agrees (decided_names book request (state_of m)) in
       ap (kept_site n) from.2 ∙ (rows_stay (site_of request.command) d.change m names n other ∙ ap (kept_site n) (sym same))
-  others_by old mid new before at now d reply decides (inr is) s t was told sound n other =
-      ap (kept_site n) (sym (same_tables s t old was (decides.reads.stays t (is.1 t told))))
+  others_by old mid new d reply decides (inr is) s t was told sound n other =
+      ap (kept_site n) (sym (same_tables s t old.tables was (decides.reads.stays t (is.1 t told))))
 
   -- whether the tables are sound or not
-  changed_by : (old mid new : Option Tables) (at now : ℕ) (d : Decided) (reply : Reply) → Stays old mid → IsFirm book request mid d → Ends d mid new at now reply
-      → (s t : Tables) → old ≡ Some s → new ≡ Some t → (t ≡ s) ⊎ (RestsOnKept request reply ⊎ IsDone book request reply s t)
-  changed_by old mid new at now d reply stays firm (inr is) s t was told = inl (sym (same_tables s t old was (stays t (is.1 t told))))
-  changed_by old mid new at now d reply stays firm (inl is) s t was told = of firm
+  changed_by : (old mid new : Told) (d : Decided) (reply : Reply) → Stays old.tables mid.tables → IsFirm book request mid.tables d → Ends d mid new reply
+      → (s t : Tables) → old.tables ≡ Some s → new.tables ≡ Some t → (t ≡ s) ⊎ (RestsOnKept request reply ⊎ IsDone book request reply s t)
+  changed_by old mid new d reply stays firm (inr is) s t was told = inl (sym (same_tables s t old.tables was (stays t (is.1 t told))))
+  changed_by old mid new d reply stays firm (inl is) s t was told = of firm
     where
-      from : (m : Tables) × (mid ≡ Some m) × (t ≡ made d.change m)
-      from = turned d.change mid new is.1 t told
+      from : (m : Tables) × (mid.tables ≡ Some m) × (t ≡ made d.change m)
+      from = turned d.change mid.tables new.tables is.1 t told
 
       same : s ≡ from.0
-      same = same_tables s from.0 old was (stays from.0 from.1)
+      same = same_tables s from.0 old.tables was (stays from.0 from.1)
 
-      of : IsFirm book request mid d → (t ≡ s) ⊎ (RestsOnKept request reply ⊎ IsDone book request reply s t)
+      of : IsFirm book request mid.tables d → (t ≡ s) ⊎ (RestsOnKept request reply ⊎ IsDone book request reply s t)
       of (inl none) = inl (from.2 ∙ (ap (λ (c : Option Change). made c from.0) none ∙ sym same))
       of (inr (inl rests)) = inr (inl (subst (RestsOnKept request) (sym is.0) rests))
       of (inr (inr decides)) =
@@ -168,13 +172,13 @@ module _ (book : Book) (request : Request) where
             became = from.2 ∙ ap (λ (m : Tables). made d.change m) (sym same);
           }))
 
-  pub serves_decided : (old mid new : Option Tables) (before at now : ℕ) (d : Decided) (reply : Reply) → FitsRequest book request → Decides book request old mid before at (Ok d)
-      → Commits d mid new at now reply → Serves book request old new before now reply
-  serves_decided old mid new before at now d reply fits decides commits = record {
-    told = served_by old mid new before at now d reply fits decides decides.reads.never_falls commits.made;
-    others = others_by old mid new before at now d reply decides commits.made;
-    refused = λ r is. stays_by old mid new at now d reply r is decides.accepted decides.reads.stays commits.made;
-    changed = changed_by old mid new at now d reply decides.reads.stays decides.firm commits.made;
+  pub serves_decided : (old mid new : Told) (d : Decided) (reply : Reply) → FitsRequest book request → Decides book request old mid (Ok d) → Commits d mid new reply
+      → Serves book request old new reply
+  serves_decided old mid new d reply fits decides commits = record {
+    told = served_by old mid new d reply fits decides commits.made;
+    others = others_by old mid new d reply decides commits.made;
+    refused = λ r is. stays_by old mid new d reply r is decides.accepted decides.reads.stays commits.made;
+    changed = changed_by old mid new d reply decides.reads.stays decides.firm commits.made;
     never_falls = omega (arith, decides.reads.never_falls, commits.never_falls);
-    failed = failed_by before at now d mid new reply decides.reads.never_falls decides.accepted commits.made;
+    failed = failed_by old.faults d mid new reply decides.reads.never_falls decides.accepted commits.made;
   }

@@ -20,6 +20,7 @@ use Rattle.desk_core.specs.State.{page_state, state_of, site_at}
 use Rattle.desk_core.specs.Reading.{answered, site_page, sheet}
 use Rattle.desk_core.specs.Steps.{read_site, decided}
 use Rattle.desk_core.specs.Soundness.{IsSound, IsSoundSite, IsSoundPage}
+use Rattle.desk_core.specs.Told.{Told}
 use Rattle.desk_core.specs.Serving.{Stands, IsIn, IsAccepted, Decides}
 use Rattle.kept_pages.specs.KeptPages.{shown, site_pages}
 use Rattle.kept_pages.proofs.Found.{all_found}
@@ -68,22 +69,22 @@ sheet_accepted form.Report read = tt
 sheet_accepted form.Earl read = tt
 sheet_accepted form.Csv read = tt
 
-module _ (book : Book) (caller site : List ℕ) (asked : SheetForm) (old new : Option Tables) (before now : ℕ) where
+module _ (book : Book) (caller site : List ℕ) (asked : SheetForm) (old new : Told) where
   pub decides_sheet : (read : Sheet) (d : Decided) → d ≡ record { change = None; reply = sheet_reply asked read }
-      → ReadsSheet book caller site old new before now (Ok read) → Decides book (record { caller = caller; command = sheet_asked asked site }) old new before now (Ok d)
+      → ReadsSheet book caller site old new (Ok read) → Decides book (record { caller = caller; command = sheet_asked asked site }) old new (Ok d)
   decides_sheet read d same reads = record {
-    reads = only_read old new before now (let r : Result Sheet Refusal = Ok read in r) (let r : Result Decided Refusal = Ok d in r) (λ e. cc) reads.reads;
+    reads = only_read old new (let r : Result Sheet Refusal = Ok read in r) (let r : Result Decided Refusal = Ok d in r) (λ e. cc) reads.reads;
     agrees = λ t told sound. decided_sheet book caller site asked t ∙ (reads.shows t told sound (sheet_reply asked) ∙ ap Ok (sym same));
     fits = let P : Decided → Type 0 = λ e. IfSome e.change Fits in subst P (sym same) tt;
-    there = let P : Decided → Type 0 = λ e. IfSome e.change (λ change. IfSome new (IsThere change)) in subst P (sym same) tt;
+    there = let P : Decided → Type 0 = λ e. IfSome e.change (λ change. IfSome new.tables (IsThere change)) in subst P (sym same) tt;
     accepted = let P : Decided → Type 0 = λ e. IsAccepted e.reply in subst P (sym same) (sheet_accepted asked read);
     firm = inl (ap (λ (e : Decided). e.change) same);
   }
 
-  pub decides_no_sheet : (r : Refusal) → ReadsSheet book caller site old new before now (Err r)
-      → Decides book (record { caller = caller; command = sheet_asked asked site }) old new before now (Err r)
+  pub decides_no_sheet : (r : Refusal) → ReadsSheet book caller site old new (Err r)
+      → Decides book (record { caller = caller; command = sheet_asked asked site }) old new (Err r)
   decides_no_sheet r reads = record {
-    reads = read_as old new before now r reads.reads;
+    reads = read_as old new r reads.reads;
     agrees = λ t told sound. subst (Stands (Unit {0}) r) (sym (decided_sheet book caller site asked t)) (reads.shows t told sound (sheet_reply asked));
     fits = tt;
     there = tt;

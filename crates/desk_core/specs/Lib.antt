@@ -13,6 +13,7 @@ pub mod Fitting
 pub mod Soundness
 pub mod Costs
 pub mod Runs
+pub mod Told
 pub mod Serving
 pub mod Sheets
 pub mod Placing

@@ -25,6 +25,7 @@ use Rattle.desk_core.specs.Refusals.{Decision, unless, unless_refused}
 use Rattle.desk_core.specs.State.{PageState, page_state, page_at}
 use Rattle.desk_core.specs.Pages.{revision_in, due, judged, has_room_for, has_revisions, stored}
 use Rattle.desk_core.specs.Imports.{first_fault}
+use Rattle.desk_core.specs.Told.{Told}
 use Rattle.desk_core.specs.Serving.{FailsOnly, RefusesSite, OnlyReads, IsIn}
 
 -- an entry with the revision and the judgements of the page in its place
@@ -99,33 +100,33 @@ import_placed book site caller counter pages all =
 -- ---- what is owed on the way to it
 
 -- entries so far, each with what is kept in its place, as a keeper was read
-pub record PlacesSome (site : List ℕ) (heads : List PageHead) (entries : List Entry) (old new : Option Tables) (before now : ℕ) (all : List Placed) : Type 0 where
-  pub stays : Stays old new
-  pub never_falls : before ≤ now
+pub record PlacesSome (site : List ℕ) (heads : List PageHead) (entries : List Entry) (old new : Told) (all : List Placed) : Type 0 where
+  pub stays : Stays old.tables new.tables
+  pub never_falls : old.faults ≤ new.faults
   pub listed : entries_of all ≡ entries
-  pub told : (t : Tables) → new ≡ Some t → all ≡ map (read_place heads site t) entries
+  pub told : (t : Tables) → new.tables ≡ Some t → all ≡ map (read_place heads site t) entries
 
 -- one entry
-pub record Places (site : List ℕ) (heads : List PageHead) (e : Entry) (old new : Option Tables) (before now : ℕ) (result : Result Placed Refusal) : Type 0 where
-  pub reads : OnlyReads old new before now result
+pub record Places (site : List ℕ) (heads : List PageHead) (e : Entry) (old new : Told) (result : Result Placed Refusal) : Type 0 where
+  pub reads : OnlyReads old new result
   pub entry : IfOk result (λ w. w.entry ≡ e)
-  pub told : IfOk result (λ w. (t : Tables) → new ≡ Some t → w ≡ read_place heads site t e)
+  pub told : IfOk result (λ w. (t : Tables) → new.tables ≡ Some t → w ≡ read_place heads site t e)
   pub refused : FailsOnly result
 
 -- and all
-pub record PlacesAll (site : List ℕ) (heads : List PageHead) (entries : List Entry) (old new : Option Tables) (before now : ℕ) (result : Result (List Placed) Refusal) : Type 0 where
-  pub reads : OnlyReads old new before now result
+pub record PlacesAll (site : List ℕ) (heads : List PageHead) (entries : List Entry) (old new : Told) (result : Result (List Placed) Refusal) : Type 0 where
+  pub reads : OnlyReads old new result
   pub listed : IfOk result (λ all. entries_of all ≡ entries)
-  pub told : IfOk result (λ all. (t : Tables) → new ≡ Some t → all ≡ map (read_place heads site t) entries)
+  pub told : IfOk result (λ all. (t : Tables) → new.tables ≡ Some t → all ≡ map (read_place heads site t) entries)
   pub refused : FailsOnly result
 
 -- the site into which pages are imported, and what is kept in their places
-pub record Arrives (caller site : List ℕ) (entries : List Entry) (old new : Option Tables) (before now : ℕ) (result : Result Arrival Refusal) : Type 0 where
-  pub reads : OnlyReads old new before now result
+pub record Arrives (caller site : List ℕ) (entries : List Entry) (old new : Told) (result : Result Arrival Refusal) : Type 0 where
+  pub reads : OnlyReads old new result
   pub listed : IfOk result (λ a. entries_of a.placed ≡ entries)
   pub found :
       IfOk result (λ a.
-      (t : Tables) → new ≡ Some t
+      (t : Tables) → new.tables ≡ Some t
       → (s : Site) × IsIn Editor caller site s t × (a.counter ≡ s.counter) × (a.pages ≡ length (pages_of site t))
       × (a.placed ≡ map (placed (map page_state (pages_of site t))) entries))
   pub refused : RefusesSite Editor caller site new result

@@ -33,6 +33,7 @@ use Rattle.desk_core.specs.Reading.{answered, site_page}
 use Rattle.desk_core.specs.Soundness as soundness
 use Rattle.desk_core.specs.Soundness.{IsSound}
 use Rattle.desk_core.specs.Runs.{Fails, Answers}
+use Rattle.desk_core.specs.Told.{Told}
 use Rattle.desk_core.specs.declared.command.Command.{Command}
 use Rattle.desk_core.specs.declared.command.Command.TheVariants.{EditPage}
 
@@ -93,10 +94,10 @@ IsFirm book request tables d =
     (d.change ≡ None) ⊎ (RestsOnKept request d.reply ⊎ ((t : Tables) → tables ≡ Some t → decided book request (state_of t) ≡ Ok d))
 
 -- tables are only read, and a keeper's fault is one that was counted
-pub record OnlyReads {A : Type 0} (old new : Option Tables) (before now : ℕ) (result : Result A Refusal) : Type 0 where
-  pub stays : Stays old new
-  pub never_falls : before ≤ now
-  pub failed : IsErrOf result KeeperFault → Rose before now
+pub record OnlyReads {A : Type 0} (old new : Told) (result : Result A Refusal) : Type 0 where
+  pub stays : Stays old.tables new.tables
+  pub never_falls : old.faults ≤ new.faults
+  pub failed : IsErrOf result KeeperFault → Rose old.faults new.faults
 
 -- the caller has this leave in the site, whose row this is
 pub record IsIn (leave : Needed) (caller name : List ℕ) (site : Site) (tables : Tables) : Type 0 where
@@ -117,84 +118,84 @@ abbrev pub FailsOnly : {A : Type 0} → Result A Refusal → Type 0
 FailsOnly result = IfErr result (λ refusal. (decision : Decision) → Stands (Unit {0}) refusal decision)
 
 -- a refusal before a site was entered in which the caller has this leave
-abbrev pub RefusesSite : {A : Type 0} → Needed → List ℕ → List ℕ → Option Tables → Result A Refusal → Type 0
+abbrev pub RefusesSite : {A : Type 0} → Needed → List ℕ → List ℕ → Told → Result A Refusal → Type 0
 RefusesSite leave caller name new result =
     IfErr result (λ refusal.
-    (t : Tables) → new ≡ Some t → (next : SiteState → Decision) → Stands (Unit {0}) refusal (entering leave caller (site_at name (state_of t)) next))
+    (t : Tables) → new.tables ≡ Some t → (next : SiteState → Decision) → Stands (Unit {0}) refusal (entering leave caller (site_at name (state_of t)) next))
 
 -- a refusal before a page of a site was found in which the caller has this leave
-abbrev pub RefusesPage : {A : Type 0} → Needed → List ℕ → List ℕ → List ℕ → Option Tables → Result A Refusal → Type 0
+abbrev pub RefusesPage : {A : Type 0} → Needed → List ℕ → List ℕ → List ℕ → Told → Result A Refusal → Type 0
 RefusesPage leave caller site page new result =
     IfErr result (λ refusal.
-    (t : Tables) → new ≡ Some t → (next : SiteState → PageState → Decision)
+    (t : Tables) → new.tables ≡ Some t → (next : SiteState → PageState → Decision)
     → Stands (Unit {0}) refusal (entering leave caller (site_at site (state_of t)) (λ s. on_page page s (next s))))
 
 -- the row of a site in which the caller has a leave is looked up
-pub record Enters (leave : Needed) (caller name : List ℕ) (old new : Option Tables) (before now : ℕ) (result : Result Site Refusal) : Type 0 where
-  pub reads : OnlyReads old new before now result
+pub record Enters (leave : Needed) (caller name : List ℕ) (old new : Told) (result : Result Site Refusal) : Type 0 where
+  pub reads : OnlyReads old new result
   pub fits : IfOk result FitsSite
-  pub found : IfOk result (λ site. (t : Tables) → new ≡ Some t → IsIn leave caller name site t)
+  pub found : IfOk result (λ site. (t : Tables) → new.tables ≡ Some t → IsIn leave caller name site t)
   pub refused : RefusesSite leave caller name new result
 
 -- a page with its judgements is looked up, where it is there
-pub record Looks (site page : List ℕ) (old new : Option Tables) (before now : ℕ) (result : Result (Option PageState) Refusal) : Type 0 where
-  pub reads : OnlyReads old new before now result
+pub record Looks (site page : List ℕ) (old new : Told) (result : Result (Option PageState) Refusal) : Type 0 where
+  pub reads : OnlyReads old new result
   pub fits : IfOk result (λ found. IfSome found (λ p. FitsPage p.page))
-  pub found : IfOk result (λ found. (t : Tables) → new ≡ Some t → found ≡ page_in site page t)
+  pub found : IfOk result (λ found. (t : Tables) → new.tables ≡ Some t → found ≡ page_in site page t)
   pub refused : FailsOnly result
 
 -- a page of a site in which the caller has a leave
-pub record Finds (leave : Needed) (caller site page : List ℕ) (old new : Option Tables) (before now : ℕ) (result : Result (Site × PageState) Refusal) : Type 0 where
-  pub reads : OnlyReads old new before now result
+pub record Finds (leave : Needed) (caller site page : List ℕ) (old new : Told) (result : Result (Site × PageState) Refusal) : Type 0 where
+  pub reads : OnlyReads old new result
   pub fits : IfOk result (λ found. FitsSite found.0 × FitsPage found.1.page)
-  pub found : IfOk result (λ found. (t : Tables) → new ≡ Some t → IsIn leave caller site found.0 t × (page_in site page t ≡ Some found.1))
+  pub found : IfOk result (λ found. (t : Tables) → new.tables ≡ Some t → IsIn leave caller site found.0 t × (page_in site page t ≡ Some found.1))
   pub refused : RefusesPage leave caller site page new result
 
 -- the site into which a page is to be put, the revision of the page that is there with its judgements, and the number of its pages
-pub record Surveys (caller site page : List ℕ) (old new : Option Tables) (before now : ℕ) (result : Result Survey Refusal) : Type 0 where
-  pub reads : OnlyReads old new before now result
+pub record Surveys (caller site page : List ℕ) (old new : Told) (result : Result Survey Refusal) : Type 0 where
+  pub reads : OnlyReads old new result
   pub found :
       IfOk result (λ s.
-      (t : Tables) → new ≡ Some t
+      (t : Tables) → new.tables ≡ Some t
       → IsIn Editor caller site s.site t × (revision_in (page_in site page t) ≡ s.current) × (judged (page_in site page t) ≡ s.judgements)
       × (length (pages_of site t) ≡ s.pages))
   pub refused : RefusesSite Editor caller site new result
 
 -- a page of a site in which the caller has a leave, whatever its judgements are
-pub record FindsPage (leave : Needed) (caller site page : List ℕ) (old new : Option Tables) (before now : ℕ) (result : Result Page Refusal) : Type 0 where
-  pub reads : OnlyReads old new before now result
+pub record FindsPage (leave : Needed) (caller site page : List ℕ) (old new : Told) (result : Result Page Refusal) : Type 0 where
+  pub reads : OnlyReads old new result
   pub found :
       IfOk result (λ found.
-      (t : Tables) → new ≡ Some t
+      (t : Tables) → new.tables ≡ Some t
       → (s : Site) × (js : List Judgement) × IsIn leave caller site s t × (page_in site page t ≡ Some (record { page = found; judgements = js })))
   pub refused : RefusesPage leave caller site page new result
 
 -- the same with its outcomes
-pub record FindsShown (leave : Needed) (caller site page : List ℕ) (old new : Option Tables) (before now : ℕ) (result : Result (Page × Outcomes) Refusal) : Type 0 where
-  pub reads : OnlyReads old new before now result
+pub record FindsShown (leave : Needed) (caller site page : List ℕ) (old new : Told) (result : Result (Page × Outcomes) Refusal) : Type 0 where
+  pub reads : OnlyReads old new result
   pub found :
       IfOk result (λ found.
-      (t : Tables) → new ≡ Some t
+      (t : Tables) → new.tables ≡ Some t
       → (s : Site) × (js : List Judgement) × IsIn leave caller site s t × (page_in site page t ≡ Some (record { page = found.0; judgements = js }))
       × (outcomes_of site page t ≡ found.1))
   pub refused : RefusesPage leave caller site page new result
 
 -- the same with its judgements and its outcomes
-pub record FindsKept (leave : Needed) (caller site page : List ℕ) (old new : Option Tables) (before now : ℕ) (result : Result KeptPage Refusal) : Type 0 where
-  pub reads : OnlyReads old new before now result
+pub record FindsKept (leave : Needed) (caller site page : List ℕ) (old new : Told) (result : Result KeptPage Refusal) : Type 0 where
+  pub reads : OnlyReads old new result
   pub found :
       IfOk result (λ kept.
-      (t : Tables) → new ≡ Some t
+      (t : Tables) → new.tables ≡ Some t
       → (s : Site) × IsIn leave caller site s t × (page_in site page t ≡ Some (page_state kept)) × (outcomes_of site page t ≡ kept.outcomes))
   pub refused : RefusesPage leave caller site page new result
 
 -- the same with the site's row
-pub record FindsWhole (leave : Needed) (caller site page : List ℕ) (old new : Option Tables) (before now : ℕ) (result : Result (Site × KeptPage) Refusal) : Type 0 where
-  pub reads : OnlyReads old new before now result
+pub record FindsWhole (leave : Needed) (caller site page : List ℕ) (old new : Told) (result : Result (Site × KeptPage) Refusal) : Type 0 where
+  pub reads : OnlyReads old new result
   pub fits : IfOk result (λ found. FitsPage found.1.page)
   pub found :
       IfOk result (λ found.
-      (t : Tables) → new ≡ Some t
+      (t : Tables) → new.tables ≡ Some t
       → IsIn leave caller site found.0 t × (page_in site page t ≡ Some (page_state found.1)) × (outcomes_of site page t ≡ found.1.outcomes))
   pub refused : RefusesPage leave caller site page new result
 
@@ -208,20 +209,20 @@ Shows {A} decision (Ok shown) = (reply : A → Reply) → decision reply ≡ ans
 Shows {A} decision (Err refusal) = (reply : A → Reply) → Stands (Unit {0}) refusal (decision reply)
 
 -- a page with its outcomes is read, by any member
-pub record ReadsPage (book : Book) (caller site page : List ℕ) (old new : Option Tables) (before now : ℕ) (result : Result SitePage Refusal) : Type 0 where
-  pub reads : OnlyReads old new before now result
+pub record ReadsPage (book : Book) (caller site page : List ℕ) (old new : Told) (result : Result SitePage Refusal) : Type 0 where
+  pub reads : OnlyReads old new result
   pub shows :
-      (t : Tables) → new ≡ Some t → IsSound book t
+      (t : Tables) → new.tables ≡ Some t → IsSound book t
       → Shows (λ reply. read_page caller page (site_at site (state_of t)) (λ p. reply (site_page book p))) result
 
 -- a request is decided: by its definition, where the tables are told and sound
-pub record Decides (book : Book) (request : Request) (old new : Option Tables) (before now : ℕ) (result : Result Decided Refusal) : Type 0 where
-  pub reads : OnlyReads old new before now result
-  pub agrees : (t : Tables) → new ≡ Some t → IsSound book t → Agrees (Unit {0}) result (decided book request (state_of t))
+pub record Decides (book : Book) (request : Request) (old new : Told) (result : Result Decided Refusal) : Type 0 where
+  pub reads : OnlyReads old new result
+  pub agrees : (t : Tables) → new.tables ≡ Some t → IsSound book t → Agrees (Unit {0}) result (decided book request (state_of t))
   pub fits : IfOk result (λ d. IfSome d.change Fits)
-  pub there : IfOk result (λ d. IfSome d.change (λ change. IfSome new (IsThere change)))
+  pub there : IfOk result (λ d. IfSome d.change (λ change. IfSome new.tables (IsThere change)))
   pub accepted : Accepts result
-  pub firm : IfOk result (IsFirm book request new)
+  pub firm : IfOk result (IsFirm book request new.tables)
 
 -- the rows of all sites but one stay
 abbrev pub OthersStay : List ℕ → Tables → Tables → Type 0
@@ -237,14 +238,14 @@ pub record IsDone (book : Book) (request : Request) (reply : Reply) (s t : Table
 -- A request is served: where the tables that are told were sound, they are sound, the reply is the machine's, and the rows of all
 -- other sites stay. Sound or not, a request that is refused leaves the tables, and they change only by a judgement, by an edit or by
 -- what the definition decides. Whether they are told or not, the keeper's fault is answered only where it was counted.
-pub record Serves (book : Book) (request : Request) (old new : Option Tables) (before now : ℕ) (reply : Reply) : Type 0 where
+pub record Serves (book : Book) (request : Request) (old new : Told) (reply : Reply) : Type 0 where
   pub told :
-      (t : Tables) → new ≡ Some t → (s : Tables) × (old ≡ Some s) × (IsSound book s → IsSound book t × Answers book (state_of s) request reply (state_of t) before now)
-  pub others : (s t : Tables) → old ≡ Some s → new ≡ Some t → IsSound book s → OthersStay (steps.site_of request.command) s t
-  pub refused : (refusal : Refusal) → reply ≡ Refused refusal → Stays old new
-  pub changed : (s t : Tables) → old ≡ Some s → new ≡ Some t → (t ≡ s) ⊎ (RestsOnKept request reply ⊎ IsDone book request reply s t)
-  pub never_falls : before ≤ now
-  pub failed : reply ≡ Refused KeeperFault → Rose before now
+      (t : Tables) → new.tables ≡ Some t → (s : Tables) × (old.tables ≡ Some s) × (IsSound book s → IsSound book t × Answers book (state_of s) request reply (state_of t) old.faults new.faults)
+  pub others : (s t : Tables) → old.tables ≡ Some s → new.tables ≡ Some t → IsSound book s → OthersStay (steps.site_of request.command) s t
+  pub refused : (refusal : Refusal) → reply ≡ Refused refusal → Stays old.tables new.tables
+  pub changed : (s t : Tables) → old.tables ≡ Some s → new.tables ≡ Some t → (t ≡ s) ⊎ (RestsOnKept request reply ⊎ IsDone book request reply s t)
+  pub never_falls : old.faults ≤ new.faults
+  pub failed : reply ≡ Refused KeeperFault → Rose old.faults new.faults
 
 -- the tables after a change, or as they were without one
 abbrev pub TurnsBy : Option Change → Option Tables → Option Tables → Type 0
@@ -252,6 +253,6 @@ TurnsBy None old new = Stays old new
 TurnsBy (Some change) old new = Turns change old new
 
 -- what was decided is made of the tables and answered, or it fails and the tables stay
-pub record Commits (d : Decided) (old new : Option Tables) (before now : ℕ) (reply : Reply) : Type 0 where
-  pub never_falls : before ≤ now
-  pub made : ((reply ≡ d.reply) × TurnsBy d.change old new) ⊎ (Fails reply before now × Stays old new)
+pub record Commits (d : Decided) (old new : Told) (reply : Reply) : Type 0 where
+  pub never_falls : old.faults ≤ new.faults
+  pub made : ((reply ≡ d.reply) × TurnsBy d.change old.tables new.tables) ⊎ (Fails reply old.faults new.faults × Stays old.tables new.tables)

@@ -1,5 +1,5 @@
 -- A site's pages as they are kept: what is owed on the way to its sheet.
-use Rattle.std.specs.Prelude.{◌≡◌, ℕ, List, Option, Some, Result}
+use Rattle.std.specs.Prelude.{◌≡◌, ℕ, List, Some, Result}
 use Rattle.rule_core.specs.Books.{Book}
 use Rattle.keep_core.specs.Tables.{Tables}
 use Rattle.desk_core.specs.declared.command.Command.{Command}
@@ -14,6 +14,7 @@ use Rattle.desk_core.specs.State.{state_of, site_at}
 use Rattle.desk_core.specs.Steps.{read_site}
 use Rattle.desk_core.specs.Reading.{sheet}
 use Rattle.desk_core.specs.Soundness.{IsSound}
+use Rattle.desk_core.specs.Told.{Told}
 use Rattle.desk_core.specs.Serving.{OnlyReads, Shows}
 
 -- the command that asks for a sheet, and the reply that has it
@@ -28,8 +29,8 @@ sheet_reply form.Earl shown = reply.SiteEarl shown
 sheet_reply form.Csv shown = reply.SiteCsv shown
 
 -- a site's sheet is read, by any member
-pub record ReadsSheet (book : Book) (caller site : List ℕ) (old new : Option Tables) (before now : ℕ) (result : Result Sheet Refusal) : Type 0 where
-  pub reads : OnlyReads old new before now result
+pub record ReadsSheet (book : Book) (caller site : List ℕ) (old new : Told) (result : Result Sheet Refusal) : Type 0 where
+  pub reads : OnlyReads old new result
   pub shows :
-      (t : Tables) → new ≡ Some t → IsSound book t
+      (t : Tables) → new.tables ≡ Some t → IsSound book t
       → Shows (λ reply. read_site caller (site_at site (state_of t)) (λ s. reply (sheet book site s))) result

@@ -1,3 +1,4 @@
+ghost use Rattle.desk_core.specs.Told.{told_of};
 ghost use Rattle.desk_core.specs.Placing.{Arrives};
 
 use crate::command::Entry;
@@ -25,8 +26,7 @@ pub fn arrive<K: Keeper>(
     site: &Text,
     entries: List<Entry>,
 ) -> Result<Arrival, Refusal>
-    ensures { Arrives caller.now site.now entries (K.tables keeper.old) (K.tables keeper.new)
-        (K.faults keeper.old) (K.faults keeper.new) result }
+    ensures { Arrives caller.now site.now entries (told_of K.Keeper keeper.old) (told_of K.Keeper keeper.new) result }
 {
     let entered = enter(alloc, keeper, Needed::Editor, caller, site)?;
     let heads = keeper.list(alloc, site)?;

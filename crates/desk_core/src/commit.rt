@@ -1,6 +1,7 @@
 ghost use Rattle.std.specs.Prelude.{Some, IfSome};
 ghost use Rattle.keep_core.specs.Fits.{Fits, IsThere};
 ghost use Rattle.desk_core.specs.Serving.{Commits};
+ghost use Rattle.desk_core.specs.Told.{told_of};
 
 use crate::decided::Decided;
 use crate::refusal::Refusal;
@@ -12,8 +13,7 @@ use std::alloc::Global;
 pub fn commit<K: Keeper>(alloc: Global, keeper: &mut K, decided: Decided) -> Reply
     requires fits { IfSome decided.change Fits }
     requires there { IfSome decided.change (λ change. IfSome (K.tables keeper.old) (IsThere change)) }
-    ensures { Commits decided (K.tables keeper.old) (K.tables keeper.new)
-        (K.faults keeper.old) (K.faults keeper.new) result }
+    ensures { Commits decided (told_of K.Keeper keeper.old) (told_of K.Keeper keeper.new) result }
 {
     let Decided { change, reply } = decided;
     match change {
@@ -25,8 +25,7 @@ pub fn commit<K: Keeper>(alloc: Global, keeper: &mut K, decided: Decided) -> Rep
 fn make<K: Keeper>(alloc: Global, keeper: &mut K, change: Change, reply: Reply) -> Reply
     requires fits { Fits change }
     requires there { IfSome (K.tables keeper.old) (IsThere change) }
-    ensures { Commits (record { change = Some change; reply = reply }) (K.tables keeper.old) (K.tables keeper.new)
-        (K.faults keeper.old) (K.faults keeper.new) result }
+    ensures { Commits (record { change = Some change; reply = reply }) (told_of K.Keeper keeper.old) (told_of K.Keeper keeper.new) result }
 {
     let batch = Batch { change };
     match keeper.apply(alloc, &batch) {

@@ -3,6 +3,7 @@ ghost use Rattle.desk_core.specs.declared.command.Command.TheVariants.{DropPage}
 ghost use Rattle.desk_core.specs.Pages.{drop_page};
 ghost use Rattle.keep_core.specs.Names.{is_name};
 ghost use Rattle.desk_core.specs.Serving.{Agrees, Decides};
+ghost use Rattle.desk_core.specs.Told.{told_of};
 ghost use Rattle.rule_core.specs.Books.{Book};
 
 use crate::decided::Decided;
@@ -24,7 +25,7 @@ pub fn drop_page<K: Keeper>(
     requires site { IsTrue (is_name sent.site) }
     requires page { IsTrue (is_name sent.page) }
     ensures { (book : Book) → Decides book (record { caller = caller.now; command = DropPage sent.site sent.page sent.rev })
-        (K.tables keeper.old) (K.tables keeper.new) (K.faults keeper.old) (K.faults keeper.new) result }
+        (told_of K.Keeper keeper.old) (told_of K.Keeper keeper.new) result }
 {
     let found = find_page(
         alloc,

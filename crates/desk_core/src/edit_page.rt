@@ -8,6 +8,7 @@ ghost use Rattle.desk_core.specs.Pages.{has_revisions, edited, edit_page};
 ghost use Rattle.desk_core.specs.Costs.{edit_judgings, edit_pairs, command_judgings, most_judgings};
 ghost use Rattle.desk_core.specs.State.{state_of, site_at, page_state};
 ghost use Rattle.desk_core.specs.Serving.{Agrees, Decides, Edits, IsTrueTo, Stands};
+ghost use Rattle.desk_core.specs.Told.{told_of};
 ghost use Rattle.desk_core.specs.Soundness.{IsSound};
 ghost use Rattle.keep_core.specs.Fits.{FitsPage};
 ghost use Rattle.keep_core.specs.Tables.{Tables};
@@ -119,7 +120,7 @@ pub fn edit_page<K: Keeper, B: RuleBook>(
     requires page { IsTrue (is_name sent.page) }
     ensures decides { Decides B.book
         (record { caller = caller.now; command = EditPage sent.site sent.page sent.rev edits })
-        (K.tables keeper.old) (K.tables keeper.new) (K.faults keeper.old) (K.faults keeper.new) result }
+        (told_of K.Keeper keeper.old) (told_of K.Keeper keeper.new) result }
     ensures counted { (t : Tables) → K.tables keeper.new ≡ Some t → IsSound B.book t
         → sum_by B.calls books.new ≤ sum_by B.calls books.old
         + command_judgings B.book (EditPage sent.site sent.page sent.rev edits)

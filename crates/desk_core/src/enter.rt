@@ -1,4 +1,5 @@
 ghost use Rattle.desk_core.specs.Serving.{Admits, Enters};
+ghost use Rattle.desk_core.specs.Told.{told_of};
 
 use crate::refusal::{Needed, Refusal};
 use crate::rights::is_allowed;
@@ -14,8 +15,7 @@ pub fn enter<K: Keeper>(
     caller: &Text,
     name: &Text,
 ) -> Result<Site, Refusal>
-    ensures { Enters needed caller.now name.now (K.tables keeper.old) (K.tables keeper.new)
-        (K.faults keeper.old) (K.faults keeper.new) result }
+    ensures { Enters needed caller.now name.now (told_of K.Keeper keeper.old) (told_of K.Keeper keeper.new) result }
 {
     match keeper.site(alloc, name)? {
         Some(site) => admit(needed, caller, site),

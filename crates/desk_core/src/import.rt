@@ -10,6 +10,7 @@ ghost use Rattle.desk_core.specs.Fitting.{FitsEntries};
 ghost use Rattle.desk_core.specs.Costs.{import_judgings};
 ghost use Rattle.desk_core.specs.Placing.{entries_of, new_among, current_of, is_stale, stale_among, puts_by, storing_all, import_placed};
 ghost use Rattle.desk_core.specs.Serving.{Agrees, Decides, Stands};
+ghost use Rattle.desk_core.specs.Told.{told_of};
 
 use crate::arrival::{Arrival, arrive};
 use crate::building::build_all;
@@ -44,7 +45,7 @@ pub fn import<R: Threads + Sync, K: Keeper, B: RuleBook + Send>(
     requires site { IsTrue (is_name site) }
     requires entries { FitsEntries entries }
     ensures decides { Decides B.book (record { caller = caller.now; command = Import site entries })
-        (K.tables keeper.old) (K.tables keeper.new) (K.faults keeper.old) (K.faults keeper.new) result }
+        (told_of K.Keeper keeper.old) (told_of K.Keeper keeper.new) result }
     ensures counted { sum_by B.calls books.new ≤ sum_by B.calls books.old + import_judgings B.book entries }
 {
     let arrival = arrive(alloc, keeper, caller, &site, entries)?;

@@ -13,6 +13,7 @@ ghost use Rattle.desk_core.specs.Refusals.{Decision};
 ghost use Rattle.desk_core.specs.Judging.{is_latest, added, judged_row, judge, AddsTo};
 ghost use Rattle.desk_core.specs.State.{PageState, page_state};
 ghost use Rattle.desk_core.specs.Serving.{Accepts, Agrees, Decides, IsTrueTo, Judges, Stands};
+ghost use Rattle.desk_core.specs.Told.{told_of};
 
 use crate::decided::Decided;
 use crate::look::find_kept;
@@ -50,7 +51,7 @@ pub fn judge<K: Keeper, B: RuleBook>(
     requires page { IsTrue (is_name page) }
     ensures { Decides B.book
         (record { caller = caller.now; command = Judge site page said.rule said.node said.verdict said.digest said.note })
-        (K.tables keeper.old) (K.tables keeper.new) (K.faults keeper.old) (K.faults keeper.new) result }
+        (told_of K.Keeper keeper.old) (told_of K.Keeper keeper.new) result }
 {
     let kept = find_kept(alloc, keeper, Needed::Judge, caller, &site, &page)?;
     decide(alloc, book, caller, site, page, said, kept)

@@ -6,6 +6,7 @@ ghost use Rattle.keep_core.specs.Fits.{FitsSite};
 ghost use Rattle.desk_core.specs.declared.command.Command.TheVariants.{PutSite, PutMember};
 ghost use Rattle.desk_core.specs.Members.{user_of, members_with, put_site, put_member};
 ghost use Rattle.desk_core.specs.Serving.{Agrees, Decides};
+ghost use Rattle.desk_core.specs.Told.{told_of};
 
 use crate::decided::Decided;
 use crate::enter::enter;
@@ -26,7 +27,7 @@ pub fn put_site<K: Keeper>(
     requires site { IsTrue (is_name name) }
     requires caller { IsTrue (is_name caller.now) }
     ensures { (book : Book) → Decides book (record { caller = caller.now; command = PutSite name })
-        (K.tables keeper.old) (K.tables keeper.new) (K.faults keeper.old) (K.faults keeper.new) result }
+        (told_of K.Keeper keeper.old) (told_of K.Keeper keeper.new) result }
 {
     match keeper.site(alloc, &name)? {
         Some(_) => Err(Refusal::SiteExists),
@@ -69,7 +70,7 @@ pub fn put_member<K: Keeper>(
     requires site { IsTrue (is_name name) }
     requires user { IsTrue (is_name user) }
     ensures { (book : Book) → Decides book (record { caller = caller.now; command = PutMember name user role })
-        (K.tables keeper.old) (K.tables keeper.new) (K.faults keeper.old) (K.faults keeper.new) result }
+        (told_of K.Keeper keeper.old) (told_of K.Keeper keeper.new) result }
 {
     let site = enter(alloc, keeper, Needed::Owner, caller, &name)?;
     decide(alloc, caller, name, user, role, site)

@@ -1,6 +1,7 @@
 ghost use Rattle.std.specs.Prelude.{◌≡◌};
 ghost use Rattle.named_rows.specs.ByName.{IsInOrder};
 ghost use Rattle.keep_core.specs.Fits.{FitsHeads};
+ghost use Rattle.desk_core.specs.Told.{told_of};
 ghost use Rattle.desk_core.specs.Placing.{head_name, current_in, Places, PlacesAll};
 
 use crate::command::Entry;
@@ -39,8 +40,7 @@ fn place<K: Keeper>(
     entry: Entry,
 ) -> Result<Placed, Refusal>
     requires { FitsHeads heads.now }
-    ensures { Places site.now heads.now entry (K.tables keeper.old) (K.tables keeper.new)
-        (K.faults keeper.old) (K.faults keeper.new) result }
+    ensures { Places site.now heads.now entry (told_of K.Keeper keeper.old) (told_of K.Keeper keeper.new) result }
 {
     let current = current_in(heads.as_slice(), &entry.page);
     let judgements = keeper.judgements(alloc, site, &entry.page)?;
@@ -60,8 +60,7 @@ pub fn place_all<K: Keeper>(
     entries: List<Entry>,
 ) -> Result<List<Placed>, Refusal>
     requires { FitsHeads heads.now }
-    ensures { PlacesAll site.now heads.now entries (K.tables keeper.old) (K.tables keeper.new)
-        (K.faults keeper.old) (K.faults keeper.new) result }
+    ensures { PlacesAll site.now heads.now entries (told_of K.Keeper keeper.old) (told_of K.Keeper keeper.new) result }
 {
     let mut all = Vec::with_capacity(alloc, entries.len())?;
     for entry in entries.into_vec() {

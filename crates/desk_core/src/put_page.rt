@@ -6,6 +6,7 @@ ghost use Rattle.desk_core.specs.Refusals.{Decision};
 ghost use Rattle.desk_core.specs.Pages.{due, has_room, has_revisions, built, put_page};
 ghost use Rattle.desk_core.specs.Costs.{put_judgings};
 ghost use Rattle.desk_core.specs.Serving.{Agrees, Decides, Stands};
+ghost use Rattle.desk_core.specs.Told.{told_of};
 ghost use Rattle.desk_core.specs.declared.command.Command.TheVariants.{PutPage};
 ghost use Rattle.keep_core.specs.Names.{is_name};
 ghost use Rattle.web_address.specs.Address.{IsWebAddress};
@@ -106,7 +107,7 @@ pub fn put_page<K: Keeper, B: RuleBook>(
     requires address { IsWebAddress raw.address }
     ensures decides { Decides B.book
         (record { caller = caller.now; command = PutPage sent.site sent.page sent.rev raw })
-        (K.tables keeper.old) (K.tables keeper.new) (K.faults keeper.old) (K.faults keeper.new) result }
+        (told_of K.Keeper keeper.old) (told_of K.Keeper keeper.new) result }
     ensures counted { sum_by B.calls books.new ≤ sum_by B.calls books.old + put_judgings B.book raw }
     ensures others { drop 1 books.new ≡ drop 1 books.old }
 {

@@ -4,6 +4,7 @@ ghost use Rattle.desk_core.specs.declared.command.Command.TheVariants.{GetPage, 
 ghost use Rattle.desk_core.specs.declared.reply.Reply.TheVariants as reply;
 ghost use Rattle.desk_core.specs.Reading.{shown_as, asked_as};
 ghost use Rattle.desk_core.specs.Serving.{Decides, ReadsPage};
+ghost use Rattle.desk_core.specs.Told.{told_of};
 
 use crate::decided::Decided;
 use crate::look::{find_page, find_shown};
@@ -38,7 +39,7 @@ pub fn get_page<K: Keeper>(
     page: &Text,
 ) -> Result<Decided, Refusal>
     ensures { (book : Book) → Decides book (record { caller = caller.now; command = GetPage site.now page.now })
-        (K.tables keeper.old) (K.tables keeper.new) (K.faults keeper.old) (K.faults keeper.new) result }
+        (told_of K.Keeper keeper.old) (told_of K.Keeper keeper.new) result }
 {
     let found = find_page(alloc, keeper, Needed::Reader, caller, site, page)?;
     Ok(answered(Reply::Page(found)))
@@ -53,7 +54,7 @@ pub fn get_names<K: Keeper>(
     page: &Text,
 ) -> Result<Decided, Refusal>
     ensures { (book : Book) → Decides book (record { caller = caller.now; command = GetNames site.now page.now })
-        (K.tables keeper.old) (K.tables keeper.new) (K.faults keeper.old) (K.faults keeper.new) result }
+        (told_of K.Keeper keeper.old) (told_of K.Keeper keeper.new) result }
 {
     let found = find_page(alloc, keeper, Needed::Reader, caller, site, page)?;
     Ok(names_of(found))
@@ -66,8 +67,7 @@ fn read_page<K: Keeper>(
     site: &Text,
     page: &Text,
 ) -> Result<SitePage, Refusal>
-    ensures { (book : Book) → ReadsPage book caller.now site.now page.now (K.tables keeper.old) (K.tables keeper.new)
-        (K.faults keeper.old) (K.faults keeper.new) result }
+    ensures { (book : Book) → ReadsPage book caller.now site.now page.now (told_of K.Keeper keeper.old) (told_of K.Keeper keeper.new) result }
 {
     let found = find_shown(alloc, keeper, Needed::Reader, caller, site, page)?;
     let shown = site_page(alloc, found.0, found.1)?;
@@ -105,7 +105,7 @@ pub fn get_shown<K: Keeper>(
     showing: Showing,
 ) -> Result<Decided, Refusal>
     ensures { (book : Book) → Decides book (record { caller = caller.now; command = asked_as showing site.now page.now })
-        (K.tables keeper.old) (K.tables keeper.new) (K.faults keeper.old) (K.faults keeper.new) result }
+        (told_of K.Keeper keeper.old) (told_of K.Keeper keeper.new) result }
 {
     let shown = read_page(alloc, keeper, caller, site, page)?;
     Ok(shown_as(showing, shown))

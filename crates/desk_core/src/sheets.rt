@@ -1,6 +1,7 @@
 ghost use Rattle.std.specs.Prelude.{◌≡◌, None};
 ghost use Rattle.rule_core.specs.Books.{Book};
 ghost use Rattle.desk_core.specs.Serving.{Decides};
+ghost use Rattle.desk_core.specs.Told.{told_of};
 ghost use Rattle.desk_core.specs.Sheets.{sheet_asked, sheet_reply, ReadsSheet};
 
 use crate::decided::Decided;
@@ -40,8 +41,7 @@ fn read_sheet<K: Keeper>(
     caller: &Text,
     site: Text,
 ) -> Result<Sheet, Refusal>
-    ensures { (book : Book) → ReadsSheet book caller.now site (K.tables keeper.old) (K.tables keeper.new)
-        (K.faults keeper.old) (K.faults keeper.new) result }
+    ensures { (book : Book) → ReadsSheet book caller.now site (told_of K.Keeper keeper.old) (told_of K.Keeper keeper.new) result }
 {
     enter(alloc, keeper, Needed::Reader, caller, &site)?;
     let pages = site_pages(alloc, keeper, &site)?;
@@ -58,7 +58,7 @@ pub fn get_sheet<K: Keeper>(
     form: SheetForm,
 ) -> Result<Decided, Refusal>
     ensures { (book : Book) → Decides book (record { caller = caller.now; command = sheet_asked form site })
-        (K.tables keeper.old) (K.tables keeper.new) (K.faults keeper.old) (K.faults keeper.new) result }
+        (told_of K.Keeper keeper.old) (told_of K.Keeper keeper.new) result }
 {
     let sheet = read_sheet(alloc, keeper, caller, site)?;
     Ok(sheet_reply(form, sheet))

@@ -3,6 +3,7 @@ use Rattle.std.proofs.Common.{ℕ, List, Option, map}
 use Rattle.links.specs.Wires.{Wire}
 use Rattle.links.specs.Doors.{Doorway}
 use Rattle.keep_core.specs.Tables.{Tables}
+use Rattle.desk_core.specs.Told.{Told}
 use Rattle.desk_http.specs.Desk.{Moment, Desk}
 
 abbrev pub moment : {K B : Type 0} → (K → Option Tables) → (K → ℕ) → (B → ℕ) → K → List B → Moment
@@ -12,3 +13,7 @@ moment tables faults calls keeper books = record { tables = tables keeper; fault
 abbrev pub desk_with : {L : Type 0} → (L → Option Wire) → (L → ℕ) → Doorway → Option (List L) → Moment → Desk L
 desk_with wire broken door log m =
     record { wire = wire; broken = broken; door = door; log = log; tables = m.tables; faults = m.faults; calls = m.calls }
+
+-- what the keeper tells then
+abbrev pub told_at : Moment → Told
+told_at m = record { tables = m.tables; faults = m.faults }

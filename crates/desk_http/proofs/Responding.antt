@@ -38,6 +38,7 @@ use Rattle.desk_http.specs.Printed.{PrintsReply}
 use Rattle.desk_http.specs.Answering.{as_request, GetsRefusal, AnswersMessage, message_judgings, MessageGets, Gets, Refuses, MessageSpares}
 use Rattle.desk_http.specs.Desk.{Moment}
 use Rattle.desk_http.specs.Serving.{OthersRest, AnsweredBy, Settles, Responds, RespondsTo, IsEither, WritesAll, ServesItem}
+use Rattle.desk_http.proofs.Moments.{told_at}
 use Rattle.desk_http.proofs.Quiet.{unmade_keeps, unmade_stays}
 
 -- ---- a request
@@ -56,7 +57,7 @@ costs_of book q old new calls before now costs =
 
 -- the machine's reply was printed
 replied : (book : Book) (q : Request) (closes : Bool) (old new : Moment) (reply : Reply) (bytes : List ℕ) →
-    machine.Serves book q old.tables new.tables old.faults new.faults reply → Costs book q.command old.tables new.tables (sum old.calls) (sum new.calls) → ((IsImport q.command → ⊥) → OthersRest old.calls new.calls) →
+    machine.Serves book q (told_at old) (told_at new) reply → Costs book q.command old.tables new.tables (sum old.calls) (sum new.calls) → ((IsImport q.command → ⊥) → OthersRest old.calls new.calls) →
     bytes ≡ answer_bytes book.infos (Replied reply) closes → RespondsTo book q closes old new bytes
 replied book q closes old new reply bytes served costs others printed = record {
   reply = reply;
@@ -80,7 +81,7 @@ no_fault from to same = cc
 
 -- the machine's reply wasn't printed, which is none to a change
 unprinted : (book : Book) (q : Request) (closes : Bool) (old new : Moment) (reply : Reply) (bytes : List ℕ) →
-    FitsRequest book q → is_made reply ≡ false → machine.Serves book q old.tables new.tables old.faults new.faults reply → Costs book q.command old.tables new.tables (sum old.calls) (sum new.calls) →
+    FitsRequest book q → is_made reply ≡ false → machine.Serves book q (told_at old) (told_at new) reply → Costs book q.command old.tables new.tables (sum old.calls) (sum new.calls) →
     ((IsImport q.command → ⊥) → OthersRest old.calls new.calls) → bytes ≡ answer_bytes book.infos no_memory closes → RespondsTo book q closes old new bytes
 unprinted book q closes old new reply bytes fits unmade served costs others full = record {
   reply = Refused OutOfMemory;
@@ -103,7 +104,7 @@ unprinted book q closes old new reply bytes fits unmade served costs others full
 
 -- the machine's reply was printed, or it wasn't
 pub answered : (book : Book) (q : Request) (closes : Bool) (old new : Moment) (reply : Reply) (bytes : List ℕ) →
-    FitsRequest book q → machine.Serves book q old.tables new.tables old.faults new.faults reply → Costs book q.command old.tables new.tables (sum old.calls) (sum new.calls) →
+    FitsRequest book q → machine.Serves book q (told_at old) (told_at new) reply → Costs book q.command old.tables new.tables (sum old.calls) (sum new.calls) →
     ((IsImport q.command → ⊥) → OthersRest old.calls new.calls) → PrintsReply book.infos reply closes bytes → RespondsTo book q closes old new bytes
 answered book q closes old new reply bytes fits served costs others (inl printed) =
     replied book q closes old new reply bytes served costs others printed

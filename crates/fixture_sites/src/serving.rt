@@ -1,5 +1,6 @@
 ghost use Rattle.std.specs.Prelude.{◌≡◌, ◌<◌, length, IfOk, OnErr, IfSome};
 ghost use Rattle.desk_core.specs.Serving.{Serves};
+ghost use Rattle.desk_core.specs.Told.{told_of};
 ghost use Rattle.fixture_sites.specs.Asks.{command_of};
 
 use crate::asks::{Ask, command_of};
@@ -28,7 +29,7 @@ pub fn answer<R: Threads + Sync, K: Keeper, B: RuleBook + Send>(
 ) -> Result<Reply, Unasked>
     requires some { 0 < length books.old }
     ensures served { IfOk result (λ reply. Serves B.book (record { caller = caller.now; command = command })
-        (K.tables keeper.old) (K.tables keeper.new) (K.faults keeper.old) (K.faults keeper.new) reply) }
+        (told_of K.Keeper keeper.old) (told_of K.Keeper keeper.new) reply) }
     ensures unasked { OnErr result (keeper.new ≡ keeper.old) }
     ensures books { length books.new ≡ length books.old }
 {
@@ -51,7 +52,7 @@ pub fn asked<R: Threads + Sync, K: Keeper, B: RuleBook + Send>(
 ) -> Result<Reply, Unasked>
     requires some { 0 < length books.old }
     ensures served { IfOk result (λ reply. Serves B.book (record { caller = caller.now; command = command_of site.now ask })
-        (K.tables keeper.old) (K.tables keeper.new) (K.faults keeper.old) (K.faults keeper.new) reply) }
+        (told_of K.Keeper keeper.old) (told_of K.Keeper keeper.new) reply) }
     ensures unasked { OnErr result (keeper.new ≡ keeper.old) }
     ensures books { length books.new ≡ length books.old }
 {

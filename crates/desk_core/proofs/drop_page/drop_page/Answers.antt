@@ -13,7 +13,7 @@ returns g c =
     λ book.
     let sent = c.args.sent in
     let request : Request = record { caller = c.args.caller.now; command = DropPage sent.site sent.page sent.rev } in
-    decides_page book request Editor sent.site sent.page (drop_page sent.site sent.page sent.rev) (λ t. refl) _ _ _ _ c.in_ok-found.found c.decide.result
+    decides_page book request Editor sent.site sent.page (drop_page sent.site sent.page sent.rev) (λ t. refl) _ _ c.in_ok-found.found c.decide.result
     c.in_ok-found.ensures c.decide.ensures (drop_page_fits sent.site sent.page sent.rev c.in_ok-found.found c.requires.site c.requires.page)
     (drop_page_accepts sent.site sent.page sent.rev c.in_ok-found.found)
 
@@ -23,4 +23,4 @@ returns-in_err-found g c =
     let sent = c.args.sent in
     let request : Request = record { caller = c.args.caller.now; command = DropPage sent.site sent.page sent.rev } in
     decides_so c.in_err-found.field-0.0 c.from_residual.ensures.1
-    (decides_no_page book request Editor sent.site sent.page (drop_page sent.site sent.page sent.rev) (λ t. refl) _ _ _ _ c.in_err-found.field-0.0 c.in_err-found.ensures)
+    (decides_no_page book request Editor sent.site sent.page (drop_page sent.site sent.page sent.rev) (λ t. refl) _ _ c.in_err-found.field-0.0 c.in_err-found.ensures)

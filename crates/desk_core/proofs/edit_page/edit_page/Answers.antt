@@ -16,7 +16,7 @@ returns-clause-decides g c =
     let sent = c.args.sent in
     let site = c.in_ok-found.found.0 in
     let kept = c.in_ok-found.found.1 in
-    decides_edit book sent.site c.args.caller.now sent.page sent.rev c.args.edits _ _ _ _ site kept c.decide.result c.in_ok-found.ensures
+    decides_edit book sent.site c.args.caller.now sent.page sent.rev c.args.edits _ _ site kept c.decide.result c.in_ok-found.ensures
     (λ holds. subst (λ edits. Agrees ⊥ c.decide.result (edit_page book sent.site c.args.caller.now sent.page sent.rev edits site (page_state kept))) c.as_slice.ensures (c.decide.ensures.decided holds))
     c.decide.ensures.edits
 
@@ -48,4 +48,4 @@ returns-in_err-found-clause-decides g c =
     let book : Book = g.B.RuleBook.book in
     let sent = c.args.sent in
     decides_so c.in_err-found.field-0.0 c.from_residual.ensures.1
-    (decides_no_edit book sent.site c.args.caller.now sent.page sent.rev c.args.edits _ _ _ _ c.in_err-found.field-0.0 c.in_err-found.ensures)
+    (decides_no_edit book sent.site c.args.caller.now sent.page sent.rev c.args.edits _ _ c.in_err-found.field-0.0 c.in_err-found.ensures)

@@ -1,4 +1,5 @@
 use Rattle.std.proofs.Common.{sym, ◌∙◌}
+use Rattle.desk_core.specs.Told.{told_of}
 use Rattle.desk_core.proofs.Ways.{no_site}
 use Rattle.desk_core.proofs.Sound.{some_has}
 use Rattle.desk_core.proofs.Onward.{admitted}
@@ -15,6 +16,6 @@ returns-in-None g c = record {
 
 pub returns-in-Some : goal.returns-in-Some
 returns-in-Some g c =
-    admitted _ _ _ c.in-Some.site _ _ _ _ c.admit.result c.in_ok-site.ensures.reads.stays c.in_ok-site.ensures.faults.never_falls
+    admitted _ _ _ c.in-Some.site (told_of g.K.Keeper c.args.keeper.now) (told_of g.K.Keeper c.site.new.self) c.admit.result c.in_ok-site.ensures.reads.stays c.in_ok-site.ensures.faults.never_falls
     (some_has FitsSite c.in_ok-site.field-0 c.in-Some.site c.in-Some.is c.in_ok-site.ensures.fits)
     (λ t told. sym (c.in_ok-site.ensures.reads.answers t told) ∙ c.in-Some.is) c.admit.ensures

@@ -17,7 +17,7 @@ returns-clause-decides g c =
     let a = c.args in
     let at = c.in_ok-arrival.arrival in
     let request : Request = record { caller = a.caller.now; command = command.Import a.site a.entries } in
-    decides_by book request _ _ _ _ _ c.decide.result (import_placed book a.site a.caller.now at.counter at.pages at.placed)
+    decides_by book request _ _ _ c.decide.result (import_placed book a.site a.caller.now at.counter at.pages at.placed)
     c.in_ok-arrival.ensures.reads c.decide.ensures.decided
     (import_placed_fits book a.caller.now a.site at.counter at.pages at.placed c.requires.site (subst FitsEntries (sym c.in_ok-arrival.ensures.listed) c.requires.entries))
     (import_placed_accepts book a.site a.caller.now at.counter at.pages at.placed)
@@ -33,7 +33,7 @@ returns-clause-counted g c =
 pub returns-in_err-arrival-clause-decides : goal.returns-in_err-arrival-clause-decides
 returns-in_err-arrival-clause-decides g c = decides_so c.in_err-arrival.field-0.0 c.from_residual.ensures.1
     (record {
-      reads = read_as _ _ _ _ _ c.in_err-arrival.ensures.reads;
+      reads = read_as _ _ _ c.in_err-arrival.ensures.reads;
       agrees = λ t told sound. c.in_err-arrival.ensures.refused t told _;
       fits = tt;
       there = tt;

@@ -16,7 +16,7 @@ returns-in-Some g c =
     let there : Result (Option PageState) Refusal = Ok c.in_ok-found.field-0 in
     let both : Result (Site × PageState) Refusal = Ok (c.in_ok-kept.kept, c.in-Some.found) in
     record {
-      reads = only_read _ _ _ _ there both (λ e. cc) (thence _ _ _ _ _ _ _ _ c.in_ok-kept.ensures.reads c.in_ok-found.ensures.reads);
+      reads = only_read _ _ there both (λ e. cc) (thence _ _ _ _ _ c.in_ok-kept.ensures.reads c.in_ok-found.ensures.reads);
       fits = (c.in_ok-kept.ensures.fits, fitting c.in_ok-found.field-0 c.in-Some.found c.in-Some.is c.in_ok-found.ensures.fits);
       found = λ t told. (c.in_ok-kept.ensures.found t (c.in_ok-found.ensures.reads.stays t told), sym (c.in_ok-found.ensures.found t told) ∙ c.in-Some.is);
       refused = tt;
@@ -27,7 +27,7 @@ returns-in-None g c =
     let there : Result (Option PageState) Refusal = Ok c.in_ok-found.field-0 in
     let missing : Result (Site × PageState) Refusal = Err NoPage in
     record {
-      reads = only_read _ _ _ _ there missing (λ e. cc) (thence _ _ _ _ _ _ _ _ c.in_ok-kept.ensures.reads c.in_ok-found.ensures.reads);
+      reads = only_read _ _ there missing (λ e. cc) (thence _ _ _ _ _ c.in_ok-kept.ensures.reads c.in_ok-found.ensures.reads);
       fits = tt;
       found = tt;
       refused =

@@ -15,7 +15,7 @@ returns g c =
     λ book.
     let a = c.args in
     let request : Request = record { caller = a.caller.now; command = PutMember a.name a.user a.role } in
-    decides_by book request _ _ _ _ _ c.decide.result (put_member a.name a.caller.now a.user a.role c.in_ok-site.site) c.in_ok-site.ensures.reads c.decide.ensures
+    decides_by book request _ _ _ c.decide.result (put_member a.name a.caller.now a.user a.role c.in_ok-site.site) c.in_ok-site.ensures.reads c.decide.ensures
     (put_member_fits a.name a.caller.now a.user a.role c.in_ok-site.site c.requires.site c.requires.user c.in_ok-site.ensures.fits)
     (put_member_accepts a.name a.caller.now a.user a.role c.in_ok-site.site)
     (λ t told.
@@ -26,7 +26,7 @@ pub returns-in_err-site : goal.returns-in_err-site
 returns-in_err-site g c =
     λ book. decides_so c.in_err-site.field-0.0 c.from_residual.ensures.1
     (record {
-      reads = read_as _ _ _ _ _ c.in_err-site.ensures.reads;
+      reads = read_as _ _ _ c.in_err-site.ensures.reads;
       agrees = λ t told sound. c.in_err-site.ensures.refused t told _;
       fits = tt;
       there = tt;

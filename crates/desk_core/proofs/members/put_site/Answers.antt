@@ -4,6 +4,7 @@ use Rattle.desk_core.specs.declared.command.Command.TheVariants.{PutSite}
 use Rattle.desk_core.specs.declared.refusal.Refusal.{Refusal}
 use Rattle.desk_core.specs.Steps.{Request}
 use Rattle.desk_core.specs.Members.{put_site}
+use Rattle.desk_core.specs.Told.{told_of}
 use Rattle.desk_core.specs.Serving.{OnlyReads}
 use Rattle.desk_core.proofs.Fitted.{put_site_fits}
 use Rattle.desk_core.proofs.MemberLaws.{site_is_there, site_is_new}
@@ -16,9 +17,9 @@ returns-in-None g c =
     λ book.
     let request : Request = record { caller = c.args.caller.now; command = PutSite c.args.name } in
     let none : Result (Option Site) Refusal = Ok c.in_ok-site.field-0 in
-    let reads : OnlyReads (g.K.Keeper.tables c.args.keeper.now) (g.K.Keeper.tables c.site.new.self) (g.K.Keeper.faults c.args.keeper.now) (g.K.Keeper.faults c.site.new.self) none =
+    let reads : OnlyReads (told_of g.K.Keeper c.args.keeper.now) (told_of g.K.Keeper c.site.new.self) none =
     record { stays = c.in_ok-site.ensures.reads.stays; never_falls = c.in_ok-site.ensures.faults.never_falls; failed = λ e. cc } in
-    decides_by book request _ _ _ _ none c.new_site.result (put_site c.args.name c.args.caller.now None) reads c.new_site.ensures
+    decides_by book request _ _ none c.new_site.result (put_site c.args.name c.args.caller.now None) reads c.new_site.ensures
     (put_site_fits c.args.name c.args.caller.now None c.requires.site c.requires.caller) (put_site_accepts c.args.name c.args.caller.now None)
     (λ t told. site_is_new c.args.name c.args.caller.now t (sym (c.in_ok-site.ensures.reads.answers t told) ∙ c.in-None.is))
 

@@ -13,7 +13,7 @@ returns-clause-decides g c =
     let sent = c.args.sent in
     let at = c.in_ok-survey.survey in
     let request : Request = record { caller = c.args.caller.now; command = PutPage sent.site sent.page sent.rev c.args.raw } in
-    decides_by book request _ _ _ _ _ c.decide.result (put_page book sent.site c.args.caller.now sent.page sent.rev c.args.raw at.site at.current at.judgements at.pages)
+    decides_by book request _ _ _ c.decide.result (put_page book sent.site c.args.caller.now sent.page sent.rev c.args.raw at.site at.current at.judgements at.pages)
     c.in_ok-survey.ensures.reads c.decide.ensures.decided (put_page_fits book sent.site c.args.caller.now sent.page sent.rev c.args.raw at.site at.current at.judgements at.pages c.requires.site c.requires.page c.requires.address)
     (put_page_accepts book sent.site c.args.caller.now sent.page sent.rev c.args.raw at.site at.current at.judgements at.pages)
     (λ t told.
@@ -24,7 +24,7 @@ returns-clause-decides g c =
 pub returns-in_err-survey-clause-decides : goal.returns-in_err-survey-clause-decides
 returns-in_err-survey-clause-decides g c = decides_so c.in_err-survey.field-0.0 c.from_residual.ensures.1
     (record {
-      reads = read_as _ _ _ _ _ c.in_err-survey.ensures.reads;
+      reads = read_as _ _ _ c.in_err-survey.ensures.reads;
       agrees = λ t told sound. c.in_err-survey.ensures.refused t told _;
       fits = tt;
       there = tt;

@@ -12,7 +12,7 @@ pub returns : goal.returns
 returns g c =
     λ book.
     let request : Request = record { caller = c.args.caller.now; command = GetNames c.args.site.now c.args.page.now } in
-    decides_page book request Reader c.args.site.now c.args.page.now (λ p. answered (reply.Names p.tree)) (λ t. refl) _ _ _ _
+    decides_page book request Reader c.args.site.now c.args.page.now (λ p. answered (reply.Names p.tree)) (λ t. refl) _ _
     c.in_ok-found.found (Ok c.names_of.result) c.in_ok-found.ensures (ap Ok (sym c.names_of.ensures)) tt tt
 
 pub returns-in_err-found : goal.returns-in_err-found
@@ -20,4 +20,4 @@ returns-in_err-found g c =
     λ book.
     let request : Request = record { caller = c.args.caller.now; command = GetNames c.args.site.now c.args.page.now } in
     decides_so c.in_err-found.field-0.0 c.from_residual.ensures.1
-    (decides_no_page book request Reader c.args.site.now c.args.page.now (λ p. answered (reply.Names p.tree)) (λ t. refl) _ _ _ _ c.in_err-found.field-0.0 c.in_err-found.ensures)
+    (decides_no_page book request Reader c.args.site.now c.args.page.now (λ p. answered (reply.Names p.tree)) (λ t. refl) _ _ c.in_err-found.field-0.0 c.in_err-found.ensures)

@@ -6,11 +6,11 @@ pub returns : goal.returns
 returns g c =
     λ book.
     let a = c.args in
-    decides_read book a.caller.now a.site.now a.page.now a.showing _ _ _ _ c.in_ok-shown.shown c.shown_as.result c.shown_as.ensures (c.in_ok-shown.ensures book)
+    decides_read book a.caller.now a.site.now a.page.now a.showing _ _ c.in_ok-shown.shown c.shown_as.result c.shown_as.ensures (c.in_ok-shown.ensures book)
 
 pub returns-in_err-shown : goal.returns-in_err-shown
 returns-in_err-shown g c =
     λ book.
     let a = c.args in
     decides_so c.in_err-shown.field-0.0 c.from_residual.ensures.1
-    (decides_not_read book a.caller.now a.site.now a.page.now a.showing _ _ _ _ c.in_err-shown.field-0.0 (c.in_err-shown.ensures book))
+    (decides_not_read book a.caller.now a.site.now a.page.now a.showing _ _ c.in_err-shown.field-0.0 (c.in_err-shown.ensures book))

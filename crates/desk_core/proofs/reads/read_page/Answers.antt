@@ -19,6 +19,6 @@ pub returns-in_err-found : goal.returns-in_err-found
 returns-in_err-found g c =
     λ book. reads_so c.in_err-found.field-0.0 c.from_residual.ensures.1
     (record {
-      reads = read_as _ _ _ _ c.in_err-found.field-0.0 c.in_err-found.ensures.reads;
+      reads = read_as _ _ c.in_err-found.field-0.0 c.in_err-found.ensures.reads;
       shows = λ t told sound reply. c.in_err-found.ensures.refused t told (λ s p. answered (reply (site_page book p)));
     })
