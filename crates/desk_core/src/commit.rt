@@ -25,7 +25,8 @@ pub fn commit<K: Keeper>(alloc: Global, keeper: &mut K, decided: Decided) -> Rep
 fn make<K: Keeper>(alloc: Global, keeper: &mut K, change: Change, reply: Reply) -> Reply
     requires fits { Fits change }
     requires there { IfSome (K.tables keeper.old) (IsThere change) }
-    ensures { Commits (record { change = Some change; reply = reply }) (told_of K.Keeper keeper.old) (told_of K.Keeper keeper.new) result }
+    ensures { Commits (record { change = Some change; reply = reply })
+        (told_of K.Keeper keeper.old) (told_of K.Keeper keeper.new) result }
 {
     let batch = Batch { change };
     match keeper.apply(alloc, &batch) {

@@ -67,7 +67,8 @@ fn read_page<K: Keeper>(
     site: &Text,
     page: &Text,
 ) -> Result<SitePage, Refusal>
-    ensures { (book : Book) → ReadsPage book caller.now site.now page.now (told_of K.Keeper keeper.old) (told_of K.Keeper keeper.new) result }
+    ensures { (book : Book) → ReadsPage book caller.now site.now page.now
+        (told_of K.Keeper keeper.old) (told_of K.Keeper keeper.new) result }
 {
     let found = find_shown(alloc, keeper, Needed::Reader, caller, site, page)?;
     let shown = site_page(alloc, found.0, found.1)?;
