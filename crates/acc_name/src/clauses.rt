@@ -275,7 +275,7 @@ pub(crate) fn say(
     if is_silent(scope.node, scope.hidden, how, row) {
         return replaced_by(content, mark, None);
     }
-    match &row.body {
+    match row.body.get() {
         Body::Element { .. } => by_clauses(alloc, told, how, role, row, inner, mark, content),
         Body::Words { text } => {
             let is_blank = blank(text);

@@ -38,7 +38,7 @@ pub(crate) enum Host {
 fn is_svg(row: &Row, word: &str) -> bool
     ensures { result ≡ is_svg word.now (seen_row row.now) }
 {
-    match &row.body {
+    match row.body.get() {
         Body::Element {
             space: Space::Svg,
             tag,

@@ -55,7 +55,7 @@ pub(crate) fn place_of(first: Caption, kind: Option<CaptionKind>, row: &Row) -> 
 fn stands_apart(row: &Row) -> bool
     ensures { result ≡ stands_apart (seen_row row.now).body }
 {
-    match &row.body {
+    match row.body.get() {
         Body::Element { tag, .. } => !is_inline(known_tag(tag.as_str())),
         Body::Words { .. } => false,
     }

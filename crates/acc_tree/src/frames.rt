@@ -9,7 +9,7 @@ ghost use Rattle.acc_tree.specs.Frames.{is_sectioning, holds_items, is_table, is
 use crate::attributes::{Attribute, has};
 use crate::inclusion::is_hidden;
 use crate::lent::Above;
-use crate::tags::{Tag, any_tag, html_tag};
+use crate::tags::{Tag, any_tag, in_html};
 use snap_tree::{NodeId, Row};
 
 fn is_sectioning(tag: Option<Tag>) -> bool
@@ -21,13 +21,13 @@ fn is_sectioning(tag: Option<Tag>) -> bool
     )
 }
 
-fn holds_items(tag: Option<Tag>) -> bool
+pub(crate) fn holds_items(tag: Option<Tag>) -> bool
     ensures { result ≡ holds_items tag }
 {
     matches!(tag, Some(Tag::Ul | Tag::Ol | Tag::Menu))
 }
 
-fn is_table(tag: Option<Tag>) -> bool
+pub(crate) fn is_table(tag: Option<Tag>) -> bool
     ensures { result ≡ is_table tag }
 {
     matches!(tag, Some(Tag::Table))
@@ -80,9 +80,10 @@ fn is_disabled(above: &Above<'_>, row: &Row, tag: Option<Tag>) -> bool
 pub fn under<'a>(above: &Above<'a>, row: &'a Row) -> Above<'a>
     ensures { result ≡ under above.now (seen_row row.now) }
 {
-    let tag = html_tag(row);
+    let any = any_tag(row);
+    let tag = in_html(row, any);
     Above {
-        in_section: above.in_section | is_sectioning(any_tag(row)),
+        in_section: above.in_section | is_sectioning(any),
         in_list: holds_items(tag),
         table: table_above(above, row, tag),
         label: label_above(above, row, tag),

@@ -1,4 +1,5 @@
-ghost use Rattle.std.specs.Prelude.{◌≡◌};
+ghost use Rattle.std.specs.Prelude.{◌≡◌, option_map};
+ghost use Rattle.std.specs.Option.{option_copied};
 ghost use Rattle.acc_tree.specs.Frames.{nothing_above, table_at};
 ghost use Rattle.acc_tree.specs.Seen.{seen_row};
 
@@ -57,6 +58,34 @@ impl<'a> Above<'a> {
             in_section: false,
             in_list: false,
             table: None,
+            label: None,
+            hidden: false,
+            disabled: false,
+        }
+    }
+
+    /// What is above a node of which only this is asked: whether the parent is an HTML ul, ol or menu.
+    pub(crate) fn in_list(in_list: bool) -> Self
+        ensures { result.in_list ≡ in_list }
+    {
+        Above {
+            in_section: false,
+            in_list,
+            table: None,
+            label: None,
+            hidden: false,
+            disabled: false,
+        }
+    }
+
+    /// What is above a node of which only the nearest HTML `table` is asked.
+    pub(crate) fn in_table(table: Option<&'a Row>) -> Self
+        ensures { result.table ≡ option_map (λ row. table_at (seen_row row)) (option_copied table.entry) }
+    {
+        Above {
+            in_section: false,
+            in_list: false,
+            table,
             label: None,
             hidden: false,
             disabled: false,

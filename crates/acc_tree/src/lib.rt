@@ -13,6 +13,7 @@
 
 mod above;
 mod aria;
+mod asked;
 mod attributes;
 mod frames;
 mod inclusion;

@@ -1,15 +1,15 @@
 ghost use Rattle.std.specs.Prelude.{◌≡◌};
 ghost use Rattle.acc_tree.specs.Seen.{seen_row, seen};
-ghost use Rattle.acc_tree.specs.Roles.{asks_above, tag_role, implicit, role_at, decorative};
+ghost use Rattle.acc_tree.specs.Roles.{implicit, role_at, decorative};
 ghost use Rattle.acc_tree.specs.Inclusion.{exposed, included};
 ghost use Rattle.acc_tree.specs.Sights.{above_children};
 ghost use Rattle.acc_tree.specs.Pages.{explicit_role, implicit_role, role, is_exposed, is_included, is_decorative};
 
+use crate::asked::tag_role_in;
 use crate::inclusion::is_hidden;
-use crate::lent::Above;
-use crate::roles::{explicit_at, is_presentational, tag_role};
-use crate::sights::{above_children, law_of_climbing};
-use crate::tags::{Tag, html_tag};
+use crate::roles::{explicit_at, is_presentational};
+use crate::sights::law_of_climbing;
+use crate::tags::html_tag;
 use snap_tree::{NodeId, Row, Tree};
 
 // Whether one of the ancestors has aria-hidden with the value `true`, given the parent's number. It
@@ -24,24 +24,6 @@ fn is_hidden_above(tree: &Tree, parent: Option<NodeId>) -> bool
     match tree.node(n) {
         Some(row) => is_hidden_above(tree, row.parent) | is_hidden(row),
         None => false,
-    }
-}
-
-fn asks_above(tag: Tag) -> bool
-    ensures { result ≡ asks_above tag }
-{
-    matches!(tag, Tag::Footer | Tag::Header | Tag::Li | Tag::Td)
-}
-
-#[tactic(auto, using(crate::proofs::Asking::not_asked))]
-fn tag_role_in(tree: &Tree, row: &Row, tag: Tag) -> Option<aria_tables::Role>
-    ensures { result ≡ tag_role (above_children (seen tree.now.trees) row.now.parent)
-        (seen_row row.now) tag }
-{
-    if asks_above(tag) {
-        tag_role(&above_children(tree, row.parent), row, tag)
-    } else {
-        tag_role(&Above::nothing(), row, tag)
     }
 }
 

@@ -1,5 +1,6 @@
-ghost use Rattle.std.specs.Prelude.{◌≡◌, ◌==◌, filter, length};
-ghost use Rattle.acc_tree.specs.Tags.{tag_word, all_tags, tag_among, known_tag, any_tag, html_tag};
+ghost use Rattle.std.specs.Prelude.{◌≡◌, ◌==◌, filter, length, false};
+ghost use Rattle.texts.specs.Words.{same_folded};
+ghost use Rattle.acc_tree.specs.Tags.{tag_word, all_tags, tag_among, known_tag, space_in, any_tag, in_html, html_tag};
 ghost use Rattle.acc_tree.specs.Seen.{seen_row};
 
 use snap_tree::{Body, Row, Space, same_folded};
@@ -292,12 +293,28 @@ fn tags_of_length(len: usize) -> &'static [Tag]
     }
 }
 
+// Whether two texts begin with the same letter, but for its case. Texts that don't are never the same.
+fn begin_alike(a: &str, b: &str) -> bool
+    ensures { result ≡ false → same_folded a.now b.now ≡ false }
+{
+    match (a.as_bytes().first(), b.as_bytes().first()) {
+        (Some(x), Some(y)) => x.eq_ignore_ascii_case(y),
+        _ => true,
+    }
+}
+
+// Most tags are told apart by their first letters.
+fn is_tag(text: &str, tag: Tag) -> bool
+    ensures { result ≡ same_folded text.now (tag_word tag) }
+{
+    let word = tag.word();
+    begin_alike(text, word) && same_folded(text, word)
+}
+
 fn tag_among(text: &str, tags: &[Tag]) -> Option<Tag>
     ensures { result ≡ tag_among text.now tags.now }
 {
-    tags.iter()
-        .copied()
-        .find(|tag| same_folded(text, tag.word()))
+    tags.iter().copied().find(|tag| is_tag(text, *tag))
 }
 
 /// The tag of a word, which compares ASCII case-insensitively; None where it isn't known. A word is
@@ -312,9 +329,22 @@ pub fn known_tag(text: &str) -> Option<Tag>
 pub fn any_tag(row: &Row) -> Option<Tag>
     ensures { result ≡ any_tag (seen_row row.now) }
 {
-    match &row.body {
+    match row.body.get() {
         Body::Element { tag, .. } => known_tag(tag.as_str()),
         Body::Words { .. } => None,
+    }
+}
+
+/// The known tag of a row of any name space, where the row is an HTML element.
+pub(crate) fn in_html(row: &Row, tag: Option<Tag>) -> Option<Tag>
+    ensures { result ≡ in_html (space_in (seen_row row.now).body) tag }
+{
+    match row.body.get() {
+        Body::Element {
+            space: Space::Html,
+            ..
+        } => tag,
+        _ => None,
     }
 }
 
@@ -322,7 +352,7 @@ pub fn any_tag(row: &Row) -> Option<Tag>
 pub fn html_tag(row: &Row) -> Option<Tag>
     ensures { result ≡ html_tag (seen_row row.now) }
 {
-    match &row.body {
+    match row.body.get() {
         Body::Element {
             space: Space::Html,
             tag,

@@ -1,5 +1,5 @@
 -- Pages that hold the same nodes in the same order.
-use Rattle.std.proofs.Common.{◌≡◌, ◌==◌, ◌||◌, ◌&&◌, ◌+◌, eqb, ℕ, List, [], ◌∷◌, map, Bool, true, false, if◌then◌else◌, Option, Some, None, refl, sym, ◌∙◌, ap, arith}
+use Rattle.std.proofs.Common.{◌≡◌, ◌==◌, ◌||◌, ◌&&◌, ◌+◌, ℕ, List, [], ◌∷◌, map, Bool, true, false, if◌then◌else◌, Option, Some, refl, sym, ◌∙◌, ap, arith}
 use Rattle.std.proofs.lemmas.Bool.Decides.{Decides-eqb, nat_tests}
 use Rattle.std.specs.List.{list_any}
 use Rattle.snap_tree.specs.declared.row.NodeId.{NodeId}
@@ -8,12 +8,14 @@ use Rattle.snap_tree.specs.Rows.{has_number}
 use Rattle.snap_tree.specs.Trees.{Trees, Document, rows_of}
 use Rattle.snap_tree.specs.Well.{AreApart, IsWell}
 use Rattle.acc_tree.specs.Seen.{seen}
+use Rattle.acc_tree.proofs.Finding.{rows_seen}
 use Rattle.keys.proofs.Pages.{page_seen}
 use Rattle.page_changes.specs.declared.flags.Flags.{Flags}
 use Rattle.page_changes.specs.Flags.{flags_of}
 use Rattle.engine.specs.declared.known.Known.{Known}
 use Rattle.engine.specs.declared.known.Placed.{Placed}
-use Rattle.engine.specs.Known.{first_known, placed_of, ArePlaced, are_of, in_order}
+use Rattle.engine.specs.Known.{first_known, placed_of, ArePlaced, same_nodes, in_order}
+use Rattle.engine.proofs.Kept.{map_seen}
 
 abbrev all_flags : Trees → Trees → List Row → List Flags
 all_flags old new rows = map (λ row. flags_of old new row.id) rows
@@ -56,19 +58,20 @@ in_place old new from (r ∷ rows) apart =
     ∙ ap (λ l. P (r.id.0 == r.id.0) ∷ l)
     (in_place old new (from + 1) rows apart.1 ∙ sym (later_same r.id k (λ n. first_known (from + 1) n (all_flags old new rows)) rows apart.0))
 
--- nodes of flags are those of the rows
-are_these : {X : Type 0} (g : NodeId → X) (old new : Trees) (before rows : List Row) → are_of (all_flags old new before) rows ≡ true → map (λ (row : Row). g row.id) before ≡ map (λ (row : Row). g row.id) rows
-are_these g old new [] [] h = refl
-are_these g old new [] (row ∷ rows) h = cc
-are_these g old new (r ∷ before) [] h = cc
-are_these g old new (r ∷ before) (row ∷ rows) h =
-    let parts = both (r.id.0 == row.id.0) (are_of (all_flags old new before) rows) h in
+-- what there is of the same nodes
+pub of_same : {X : Type 0} (g : NodeId → X) (before rows : List Row) → same_nodes before rows ≡ true → map (λ (row : Row). g row.id) before ≡ map (λ (row : Row). g row.id) rows
+of_same g [] [] h = refl
+of_same g [] (row ∷ rows) h = cc
+of_same g (r ∷ before) [] h = cc
+of_same g (r ∷ before) (row ∷ rows) h =
+    let parts = both (r.id.0 == row.id.0) (same_nodes before rows) h in
     let one : r.id.0 ≡ row.id.0 = (Decides-eqb r.id.0 row.id.0).0 parts.0 in
     let id : r.id ≡ row.id = ap (λ k. let n : NodeId = record { 0 = k } in n) one in
-    (λ i. g (id i) ∷ are_these g old new before rows parts.1 i)
+    (λ i. g (id i) ∷ of_same g before rows parts.1 i)
 
-pub placed_in_order : (old new : Document) (flags : List Flags) (placed : List Placed) → IsWell old.trees → flags ≡ all_flags (seen old.trees) (seen new.trees) (rows_of (seen old.trees)) → are_of flags (rows_of new.trees) ≡ true
+pub placed_in_order : (old new : Document) (flags : List Flags) (placed : List Placed) → IsWell old.trees → flags ≡ all_flags (seen old.trees) (seen new.trees) (rows_of (seen old.trees)) → same_nodes (rows_of old.trees) (rows_of new.trees) ≡ true
     → placed ≡ in_order 0 flags → ArePlaced old new placed
 placed_in_order old new flags placed well is same placed_is =
     placed_is ∙ ap (in_order 0) is ∙ in_place (seen old.trees) (seen new.trees) 0 (rows_of (seen old.trees)) (page_seen old.trees well).apart
-    ∙ are_these (placed_of old new) (seen old.trees) (seen new.trees) (rows_of (seen old.trees)) (rows_of new.trees) (ap (λ f. are_of f (rows_of new.trees)) (sym is) ∙ same)
+    ∙ ap (map (λ (row : Row). placed_of old new row.id)) (rows_seen old.trees) ∙ map_seen (placed_of old new) (rows_of old.trees)
+    ∙ of_same (placed_of old new) (rows_of old.trees) (rows_of new.trees) same

@@ -1,5 +1,5 @@
 -- What is judged is what the edit affects, and what is kept is right.
-use Rattle.std.proofs.Common.{◌≡◌, ◌&&◌, ◌||◌, ◌==◌, ◌+◌, not, ℕ, suc, List, [], ◌∷◌, map, Bool, true, false, if◌then◌else◌, slice_get, Option, Some, None, option_map, Bor, refl, sym, ◌∙◌, ap, arith}
+use Rattle.std.proofs.Common.{◌≡◌, ◌&&◌, ◌||◌, ◌==◌, ◌+◌, not, ℕ, suc, List, [], ◌∷◌, map, Bool, true, false, if◌then◌else◌, slice_get, Option, Some, None, option_map, IfSome, Bor, refl, sym, ◌∙◌, ap, arith}
 use Rattle.std.proofs.lemmas.Bool.Decides.{Decides-eqb}
 use Rattle.std.proofs.lemmas.List.Folds.{list_all-append}
 use Rattle.std.specs.Option.{is_some, option_copied}
@@ -97,7 +97,7 @@ pub held_is : (old new : Document) (n : NodeId) → is_some (known_of old new n)
 held_is old new n =
     lost (seen old.trees) (seen new.trees) n 0 (rows_of (seen old.trees)) ∙ ap (λ rows. is_some (find (has_number n) rows)) (rows_seen old.trees) ∙ some_seen n (rows_of old.trees)
 
-map_seen : {X : Type 0} (g : NodeId → X) (rows : List Row) → map (λ row. g row.id) (map seen_row rows) ≡ map (λ row. g row.id) rows
+pub map_seen : {X : Type 0} (g : NodeId → X) (rows : List Row) → map (λ row. g row.id) (map seen_row rows) ≡ map (λ row. g row.id) rows
 map_seen g [] = refl
 map_seen g (row ∷ rows) = ap (λ xs. g row.id ∷ xs) (map_seen g rows)
 
@@ -118,15 +118,16 @@ is_known old new n g k e =
 
 -- ---- the row that a node had
 
-pub kept_is : (book : Book) (old new : Document) (js : List Judgement) (rule : RuleNo) (n : NodeId) (before : List (Option OutRow)) → WereRows book old js rule before
-    → kept_at before (known_of old new n) ≡ (if is_held old n then atomic_row book old js rule n else None)
-kept_is book old new js rule n before w = by_known (known_of old new n) refl (held_is old new n)
-  where
-    by_known : (o : Option Known) → known_of old new n ≡ o → is_some o ≡ is_held old n → kept_at before o ≡ (if is_held old n then atomic_row book old js rule n else None)
-    by_known None e h = ap (λ b. if b then atomic_row book old js rule n else None) h
-    by_known (Some k) e h =
-        let known = is_known old new n (atomic_row book old js rule) k e in
-        ap (λ xs. joined (slice_get xs k.place)) w ∙ ap joined known.value ∙ ap (λ b. if b then atomic_row book old js rule n else None) h
+pub had_at : (book : Book) (old new : Document) (js : List Judgement) (rule : RuleNo) (n : NodeId) (before : List (Option OutRow)) → WereRows book old js rule before → (known : Option Known) → known ≡ known_of old new n
+    → (row : Option OutRow) → row ≡ kept_at before known → IfSome known (λ k. row ≡ atomic_row book old js rule n)
+had_at book old new js rule n before w None e row r = tt
+had_at book old new js rule n before w (Some k) e row r =
+    let is = is_known old new n (atomic_row book old js rule) k (sym e) in
+    r ∙ ap (λ xs. joined (slice_get xs k.place)) w ∙ ap joined is.value
+
+pub had_each : {X : Type 0} {P : Type 0} (o : Option X) → P → IfSome o (λ k. P)
+had_each None h = tt
+had_each (Some k) h = h
 
 had_row : (book : Book) (page : Document) (js : List Judgement) (rule : RuleNo) (n : NodeId) → is_some (atomic_row book page js rule n) ≡ is_some (book.means rule page n)
 had_row book page js rule n = by_verdict (book.means rule page n)
@@ -135,55 +136,42 @@ had_row book page js rule n = by_verdict (book.means rule page n)
     by_verdict None = refl
     by_verdict (Some v) = refl
 
+some_copied : (o : Option (Bor OutRow)) → is_some o ≡ is_some (option_copied o)
+some_copied None = refl
+some_copied (Some x) = refl
+
 -- ---- what has to be judged is affected, and nothing else
 
-pub judged_is : (book : Book) (info : RuleInfo) (old new : Document) (js : List Judgement) (n : NodeId) (before : List (Option OutRow)) → WereRows book old js info.no before
-    → has_to_judge info (known_of old new n) (is_some (kept_at before (known_of old new n))) ≡ is_affected info (book.means info.no) old new n
-judged_is book info old new js n before w = by_known (known_of old new n) refl (held_is old new n) (kept_is book old new js info.no n before w)
+pub judged_here : (book : Book) (info : RuleInfo) (old new : Document) (js : List Judgement) (n : NodeId) (known : Option Known) → known ≡ known_of old new n
+    → (row : Option (Bor OutRow)) → IfSome known (λ k. option_copied row ≡ atomic_row book old js info.no n) → has_to_judge info known (is_some row) ≡ is_affected info (book.means info.no) old new n
+judged_here book info old new js n known e row had = by_known known e (ap is_some e ∙ held_is old new n) had
   where
-    by_known : (o : Option Known) → known_of old new n ≡ o → is_some o ≡ is_held old n → kept_at before o ≡ (if is_held old n then atomic_row book old js info.no n else None)
-        → has_to_judge info o (is_some (kept_at before o)) ≡ (not (is_held old n) || not (agrees info (book.means info.no) old new n))
-    by_known None e h k = ap (λ b. not b || not (agrees info (book.means info.no) old new n)) h
-    by_known (Some known) e h k =
-        let is = is_known old new n (λ m. m) known e in
-        let target : is_some (kept_at before (Some known)) ≡ is_some ((book.means info.no) old n) = ap is_some (k ∙ ap (λ b. if b then atomic_row book old js info.no n else None) (sym h)) ∙ had_row book old js info.no n in
+    by_known : (o : Option Known) → o ≡ known_of old new n → is_some o ≡ is_held old n → IfSome o (λ k. option_copied row ≡ atomic_row book old js info.no n)
+        → has_to_judge info o (is_some row) ≡ (not (is_held old n) || not (agrees info (book.means info.no) old new n))
+    by_known None e h r = ap (λ b. not b || not (agrees info (book.means info.no) old new n)) h
+    by_known (Some known) e h r =
+        let is = is_known old new n (λ m. m) known (sym e) in
+        let target : is_some row ≡ is_some ((book.means info.no) old n) = some_copied row ∙ ap is_some r ∙ had_row book old js info.no n in
         let class : (class : Class) → class_flag class known.flags ≡ all_same (seen old.trees) (seen new.trees) (class_keys class (seen old.trees) n) = λ class. ap (class_flag class) is.flags ∙ class_is (seen old.trees) (seen new.trees) n class in
-        let parts : (class_flag info.applies known.flags && (if is_some (kept_at before (Some known)) then class_flag info.expects known.flags else true)) ≡ agrees info (book.means info.no) old new n =
+        let parts : (class_flag info.applies known.flags && (if is_some row then class_flag info.expects known.flags else true)) ≡ agrees info (book.means info.no) old new n =
         (λ i. class info.applies i && (if target i then class info.expects i else true))
         ∙ ap (λ b. all_same (seen old.trees) (seen new.trees) (class_keys info.applies (seen old.trees) n) && b) (if_keys (seen old.trees) (seen new.trees) (is_some ((book.means info.no) old n)) (class_keys info.expects (seen old.trees) n))
         ∙ sym (list_all-append (same (seen old.trees) (seen new.trees)) (class_keys info.applies (seen old.trees) n) (if is_some ((book.means info.no) old n) then class_keys info.expects (seen old.trees) n else [])) in
         ap not parts ∙ ap (λ b. not b || not (agrees info (book.means info.no) old new n)) h
-
-held_where_unaffected : (held agree : Bool) → (not held || not agree) ≡ false → held ≡ true
-held_where_unaffected true agree h = refl
-held_where_unaffected false agree h = cc
 
 -- a row under other judgements
 row_anew : (rule : RuleNo) (n : NodeId) (earlier js : List Judgement) (o : Option Verdict) → option_map (again js) (option_map (row_of rule n earlier) o) ≡ option_map (row_of rule n js) o
 row_anew rule n earlier js None = refl
 row_anew rule n earlier js (Some v) = refl
 
--- where the edit doesn't affect a rule on a node, the row that the node had is the one that it has, under whatever judgements
-pub kept_right : (book : Book) (info : RuleInfo) → IsLocal info (book.means info.no) → (old new : Document) → AreVersions old new → (earlier js : List Judgement) (n : NodeId) (before : List (Option OutRow)) → WereRows book old earlier info.no before
-    → is_affected info (book.means info.no) old new n ≡ false → option_map (again js) (kept_at before (known_of old new n)) ≡ atomic_row book new js info.no n
-kept_right book info local old new versions earlier js n before w e =
-    ap (option_map (again js)) (kept_is book old new earlier info.no n before w
-    ∙ ap (λ b. if b then atomic_row book old earlier info.no n else None) (held_where_unaffected (is_held old n) (agrees info (book.means info.no) old new n) e))
-    ∙ row_anew info.no n earlier js (book.means info.no old n)
-    ∙ ap (option_map (row_of info.no n js)) (keeps_the_rest info (book.means info.no) local old new n versions e)
-
--- ---- of a row that was looked up
-
-some_copied : (o : Option (Bor OutRow)) → is_some o ≡ is_some (option_copied o)
-some_copied None = refl
-some_copied (Some x) = refl
-
-pub judged_here : (book : Book) (info : RuleInfo) (old new : Document) (js : List Judgement) (n : NodeId) (before : List (Option OutRow)) → WereRows book old js info.no before → (known : Option Known) → known ≡ known_of old new n
-    → (row : Option (Bor OutRow)) → option_copied row ≡ kept_at before known → has_to_judge info known (is_some row) ≡ is_affected info (book.means info.no) old new n
-judged_here book info old new js n before w known e row r =
-    ap (has_to_judge info known) (some_copied row ∙ ap is_some r) ∙ ap (λ o. has_to_judge info o (is_some (kept_at before o))) e ∙ judged_is book info old new js n before w
-
-pub kept_here : (book : Book) (info : RuleInfo) → IsLocal info (book.means info.no) → (old new : Document) → AreVersions old new → (earlier js : List Judgement) (n : NodeId) (before : List (Option OutRow)) → WereRows book old earlier info.no before
-    → (known : Option Known) → known ≡ known_of old new n → (row : Option (Bor OutRow)) → option_copied row ≡ kept_at before known → has_to_judge info known (is_some row) ≡ false → option_map (again js) (option_copied row) ≡ atomic_row book new js info.no n
-kept_here book info local old new versions earlier js n before w known e row r off =
-    ap (option_map (again js)) (r ∙ ap (kept_at before) e) ∙ kept_right book info local old new versions earlier js n before w (sym (judged_here book info old new earlier n before w known e row r) ∙ off)
+-- where a node need not be judged, the row that it had is the one that it has, under whatever judgements
+pub kept_here : (book : Book) (info : RuleInfo) → IsLocal info (book.means info.no) → (old new : Document) → AreVersions old new → (earlier js : List Judgement) (n : NodeId) (known : Option Known) → known ≡ known_of old new n
+    → (row : Option (Bor OutRow)) → IfSome known (λ k. option_copied row ≡ atomic_row book old earlier info.no n) → has_to_judge info known (is_some row) ≡ false → option_map (again js) (option_copied row) ≡ atomic_row book new js info.no n
+kept_here book info local old new versions earlier js n known e row had off = by_known known had off (sym (judged_here book info old new earlier n known e row had) ∙ off)
+  where
+    by_known : (o : Option Known) → IfSome o (λ k. option_copied row ≡ atomic_row book old earlier info.no n) → has_to_judge info o (is_some row) ≡ false → is_affected info (book.means info.no) old new n ≡ false
+        → option_map (again js) (option_copied row) ≡ atomic_row book new js info.no n
+    by_known None r off unaffected = cc
+    by_known (Some k) r off unaffected =
+        ap (option_map (again js)) r ∙ row_anew info.no n earlier js (book.means info.no old n)
+        ∙ ap (option_map (row_of info.no n js)) (keeps_the_rest info (book.means info.no) local old new n versions unaffected)

@@ -4,3 +4,5 @@ pub mod Earlier
 pub mod Kept
 pub mod Sums
 pub mod InOrder
+mod Reaching
+mod Along

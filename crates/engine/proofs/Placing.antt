@@ -1,6 +1,5 @@
 -- The nodes of the new page, with what is known of each.
-use Rattle.std.proofs.Common.{◌≡◌, ◌<◌, ℕ, zero, suc, List, [], ◌∷◌, length, filter, map, get_or, Bool, Option, refl, sym, ◌∙◌, ap, arith}
-use Rattle.std.proofs.lemmas.List.{length-map}
+use Rattle.std.proofs.Common.{◌≡◌, List, length, filter, map, Bool, Option, sym, ◌∙◌, ap}
 use Rattle.std.specs.List.{filter_map}
 use Rattle.snap_tree.specs.declared.row.NodeId.{NodeId}
 use Rattle.snap_tree.specs.declared.row.Row.{Row}
@@ -10,17 +9,6 @@ use Rattle.engine.specs.declared.known.Placed.{Placed}
 use Rattle.engine.specs.Known.{placed_of, ArePlaced}
 use Rattle.judged_rows.proofs.Merged.{filter_map_map}
 use Rattle.engine.proofs.Counts.{length-filter-map}
-
--- each item of the list is placed
-each_placed : (old new : Document) (rows : List Row) (i : ℕ) (d : Placed) → i < length rows → get_or (map (λ row. placed_of old new row.id) rows) i d ≡ placed_of old new (get_or (map (λ row. placed_of old new row.id) rows) i d).node
-each_placed old new [] i d h = let none : ⊥ = omega (arith, h) in absurd none
-each_placed old new (row ∷ rows) zero d h = refl
-each_placed old new (row ∷ rows) (suc i) d h = each_placed old new rows i d (omega (arith, h))
-
-pub placed_at : (old new : Document) (placed : List Placed) → ArePlaced old new placed → (i : ℕ) (d : Placed) → i < length placed → get_or placed i d ≡ placed_of old new (get_or placed i d).node
-placed_at old new placed p i d within =
-    let at : get_or placed i d ≡ get_or (map (λ row. placed_of old new row.id) (rows_of new.trees)) i d = ap (λ xs. get_or xs i d) p in
-    at ∙ each_placed old new (rows_of new.trees) i d (omega (arith, within, ap length p, length-map (rows_of new.trees) (λ (row : Row). placed_of old new row.id))) ∙ ap (λ (x : Placed). placed_of old new x.node) (sym at)
 
 -- those that pass a test of their numbers
 pub affected_in : (old new : Document) (placed : List Placed) → ArePlaced old new placed → (test : NodeId → Bool) → length (filter (λ (p : Placed). test p.node) placed) ≡ length (filter test (map (λ row. row.id) (rows_of new.trees)))

@@ -1,5 +1,6 @@
 -- The rows that the nodes of a page had.
-use Rattle.std.specs.Prelude.{◌≡◌, List, map, slice_get, Option, Some, None}
+use Rattle.std.specs.Prelude.{◌≡◌, List, map, slice_get, Option, Some, None, IfSome}
+use Rattle.std.specs.List.{filter_map}
 use Rattle.snap_tree.specs.Trees.{Document, rows_of}
 use Rattle.rule_core.specs.declared.info.RuleNo.{RuleNo}
 use Rattle.rule_core.specs.Books.{Book}
@@ -7,6 +8,7 @@ use Rattle.judge_core.specs.declared.judgement.Judgement.{Judgement}
 use Rattle.judge_core.specs.declared.outcomes.OutRow.{OutRow}
 use Rattle.judge_core.specs.Outcomes.{atomic_row}
 use Rattle.engine.specs.declared.known.Known.{Known}
+use Rattle.engine.specs.declared.known.Placed.{Placed}
 
 abbrev pub joined : Option (Option OutRow) → Option OutRow
 joined None = None
@@ -20,3 +22,11 @@ kept_at before (Some known) = joined (slice_get before known.place)
 -- the rows that a rule had on the nodes of the old page, in the order of the nodes
 abbrev pub WereRows : Book → Document → List Judgement → RuleNo → List (Option OutRow) → Type 0
 WereRows book old js rule before = before ≡ map (λ row. atomic_row book old js rule row.id) (rows_of old.trees)
+
+-- the row that a rule had on a node, where the old page holds the node
+abbrev pub HadRow : Book → Document → List Judgement → RuleNo → Placed → Option OutRow → Type 0
+HadRow book old js rule placed row = IfSome placed.known (λ k. row ≡ atomic_row book old js rule placed.node)
+
+-- the rows that a rule had, where the nodes of the old page are these, in their order
+abbrev pub HadRows : Book → Document → List Judgement → RuleNo → List Placed → List OutRow → Type 0
+HadRows book old js rule placed rows = rows ≡ filter_map (atomic_row book old js rule) (map (λ p. p.node) placed)

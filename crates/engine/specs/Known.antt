@@ -1,8 +1,5 @@
 -- What is known of the nodes of a page that was edited.
 use Rattle.std.specs.Prelude.{◌≡◌, ◌==◌, ◌+◌, ◌&&◌, not, ℕ, List, [], ◌∷◌, map, Bool, true, false, if◌then◌else◌, Option, Some, None}
-use Rattle.std.specs.BTreeMap.{BTreeMap, get}
-use Rattle.std.specs.Option.{option_or}
-use Rattle.std.specs.Ordering.{nat_cmp}
 use Rattle.snap_tree.specs.declared.row.NodeId.{NodeId}
 use Rattle.snap_tree.specs.declared.row.Row.{Row}
 use Rattle.snap_tree.specs.Trees.{Document, rows_of}
@@ -20,15 +17,6 @@ abbrev pub first_known : ℕ → ℕ → List Flags → Option Known
 first_known from n [] = None
 first_known from n (f ∷ list) = if f.node.0 == n then Some (record { place = from; flags = f }) else first_known (from + 1) n list
 
-abbrev pub HasEach : List Flags → BTreeMap ℕ Known → Type 0
-HasEach list by_number = (n : ℕ) → get nat_cmp by_number n ≡ first_known 0 n list
-
-abbrev pub HasPut : BTreeMap ℕ Known → BTreeMap ℕ Known → ℕ → Flags → Type 0
-HasPut old new place f = (n : ℕ) → get nat_cmp new n ≡ option_or (get nat_cmp old n) (if f.node.0 == n then Some (record { place = place; flags = f }) else None)
-
-abbrev pub placed_by : BTreeMap ℕ Known → NodeId → Placed
-placed_by by_number n = record { node = n; known = get nat_cmp by_number n.0 }
-
 -- what is known of a number: its place on the old page, and what of it is the same
 abbrev pub known_of : Document → Document → NodeId → Option Known
 known_of old new n = first_known 0 n.0 (map (λ row. flags_of (seen old.trees) (seen new.trees) row.id) (rows_of (seen old.trees)))
@@ -40,12 +28,12 @@ placed_of old new n = record { node = n; known = known_of old new n }
 abbrev pub ArePlaced : Document → Document → List Placed → Type 0
 ArePlaced old new placed = placed ≡ map (λ row. placed_of old new row.id) (rows_of new.trees)
 
--- flags are of these nodes, in their order
-abbrev pub are_of : List Flags → List Row → Bool
-are_of [] [] = true
-are_of [] (row ∷ rows) = false
-are_of (f ∷ flags) [] = false
-are_of (f ∷ flags) (row ∷ rows) = f.node.0 == row.id.0 && are_of flags rows
+-- pages hold the same nodes, in the same order
+abbrev pub same_nodes : List Row → List Row → Bool
+same_nodes [] [] = true
+same_nodes [] (row ∷ rows) = false
+same_nodes (r ∷ before) [] = false
+same_nodes (r ∷ before) (row ∷ rows) = r.id.0 == row.id.0 && same_nodes before rows
 
 -- the nodes of flags in their order, with their places, counted from `from`
 abbrev pub in_order : ℕ → List Flags → List Placed

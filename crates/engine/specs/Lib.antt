@@ -1,3 +1,5 @@
 pub mod Known
+pub mod ByNumber
 pub mod Before
 pub mod Costs
+pub mod Nodes

@@ -5,11 +5,11 @@ ghost use Rattle.judge_core.specs.Outcomes.{rule_rows, outcomes, judgings};
 ghost use Rattle.judged_rows.specs.ByNode.{IsByNode};
 ghost use Rattle.judged_rows.specs.Parts.{IsPart};
 ghost use Rattle.rule_core.specs.Reach.{affected};
-ghost use Rattle.engine.specs.Known.{ArePlaced};
+ghost use Rattle.engine.specs.Nodes.{AreNodes};
 ghost use Rattle.engine.specs.Costs.{affected_cost, whole_cost};
 
 use crate::again::atomic_again;
-use crate::known::{Placed, known_nodes};
+use crate::nodes::{Nodes, nodes_of};
 use judge_core::{Judgement, OutRow, Outcomes, infos_of};
 use judged_rows::{ByNode, Part, atomic_part, by_node, composite_part, joined_parts, split_rule};
 use rule_core::{RuleBook, RuleInfo};
@@ -37,14 +37,14 @@ pub fn reaudit<B: RuleBook>(
 {
     let infos = infos_of(alloc, book)?;
     let by_node = by_node(alloc, js)?;
-    let placed = known_nodes(alloc, old, new)?;
+    let nodes = nodes_of(alloc, old, new)?;
     let parts = parts_again(
         alloc,
         book,
         infos.as_slice(),
         old,
         new,
-        placed.as_slice(),
+        &nodes,
         rows.rows.as_slice(),
         &by_node,
     )?;
@@ -61,13 +61,13 @@ fn parts_again<B: RuleBook>(
     infos: &[RuleInfo],
     old: &Tree,
     new: &Tree,
-    placed: &[Placed],
+    nodes: &Nodes<'_>,
     rows: &[OutRow],
     by_node: &ByNode<'_>,
 ) -> Result<Vec<Part>, OutOfMemory>
     requires infos { infos.now ≡ B.book.infos }
     requires address { old.now.address ≡ new.now.address }
-    requires placed { ArePlaced old.now new.now placed.now }
+    requires nodes { AreNodes old.now new.now nodes.now }
     ensures infos { IfOk result (λ parts. map (λ p. p.info) parts.items ≡ infos.now) }
     ensures parts { (earlier js : List Judgement) → rows.now ≡ outcomes B.book old.now earlier → IsByNode js by_node.now
         → IfOk result (λ parts. AllByRecursion (IsPart B.book new.now js) parts.items) }
@@ -79,7 +79,7 @@ fn parts_again<B: RuleBook>(
     let mut left = rows;
     for info in infos {
         let (own, others) = split_rule(left, info.no);
-        let part = part_again(alloc, book, info, old, new, placed, own, by_node)?;
+        let part = part_again(alloc, book, info, old, new, nodes, own, by_node)?;
         parts.push(part)?;
         left = others;
     }
@@ -93,13 +93,13 @@ fn part_again<B: RuleBook>(
     info: &RuleInfo,
     old: &Tree,
     new: &Tree,
-    placed: &[Placed],
+    nodes: &Nodes<'_>,
     rows: &[OutRow],
     by_node: &ByNode<'_>,
 ) -> Result<Part, OutOfMemory>
     requires known { Contains B.book.infos info.now }
     requires address { old.now.address ≡ new.now.address }
-    requires placed { ArePlaced old.now new.now placed.now }
+    requires nodes { AreNodes old.now new.now nodes.now }
     ensures info { IfOk result (λ part. part.info ≡ info.now) }
     ensures part { (earlier js : List Judgement) → rows.now ≡ rule_rows B.book old.now earlier info.now
         → IsByNode js by_node.now → IfOk result (λ part. IsPart B.book new.now js part) }
@@ -108,7 +108,7 @@ fn part_again<B: RuleBook>(
     ensures within { B.calls book.new ≤ B.calls book.old + whole_cost new.now info.now }
 {
     if info.is_atomic() {
-        let rows = atomic_again(alloc, book, info, old, new, placed, rows, by_node)?;
+        let rows = atomic_again(alloc, book, info, old, new, nodes, rows, by_node)?;
         Ok(atomic_part(alloc, info, rows))
     } else {
         composite_part(alloc, info, new)

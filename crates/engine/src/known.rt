@@ -1,15 +1,14 @@
-ghost use Rattle.std.specs.Prelude.{◌≡◌, ℕ, map, IfOk, OnOk};
-ghost use Rattle.std.specs.BTreeMap.{get};
-ghost use Rattle.std.specs.Ordering.{nat_cmp};
+ghost use Rattle.std.specs.Prelude.{◌≡◌, map, IfOk};
 ghost use Rattle.snap_tree.specs.Well.{IsWell};
 ghost use Rattle.acc_tree.specs.Seen.{seen};
 ghost use Rattle.page_changes.specs.Flags.{AreFlags};
-ghost use Rattle.engine.specs.Known.{HasEach, HasPut, placed_by, ArePlaced, are_of, in_order};
+ghost use Rattle.engine.specs.ByNumber.{placed_by};
+ghost use Rattle.engine.specs.Known.{ArePlaced, in_order, same_nodes};
 
+use crate::by_number::{ByNumber, by_number, found};
 use page_changes::{Flags, changes};
 use snap_tree::{NodeId, OutOfMemory, Row, Tree};
 use std::alloc::Global;
-use std::collections::BTreeMap;
 
 /// What is known of a node of the old page: its place in document order, from 0, and what of it is the same.
 #[derive(Clone, Copy, Debug)]
@@ -25,31 +24,6 @@ pub struct Placed {
     pub known: Option<Known>,
 }
 
-type ByNumber = BTreeMap<u32, Known>;
-
-fn put(by_number: &mut ByNumber, place: usize, flags: Flags) -> Result<(), OutOfMemory>
-    ensures { OnOk result (HasPut by_number.old by_number.new place flags) }
-{
-    by_number
-        .entry(flags.node.0)?
-        .or_insert(Known { place, flags });
-    Ok(())
-}
-
-fn by_number(alloc: Global, list: &[Flags]) -> Result<ByNumber, OutOfMemory>
-    ensures { IfOk result (λ by_number. HasEach list.now by_number) }
-{
-    let mut by_number: ByNumber = BTreeMap::new(alloc);
-    let mut rest = list;
-    let mut place = 0;
-    while let Some((flags, later)) = rest.split_first() {
-        put(&mut by_number, place, *flags)?;
-        place += 1;
-        rest = later;
-    }
-    Ok(by_number)
-}
-
 fn place_all(alloc: Global, by_number: &ByNumber, rows: &[Row]) -> Result<Vec<Placed>, OutOfMemory>
     ensures { IfOk result (λ placed. placed.items ≡ map (λ row. placed_by by_number.now row.id) rows.now) }
 {
@@ -57,23 +31,23 @@ fn place_all(alloc: Global, by_number: &ByNumber, rows: &[Row]) -> Result<Vec<Pl
     for row in rows {
         placed.push(Placed {
             node: row.id,
-            known: by_number.get(&row.id.0).copied(),
+            known: found(by_number, row.id),
         })?;
     }
     Ok(placed)
 }
 
-// Whether flags are of these nodes, in their order.
-fn are_of(flags: &[Flags], rows: &[Row]) -> bool
-    ensures { result ≡ are_of flags.now rows.now }
+/// Whether pages with these rows hold the same nodes, in the same order.
+pub(crate) fn same_nodes(old: &[Row], new: &[Row]) -> bool
+    ensures { result ≡ same_nodes old.now new.now }
 {
-    let mut left = flags;
-    let mut right = rows;
+    let mut left = old;
+    let mut right = new;
     loop {
         match (left.split_first(), right.split_first()) {
             (None, None) => return true,
-            (Some((flags, more)), Some((row, others))) => {
-                if flags.node.0 != row.id.0 {
+            (Some((before, more)), Some((row, others))) => {
+                if before.id.0 != row.id.0 {
                     return false;
                 }
                 left = more;
@@ -118,7 +92,7 @@ pub fn known_nodes(alloc: Global, old: &Tree, new: &Tree) -> Result<Vec<Placed>,
 {
     well(old);
     let flags = changes(alloc, old, new)?;
-    if are_of(flags.as_slice(), new.rows()) {
+    if same_nodes(old.rows(), new.rows()) {
         return place_in_order(alloc, flags.as_slice());
     }
     let by_number = by_number(alloc, flags.as_slice())?;

@@ -4,9 +4,12 @@
 
 mod again;
 mod before;
+mod by_number;
 mod edited;
 mod known;
+mod nodes;
 
 pub use again::atomic_again;
 pub use edited::reaudit;
 pub use known::{Known, Placed, known_nodes};
+pub use nodes::{Nodes, nodes_of};

@@ -7,7 +7,7 @@ use crate::fault::{PageFault, RowFault};
 use crate::letters::{facts, named};
 use crate::pages::built;
 use crate::words::{cut, number, spaced};
-use snap_tree::{Attr, Body, Facts, List, NodeId, OutOfMemory, Row, Space, Text, Tree};
+use snap_tree::{Attr, Body, Facts, List, NodeId, OutOfMemory, Row, SharedBody, Space, Text, Tree};
 use std::alloc::Global;
 
 fn attr_of(alloc: Global, name: &str, value: &str) -> Result<Attr, OutOfMemory>
@@ -87,7 +87,7 @@ fn row_of(alloc: Global, text: &str, facts: Facts) -> Result<Row, RowFault>
     Ok(Row {
         id: NodeId(number(id)?),
         parent: named(number(parent)?),
-        body: body_of(alloc, word, attrs)?,
+        body: SharedBody::new(alloc, body_of(alloc, word, attrs)?)?,
         facts,
     })
 }

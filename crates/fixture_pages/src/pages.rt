@@ -7,7 +7,8 @@ ghost use Rattle.fixture_pages.specs.Sketches.{attr_of, element_of, body_of, fac
 use crate::letters::{facts, named};
 use crate::node::{Attrs, Node};
 use snap_tree::{
-    Attr, Body, BuildFault, Facts, List, NodeId, OutOfMemory, Raw, Row, Space, Text, Tree,
+    Attr, Body, BuildFault, Facts, List, NodeId, OutOfMemory, Raw, Row, SharedBody, Space, Text,
+    Tree,
 };
 use std::alloc::Global;
 
@@ -93,7 +94,7 @@ fn parent_of(node: Node) -> u32
 pub fn row(alloc: Global, number: u32, node: Node) -> Result<Row, OutOfMemory>
     ensures { IfOk result (λ row. row ≡ row_of number node.entry) }
 {
-    let body = body_of(alloc, node)?;
+    let body = SharedBody::new(alloc, body_of(alloc, node)?)?;
     let parent = named(parent_of(node));
     let facts = facts_of(node);
     Ok(Row {

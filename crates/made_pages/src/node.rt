@@ -1,7 +1,7 @@
 ghost use Rattle.std.specs.Prelude.{◌≡◌, [], IfOk};
 ghost use Rattle.made_pages.specs.Pages.{attr, below, element, no_facts, rv, rvft, words};
 
-use snap_tree::{Attr, Body, Facts, List, NodeId, OutOfMemory, Row, Space, Text};
+use snap_tree::{Attr, Body, Facts, List, NodeId, OutOfMemory, Row, SharedBody, Space, Text};
 use std::alloc::Global;
 
 /// The facts of what is rendered and visible, and stops the Tab key.
@@ -73,19 +73,26 @@ pub fn element(
     Ok(Row {
         id: NodeId(number),
         parent,
-        body,
+        body: SharedBody::new(alloc, body)?,
         facts,
     })
 }
 
 /// The text of this number, below its parent.
-pub fn words(number: u32, parent: Option<NodeId>, text: Text, facts: Facts) -> Row
-    ensures { result ≡ words number parent text facts }
+pub fn words(
+    alloc: Global,
+    number: u32,
+    parent: Option<NodeId>,
+    text: Text,
+    facts: Facts,
+) -> Result<Row, OutOfMemory>
+    ensures { IfOk result (λ row. row ≡ words number parent text facts) }
 {
-    Row {
+    let body = Body::Words { text };
+    Ok(Row {
         id: NodeId(number),
         parent,
-        body: Body::Words { text },
+        body: SharedBody::new(alloc, body)?,
         facts,
-    }
+    })
 }

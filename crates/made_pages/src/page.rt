@@ -25,7 +25,7 @@ fn top(alloc: Global, page: u32) -> Result<Vec<Row>, OutOfMemory>
     let head = element(alloc, 2, below(1), "head", no_attrs(alloc), NO_FACTS)?;
     let title = element(alloc, 3, below(2), "title", no_attrs(alloc), NO_FACTS)?;
     let text = Text::from_string(format!(in alloc; "Page {page}")?);
-    let text = words(4, below(3), text, NO_FACTS);
+    let text = words(alloc, 4, below(3), text, NO_FACTS)?;
     let body = element(alloc, 5, below(1), "body", no_attrs(alloc), RV)?;
     Ok(vec![in alloc; html, head, title, text, body]?)
 }

@@ -17,7 +17,13 @@ fn link(alloc: Global, n: u32) -> Result<Vec<Row>, OutOfMemory>
 {
     let href = attr(alloc, "href", "#x")?;
     let link = element(alloc, n + 3, below(n), "a", href, RVFT)?;
-    let text = words(n + 4, below(n + 3), Text::from_str(alloc, "More")?, RV);
+    let text = words(
+        alloc,
+        n + 4,
+        below(n + 3),
+        Text::from_str(alloc, "More")?,
+        RV,
+    )?;
     Ok(vec![in alloc; link, text]?)
 }
 
@@ -46,7 +52,13 @@ fn field(alloc: Global, n: u32) -> Result<Vec<Row>, OutOfMemory>
     ensures { IfOk result (λ rows. rows.items ≡ content Field n) }
 {
     let label = element(alloc, n + 3, below(n), "label", no_attrs(alloc), RV)?;
-    let text = words(n + 4, below(n + 3), Text::from_str(alloc, "Name")?, RV);
+    let text = words(
+        alloc,
+        n + 4,
+        below(n + 3),
+        Text::from_str(alloc, "Name")?,
+        RV,
+    )?;
     let of_text = attr(alloc, "type", "text")?;
     let input = element(alloc, n + 5, below(n + 3), "input", of_text, RVFT)?;
     Ok(vec![in alloc; label, text, input]?)
@@ -74,7 +86,7 @@ fn section(alloc: Global, part: u32, n: u32) -> Result<Vec<Row>, OutOfMemory>
     let text = Text::from_string(format!(in alloc; "Part {part}")?);
     let section = element(alloc, n, below(BODY), "section", no_attrs(alloc), RV)?;
     let heading = element(alloc, n + 1, below(n), "h2", no_attrs(alloc), RV)?;
-    let text = words(n + 2, below(n + 1), text, RV);
+    let text = words(alloc, n + 2, below(n + 1), text, RV)?;
     Ok(vec![in alloc; section, heading, text]?)
 }
 

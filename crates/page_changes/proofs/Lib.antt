@@ -7,3 +7,5 @@ pub mod Joining
 pub mod Remembering
 pub mod Twins
 pub mod Seeing
+pub mod Unreferring
+pub mod Tables

@@ -1,4 +1,4 @@
-ghost use Rattle.std.specs.Prelude.{◌≡◌, List, ◌∷◌, None, Some};
+ghost use Rattle.std.specs.Prelude.{◌≡◌, List, ◌∷◌, true, Some};
 ghost use Rattle.std.specs.Option.{option_copied, option_eq};
 ghost use Rattle.snap_tree.specs.declared.row.Row.{Row};
 ghost use Rattle.snap_tree.specs.Spots.{spot};
@@ -7,7 +7,7 @@ ghost use Rattle.acc_tree.specs.declared.above.Above.{Above};
 ghost use Rattle.acc_tree.specs.Seen.{seen_row, seen};
 ghost use Rattle.acc_tree.specs.Frames.{under, above_of};
 ghost use Rattle.acc_tree.specs.Sights.{Sight, sight_of};
-ghost use Rattle.page_changes.specs.Here.{own_here};
+ghost use Rattle.page_changes.specs.Here.{frame_here, own_here};
 ghost use Rattle.page_changes.specs.Beside.{same_table, same_above, IsPair, IsFramedBy, IsFramed, AreTwins};
 ghost use Rattle.keys.specs.Standing.{spot_with};
 
@@ -122,22 +122,17 @@ pub(crate) fn framed_apart<'a>(
     }
 }
 
-// What is above both is the same, so it is found only where the rows differ.
-fn framed_alike<'a>(old: &'a Tree, row: &'a Row, other: &'a Row, own: bool) -> Framed<'a>
-    ensures { (new : Trees) (ups others : List Row) (kids below : Trees)
-        → AreTwins (seen old.now.trees) new ups others (seen_row row.now) (seen_row other.now) kids below
-        → own ≡ own_here new (seen_row row.now) → IsPair None (above_of ups) (above_of others)
-        → IsFramed new ups others (seen_row row.now) (seen_row other.now) result }
+/// Whether a node has an equal row on the other page, where it stands under what is known to be above it, and what is
+/// above both is the same. Then its frame is the same, and what is above its children.
+pub(crate) fn is_alike(pair: Option<&Pair<'_>>, row: &Row, other: &Row, own: bool) -> bool
+    ensures { (old new : Trees) (ups others : List Row) (kids below : Trees)
+        → AreTwins old new ups others (seen_row row.now) (seen_row other.now) kids below
+        → own ≡ own_here new (seen_row row.now) → IsPair (option_copied pair.entry) (above_of ups) (above_of others) → result ≡ true
+        → (true ≡ frame_here new (above_of ups) (seen_row row.now)) × (above_of (seen_row row.now ∷ ups) ≡ above_of (seen_row other.now ∷ others)) }
 {
-    let alike = own & same_shape(row, other);
-    if alike {
-        Framed {
-            same: true,
-            below: None,
-        }
-    } else {
-        let above = above_at(old, row.id);
-        framed_by(&above, row, &above, other)
+    match pair {
+        Some(_) => false,
+        None => own & same_shape(row, other),
     }
 }
 
@@ -147,15 +142,17 @@ pub(crate) fn framed_under<'a>(
     pair: Option<&Pair<'a>>,
     row: &'a Row,
     other: &'a Row,
-    own: bool,
 ) -> Framed<'a>
     ensures { (new : Trees) (ups others : List Row) (kids below : Trees)
         → AreTwins (seen old.now.trees) new ups others (seen_row row.now) (seen_row other.now) kids below
-        → own ≡ own_here new (seen_row row.now) → IsPair (option_copied pair.entry) (above_of ups) (above_of others)
+        → IsPair (option_copied pair.entry) (above_of ups) (above_of others)
         → IsFramed new ups others (seen_row row.now) (seen_row other.now) result }
 {
     match pair {
         Some(pair) => framed_by(&pair.above, row, &pair.other, other),
-        None => framed_alike(old, row, other, own),
+        None => {
+            let above = above_at(old, row.id);
+            framed_by(&above, row, &above, other)
+        }
     }
 }

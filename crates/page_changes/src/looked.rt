@@ -46,6 +46,13 @@ fn is_aria(name: &str) -> bool
     }
 }
 
+/// Whether the name of some attribute begins `aria-`.
+pub(crate) fn has_aria(attrs: &[Attr]) -> bool
+    ensures { result ≡ list_any (λ a. is_aria a.name) attrs.now }
+{
+    attrs.iter().any(|attr| is_aria(attr.name.as_str()))
+}
+
 fn is_among(name: &str, words: &[&str]) -> bool
     ensures { result ≡ list_any (λ w. bytes_eq (folded name.now) (folded w.now)) words.now }
 {
@@ -113,6 +120,7 @@ pub(crate) fn same_attrs(a: &[Attr], b: &[Attr]) -> bool
     let mut right = b;
     loop {
         match (left.split_first(), right.split_first()) {
+            (None, None) => return true,
             (Some((one, more)), Some((other, others))) => {
                 if !same_attr(one, other) {
                     return same_looked(left, right);

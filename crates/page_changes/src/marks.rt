@@ -3,7 +3,7 @@ ghost use Rattle.std.specs.Option.{option_copied};
 ghost use Rattle.snap_tree.specs.declared.row.Row.{Row};
 ghost use Rattle.snap_tree.specs.Well.{IsWell};
 ghost use Rattle.acc_tree.specs.declared.above.Above.{Above};
-ghost use Rattle.acc_tree.specs.Frames.{above_of, is_table, under};
+ghost use Rattle.acc_tree.specs.Frames.{above_of, under};
 ghost use Rattle.acc_tree.specs.Seen.{seen, seen_row};
 ghost use Rattle.keys.specs.Classes.{table_in};
 ghost use Rattle.page_changes.specs.Beside.{AreBeside, ahead_of};
@@ -13,7 +13,6 @@ ghost use Rattle.page_changes.specs.Marks.{AreMarks};
 use crate::beside::Pair;
 use crate::labels::is_html;
 use crate::met::{Met, meet};
-use acc_tree::{Tag, html_tag};
 use snap_tree::{Branches, NodeId, OutOfMemory, Row, Tree};
 use std::alloc::Global;
 
@@ -44,17 +43,11 @@ pub(crate) struct PageMarks {
     pub(crate) all: bool,
 }
 
-fn is_table(tag: Option<Tag>) -> bool
-    ensures { result ≡ is_table tag }
-{
-    matches!(tag, Some(Tag::Table))
-}
-
 // The nearest table above the children of a row.
 fn table_under(table: Option<NodeId>, row: &Row) -> Option<NodeId>
     ensures { (above : Above) → table ≡ table_in above → result ≡ table_in (under above (seen_row row.now)) }
 {
-    if is_table(html_tag(row)) {
+    if is_html(row, "table") {
         Some(row.id)
     } else {
         table

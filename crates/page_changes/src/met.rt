@@ -9,7 +9,7 @@ ghost use Rattle.acc_tree.specs.Sights.{sight_of, seen_sight};
 ghost use Rattle.keys.specs.Standing.{spot_with, Stand};
 ghost use Rattle.page_changes.specs.Beside.{IsPair, Leads, Meets, ahead_of};
 
-use crate::beside::{Pair, framed_apart, framed_under, under_old};
+use crate::beside::{Pair, framed_apart, framed_under, is_alike, under_old};
 use crate::same::{same_owns, same_roots};
 use acc_tree::{Above, Sight, sight_of};
 use snap_tree::{Branch, Branches, NodeId, Row, Tree};
@@ -46,10 +46,22 @@ fn near<'a>(ahead: &Branches<'a>, n: NodeId, steps: usize) -> Option<Branch<'a>>
     }
 }
 
+// The same among the most that are looked at. Mostly it is the very first, which takes no recursion.
+fn first_or_near<'a>(ahead: &Branches<'a>, n: NodeId) -> Option<Branch<'a>>
+    ensures { IfSome result (λ branch. Leads (seen ahead.now) n branch) }
+{
+    let branch = ahead.first()?;
+    if branch.row.id == n {
+        Some(branch)
+    } else {
+        near(&branch.after, n, NEAR - 1)
+    }
+}
+
 fn leading<'a>(ahead: Option<&Branches<'a>>, n: NodeId) -> Option<Branch<'a>>
     ensures { IfSome result (λ branch. Leads (ahead_of (option_copied ahead.entry)) n branch) }
 {
-    near(ahead?, n, NEAR)
+    first_or_near(ahead?, n)
 }
 
 // A node that stands ahead on the other page.
@@ -67,14 +79,25 @@ fn met_ahead<'a>(
 {
     let own = same_owns(row, branch.row);
     let kids = same_roots(kids, &branch.kids);
-    let framed = framed_under(old, pair, row, branch.row, own);
-    Met {
-        frame: framed.same,
-        own,
-        kids,
-        below: Some(branch.kids),
-        pair: framed.below,
-        after: Some(branch.after),
+    if is_alike(pair, row, branch.row, own) {
+        Met {
+            frame: true,
+            own,
+            kids,
+            below: Some(branch.kids),
+            pair: None,
+            after: Some(branch.after),
+        }
+    } else {
+        let framed = framed_under(old, pair, row, branch.row);
+        Met {
+            frame: framed.same,
+            own,
+            kids,
+            below: Some(branch.kids),
+            pair: framed.below,
+            after: Some(branch.after),
+        }
     }
 }
 

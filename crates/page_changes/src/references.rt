@@ -1,11 +1,11 @@
-ghost use Rattle.std.specs.Prelude.{◌≡◌, ◌++◌, ◌<◌, map, slice_set, vec_len, IfOk, OnOk};
+ghost use Rattle.std.specs.Prelude.{◌≡◌, ◌++◌, ◌<◌, true, map, slice_set, vec_len, IfOk, OnOk};
 ghost use Rattle.std.specs.BTreeMap.{get_by_text};
 ghost use Rattle.std.specs.String.{string_bytes};
 ghost use Rattle.std.specs.Option.{option_copied, option_to_list, option_eq};
 ghost use Rattle.std.specs.Cmp.Lexicographic.{pointwise};
 ghost use Rattle.texts.specs.Words.{words};
 ghost use Rattle.snap_tree.specs.Labels.{first_with_id};
-ghost use Rattle.snap_tree.specs.Trees.{rows_of};
+ghost use Rattle.snap_tree.specs.Trees.{Trees, rows_of};
 ghost use Rattle.acc_tree.specs.References.{named_by, reference_words};
 ghost use Rattle.acc_tree.specs.Seen.{seen, seen_row};
 ghost use Rattle.keys.specs.Keys.{id_key};
@@ -15,6 +15,7 @@ ghost use Rattle.page_changes.specs.References.{AreCompared, IsMemory, Remembers
 
 use crate::by_number::marks_at;
 use crate::labels::{id_of, label_under, labels_naming};
+use crate::looked::has_aria;
 use crate::marks::well;
 use crate::pages::Pages;
 use acc_tree::{Attribute, element_of, is_labelable, text_at};
@@ -121,9 +122,9 @@ fn attr_same(pages: &Pages<'_>, row: &Row, name: AriaAttr) -> bool
     words_same(pages, text_at(row, Attribute::Aria(name)))
 }
 
-// Whether all that the words of a row's references find is the same.
+// Whether all that the words of the five attributes find is the same.
 #[tactic(auto, using(crate::proofs::Keyed::five_attrs))]
-fn references_same(pages: &Pages<'_>, row: &Row) -> bool
+fn attrs_same(pages: &Pages<'_>, row: &Row) -> bool
     requires { AreCompared pages.now }
     ensures { result ≡ words_same (seen pages.now.old.now.trees) (seen pages.now.new.now.trees) (reference_words (seen_row row.now)) }
 {
@@ -133,6 +134,20 @@ fn references_same(pages: &Pages<'_>, row: &Row) -> bool
     let by_flow = attr_same(pages, row, AriaAttr::Flowto);
     let by_owning = attr_same(pages, row, AriaAttr::Owns);
     by_labels & (by_descriptions & (by_details & (by_flow & by_owning)))
+}
+
+// Whether all that the words of a row's references find is the same. A row has none unless the name of one of its
+// attributes begins `aria-`.
+#[tactic(auto, using(crate::proofs::Unreferring::no_references))]
+fn references_same(pages: &Pages<'_>, row: &Row) -> bool
+    requires { AreCompared pages.now }
+    ensures { result ≡ words_same (seen pages.now.old.now.trees) (seen pages.now.new.now.trees) (reference_words (seen_row row.now)) }
+{
+    if has_aria(row.attrs()) {
+        attrs_same(pages, row)
+    } else {
+        true
+    }
 }
 
 // Whether the same labels name an id on both pages, and agree.
@@ -201,6 +216,17 @@ fn id_same(
     Ok(found & named)
 }
 
+// Nothing labels a row that has no id and stands below no label.
+#[tactic(auto, using(crate::proofs::Unreferring::no_labels))]
+fn is_unlabelled(label: Option<NodeId>, row: &Row) -> bool
+    ensures { result ≡ true → (old new : Trees) → true ≡ labels_same old new label (seen_row row.now) }
+{
+    match label {
+        Some(_) => false,
+        None => id_of(row).is_none(),
+    }
+}
+
 fn labels_same(
     alloc: Global,
     pages: &Pages<'_>,
@@ -213,6 +239,9 @@ fn labels_same(
     ensures same { IfOk result (λ same. same ≡ labels_same (seen pages.now.old.now.trees) (seen pages.now.new.now.trees) label (seen_row row.now)) }
     ensures memory { OnOk result (IsMemory (seen pages.now.old.now.trees) (seen pages.now.new.now.trees) memory.new) }
 {
+    if is_unlabelled(label, row) {
+        return Ok(true);
+    }
     if !is_labelable(row) {
         return Ok(true);
     }

@@ -38,7 +38,7 @@ fn same_value(a: &Row, b: &Row, name: Attribute) -> bool
 fn same_space(a: &Row, b: &Row) -> bool
     ensures { result ≡ option_eq (sameb space.the_type) (space_in (seen_row a.now).body) (space_in (seen_row b.now).body) }
 {
-    match (&a.body, &b.body) {
+    match (a.body.get(), b.body.get()) {
         (Body::Element { space: one, .. }, Body::Element { space: other, .. }) => *one == *other,
         (Body::Words { .. }, Body::Words { .. }) => true,
         _ => false,
@@ -48,7 +48,7 @@ fn same_space(a: &Row, b: &Row) -> bool
 fn same_tag(a: &Row, b: &Row) -> bool
     ensures { result ≡ option_eq bytes_eq (tag_in (seen_row a.now).body) (tag_in (seen_row b.now).body) }
 {
-    match (&a.body, &b.body) {
+    match (a.body.get(), b.body.get()) {
         (Body::Element { tag: one, .. }, Body::Element { tag: other, .. }) => {
             one.as_str() == other.as_str()
         }
@@ -60,7 +60,7 @@ fn same_tag(a: &Row, b: &Row) -> bool
 fn same_words(a: &Row, b: &Row) -> bool
     ensures { result ≡ option_eq bytes_eq (text_in a.now.body) (text_in b.now.body) }
 {
-    match (&a.body, &b.body) {
+    match (a.body.get(), b.body.get()) {
         (Body::Words { text: one }, Body::Words { text: other }) => one.as_str() == other.as_str(),
         (Body::Element { .. }, Body::Element { .. }) => true,
         _ => false,

@@ -1,4 +1,5 @@
 pub mod Fragments
 pub mod Stopping
+pub mod ByRows
 pub mod Judged
 pub mod Local

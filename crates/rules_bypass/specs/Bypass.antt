@@ -1,7 +1,7 @@
 -- The nodes by which a block of content can be bypassed, and what rules say of pages by them.
 use Rattle.std.specs.Prelude.{◌&&◌, ◌||◌, ◌==◌, ℕ, List, [], ◌∷◌, ◌++◌, codes, Bool, true, false, if◌then◌else◌, Option, Some, None, option_and_then}
-use Rattle.std.specs.List.{list_any}
-use Rattle.std.specs.Option.{is_some}
+use Rattle.std.specs.List.{list_any, flat_map}
+use Rattle.std.specs.Option.{is_some, option_map_or}
 use Rattle.snap_tree.specs.declared.row.NodeId.{NodeId}
 use Rattle.snap_tree.specs.declared.row.Row.{Row}
 use Rattle.snap_tree.specs.Labels.{first_with_id}
@@ -17,7 +17,8 @@ use Rattle.acc_tree.specs.declared.tags.Tag.TheVariants as tag
 use Rattle.acc_tree.specs.Frames.{nothing_above, under}
 use Rattle.acc_tree.specs.Inclusion.{included}
 use Rattle.acc_tree.specs.Roles.{role_at}
-use Rattle.acc_tree.specs.Seen.{attr, has, seen}
+use Rattle.acc_tree.specs.Seen.{attr, has, seen, seen_row}
+use Rattle.acc_tree.specs.Sights.{above_children}
 use Rattle.acc_tree.specs.Tags.{html_tag}
 use Rattle.acc_name.specs.Names.{name_of}
 use Rattle.rule_core.specs.declared.info.RuleInfo.{RuleInfo}
@@ -119,6 +120,30 @@ abbrev pub lines : Bypass → Trees → Above → Trees → List (List ℕ)
 lines b t above empty = []
 lines b t above (tree row kids after) =
     one (line_at b t above row) ++ lines b t (under above row) kids ++ lines b t above after
+
+-- ---- the same by rows, which tell of most nodes that they don't count
+
+abbrev pub is_mark : Option Role → Bool
+is_mark r = option_map_or is_landmark r false
+
+-- the href, if there is one, leads inside
+abbrev pub leads : Trees → Row → Bool
+leads t row = option_map_or (leads_inside t) (attr attribute.Href row) false
+
+-- the node may count, as far as its row tells
+abbrev pub may_count : Bypass → Trees → Row → Bool
+may_count bypass.Heading t row = is_heading (role_at nothing_above row)
+may_count bypass.Landmark t row = is_mark (role_at nothing_above row)
+may_count bypass.SkipLink t row = row.facts.tabbable && leads t row && is_link (role_at nothing_above row)
+may_count bypass.Collapse t row = row.facts.tabbable && collapses nothing_above row
+
+-- the line of a node, where its parent's number tells what is above it
+abbrev pub line_in : Bypass → Trees → Row → Option (List ℕ)
+line_in b t row = line_at b t (above_children t row.parent) row
+
+-- the lines of the nodes of these rows that count
+abbrev pub row_lines : Bypass → Trees → List Row → List (List ℕ)
+row_lines b t rows = flat_map (λ row. one (line_in b t (seen_row row))) rows
 
 -- ---- what is said of a page
 

@@ -2,17 +2,19 @@ ghost use Rattle.std.specs.Prelude.{◌≡◌, ◌++◌, IfOk, OnOk};
 ghost use Rattle.std.specs.Option.{option_copied};
 ghost use Rattle.std.specs.String.{string_bytes};
 ghost use Rattle.snap_tree.specs.Trees.{rows_of};
+ghost use Rattle.acc_tree.specs.Frames.{nothing_above};
 ghost use Rattle.acc_tree.specs.Seen.{seen_row, seen};
 ghost use Rattle.acc_name.specs.Names.{name_of};
-ghost use Rattle.rules_bypass.specs.Bypass.{is_heading, is_link, is_button, is_summary, fragment, leads_inside, heading_line, with_name, collapses, of_heading, of_landmark, of_skip_link, of_collapse, one, line_at, lines, behind, lack, question, lines_verdict, has_stop, trees_verdict};
+ghost use Rattle.rules_bypass.specs.Bypass.{is_heading, is_link, is_button, is_summary, fragment, leads_inside, heading_line, with_name, collapses, of_heading, of_landmark, of_skip_link, of_collapse, one, line_at, lines};
+ghost use Rattle.rules_bypass.specs.Bypass.{is_mark, leads, may_count, line_in, row_lines, behind, lack, question, lines_verdict, has_stop, trees_verdict};
 
 use acc_name::name;
 use acc_tree::{
-    Above, Attribute, Tag, attr, element_of, has, html_tag, included_at, role_at, under,
+    Above, Attribute, Tag, above_children, attr, element_of, has, html_tag, included_at, role_at,
 };
 use aria_tables::{AriaAttr, Role, is_landmark};
 use rule_core::{Finding, LastLong, Reason, Verdict};
-use snap_tree::{Branches, OutOfMemory, Row, Text, Tree};
+use snap_tree::{OutOfMemory, Row, Text, Tree};
 use std::alloc::Global;
 
 /// What a block of content can be bypassed by. Each has its rule, which asks whether a page has one.
@@ -52,6 +54,15 @@ fn is_summary(tag: Option<Tag>) -> bool
     matches!(tag, Some(Tag::Summary))
 }
 
+fn is_mark(role: Option<Role>) -> bool
+    ensures { result ≡ is_mark role }
+{
+    match role {
+        Some(role) => is_landmark(role),
+        None => false,
+    }
+}
+
 // The id behind a `#`.
 fn fragment(href: &str) -> Option<&str>
     ensures { option_copied result ≡ fragment href.now }
@@ -64,6 +75,15 @@ fn leads_inside(tree: &Tree, href: &str) -> bool
 {
     match fragment(href) {
         Some(id) => element_of(tree, id).is_some(),
+        None => false,
+    }
+}
+
+fn leads(tree: &Tree, row: &Row) -> bool
+    ensures { result ≡ leads (seen tree.now.trees) (seen_row row.now) }
+{
+    match attr(row, Attribute::Href) {
+        Some(href) => leads_inside(tree, href.as_str()),
         None => false,
     }
 }
@@ -195,44 +215,81 @@ impl Bypass {
         }
     }
 
+    // Whether a node may count, as far as its row tells. Where nothing is above it, it is a heading or a landmark if it
+    // is one anywhere.
+    fn may_count(self, tree: &Tree, row: &Row) -> bool
+        ensures { result ≡ may_count self (seen tree.now.trees) (seen_row row.now) }
+    {
+        let above = Above::nothing();
+        match self {
+            Bypass::Heading => is_heading(role_at(&above, row)),
+            Bypass::Landmark => is_mark(role_at(&above, row)),
+            Bypass::SkipLink => {
+                row.facts.tabbable && leads(tree, row) && is_link(role_at(&above, row))
+            }
+            Bypass::Collapse => row.facts.tabbable && collapses(&above, row),
+        }
+    }
+
+    // The line of a node, where it counts. What is above it is found only where its row doesn't rule it out.
+    fn line_in(
+        self,
+        alloc: Global,
+        tree: &Tree,
+        row: &Row,
+        last: &mut LastLong,
+    ) -> Result<Option<Text>, OutOfMemory>
+        ensures { IfOk result (λ line. line ≡ line_in self (seen tree.now.trees) (seen_row row.now)) }
+    {
+        if self.may_count(tree, row) {
+            self.line_at(alloc, tree, &above_children(tree, row.parent), row, last)
+        } else {
+            Ok(None)
+        }
+    }
+
     // Adds the line of a node, where it counts.
     fn add_line(
         self,
         found: &mut Vec<Text>,
         alloc: Global,
         tree: &Tree,
-        above: &Above,
         row: &Row,
         last: &mut LastLong,
     ) -> Result<(), OutOfMemory>
-        ensures { OnOk result (found.new.items ≡ found.old.items ++ one (line_at self (seen tree.now.trees) above.now (seen_row row.now))) }
+        ensures { OnOk result (found.new.items ≡ found.old.items ++ one (line_in self (seen tree.now.trees) (seen_row row.now))) }
     {
-        if let Some(line) = self.line_at(alloc, tree, above, row, last)? {
+        if let Some(line) = self.line_in(alloc, tree, row, last)? {
             found.push(line)?;
         }
         Ok(())
     }
 
-    // Adds the lines of the nodes that count, where this is above the trees.
-    fn add_lines<'a>(
+    // Adds the lines of the nodes of these rows that count.
+    fn add_lines(
         self,
         found: &mut Vec<Text>,
         alloc: Global,
         tree: &Tree,
-        above: &Above<'a>,
-        trees: Branches<'a>,
+        rows: &[Row],
         last: &mut LastLong,
     ) -> Result<(), OutOfMemory>
-        ensures { OnOk result (found.new.items ≡ found.old.items ++ lines self (seen tree.now.trees) above.now (seen trees.entry)) }
+        ensures { OnOk result (found.new.items ≡ found.old.items ++ row_lines self (seen tree.now.trees) rows.now) }
     {
-        let mut rest = trees;
-        while let Some(branch) = rest.first() {
-            self.add_line(found, alloc, tree, above, branch.row, last)?;
-            let kids_above = under(above, branch.row);
-            self.add_lines(found, alloc, tree, &kids_above, branch.kids, last)?;
-            rest = branch.after;
+        for row in rows {
+            self.add_line(found, alloc, tree, row, last)?;
         }
         Ok(())
+    }
+
+    // The lines of the nodes of a page that count.
+    #[tactic(auto, using(crate::proofs::ByRows::page_lines))]
+    fn lines(self, alloc: Global, tree: &Tree) -> Result<Vec<Text>, OutOfMemory>
+        ensures { IfOk result (λ found. found.items ≡ lines self (seen tree.now.trees) nothing_above (seen tree.now.trees)) }
+    {
+        let mut found = Vec::new(alloc);
+        self.add_lines(&mut found, alloc, tree, tree.rows(), &mut LastLong::new())?;
+        Ok(found)
     }
 
     fn lack(self) -> Reason
@@ -278,16 +335,7 @@ impl Bypass {
         if !has_stop(tree) {
             return Ok(None);
         }
-        let mut lines = Vec::new(alloc);
-        let mut last = LastLong::new();
-        self.add_lines(
-            &mut lines,
-            alloc,
-            tree,
-            &Above::nothing(),
-            tree.branches(),
-            &mut last,
-        )?;
+        let lines = self.lines(alloc, tree)?;
         Ok(Some(self.lines_verdict(alloc, lines.as_slice())?))
     }
 }

@@ -10,7 +10,7 @@ pub(crate) fn is_html_element(row: &Row) -> bool
     ensures { result ≡ is_html_element (seen_row row.now) }
 {
     matches!(
-        &row.body,
+        row.body.get(),
         Body::Element {
             space: Space::Html,
             ..
@@ -23,7 +23,7 @@ pub(crate) fn is_svg_element(row: &Row) -> bool
     ensures { result ≡ is_svg_element (seen_row row.now) }
 {
     matches!(
-        &row.body,
+        row.body.get(),
         Body::Element {
             space: Space::Svg,
             ..

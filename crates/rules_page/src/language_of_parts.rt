@@ -22,7 +22,7 @@ pub struct LanguageOfPartIsKnown;
 fn is_html_part(row: &Row) -> bool
     ensures { result ≡ is_html_part (seen_row row.now) }
 {
-    match &row.body {
+    match row.body.get() {
         Body::Element {
             space: Space::Html,
             ..
@@ -34,7 +34,7 @@ fn is_html_part(row: &Row) -> bool
 fn is_shown_text(row: &Row) -> bool
     ensures { result ≡ is_shown_text row.now }
 {
-    match &row.body {
+    match row.body.get() {
         Body::Words { text } => row.facts.rendered && !blank(text),
         Body::Element { .. } => false,
     }

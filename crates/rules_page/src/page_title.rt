@@ -38,7 +38,7 @@ fn texts(alloc: Global, trees: Branches<'_>) -> Result<Text, OutOfMemory>
     let mut joined = String::new(alloc);
     let mut rest = trees;
     while let Some(branch) = rest.first() {
-        if let Body::Words { text } = &branch.row.body {
+        if let Body::Words { text } = branch.row.body.get() {
             joined.push_str(text.as_str())?;
         }
         rest = branch.after;

@@ -1,27 +1,48 @@
-ghost use Rattle.std.specs.Prelude.{◌≡◌, ◌<◌, None, IfOk, IfErr, vec_len, slice_set, slice_index_or};
+ghost use Rattle.std.specs.Prelude.{◌≡◌, ◌<◌, None, IfOk, IfErr, OnOk, vec_len, slice_set, slice_index_or};
 ghost use Rattle.std.specs.Option.{option_copied};
 ghost use Rattle.snap_tree.specs.Grown.{grown};
 ghost use Rattle.snap_tree.specs.Faults.{tree_fault};
 ghost use Rattle.snap_tree.specs.declared.row.Row.{Row};
 ghost use Rattle.snap_edit.specs.declared.edit.Edit.TheVariants.{SetText, SetFacts};
-ghost use Rattle.snap_edit.specs.Attrs.{attrs_after, with_attrs, with_text, with_facts};
+ghost use Rattle.snap_edit.specs.Attrs.{attrs_after, body_with, with_attrs, with_text, with_facts};
 ghost use Rattle.snap_edit.specs.Edits.{attrs_changed, effect};
 ghost use Rattle.snap_edit.specs.Made.{Makes, Declines};
 
 use crate::attrs::attrs_after;
 use crate::fault::{EditKind, Refusal};
 use crate::place::{element_at, node_at};
-use snap_tree::{Attr, Body, Facts, List, NodeId, Row, Text};
+use snap_tree::{Attr, Body, Facts, List, NodeId, OutOfMemory, Row, SharedBody, Text};
 use std::alloc::Global;
 
-// Gives the element at a place these attributes.
-fn put_attrs(rows: &mut Vec<Row>, place: usize, attrs: Vec<Attr>)
-    requires { place < vec_len rows.old }
-    ensures { (d : Row) → rows.new.items ≡ slice_set rows.old.items place (with_attrs (λ _. attrs.items) (slice_index_or rows.old.items place d)) }
+// A body with these attributes, where it is an element's; else the same body.
+fn body_with(alloc: Global, body: &SharedBody, attrs: Vec<Attr>) -> Result<SharedBody, OutOfMemory>
+    ensures { IfOk result (λ new. new ≡ body_with (λ _. attrs.items) body.now) }
 {
-    if let Body::Element { attrs: own, .. } = &mut rows[place].body {
-        *own = List::from_vec(attrs);
+    match body.get() {
+        Body::Element { space, tag, .. } => {
+            let element = Body::Element {
+                space: *space,
+                tag: tag.copy(alloc)?,
+                attrs: List::from_vec(attrs),
+            };
+            SharedBody::new(alloc, element)
+        }
+        Body::Words { .. } => body.copy(),
     }
+}
+
+// Gives the element at a place these attributes.
+fn put_attrs(
+    alloc: Global,
+    rows: &mut Vec<Row>,
+    place: usize,
+    attrs: Vec<Attr>,
+) -> Result<(), OutOfMemory>
+    requires { place < vec_len rows.old }
+    ensures { OnOk result ((d : Row) → rows.new.items ≡ slice_set rows.old.items place (with_attrs (λ _. attrs.items) (slice_index_or rows.old.items place d))) }
+{
+    rows[place].body = body_with(alloc, &rows[place].body, attrs)?;
+    Ok(())
 }
 
 /// Sets an attribute of an element, or takes it out where there is no value.
@@ -40,7 +61,7 @@ pub(crate) fn change_attr(
 {
     let place = element_at(rows.as_slice(), node)?;
     let attrs = attrs_after(alloc, rows[place].attrs(), name, value)?;
-    put_attrs(&mut rows, place, attrs);
+    put_attrs(alloc, &mut rows, place, attrs)?;
     Ok(rows)
 }
 
@@ -60,7 +81,7 @@ pub(crate) fn set_text(
         return Err(Refusal::Kind(EditKind::NotText));
     }
     let text = text.copy(alloc)?;
-    rows[place].body = Body::Words { text };
+    rows[place].body = SharedBody::new(alloc, Body::Words { text })?;
     Ok(rows)
 }
 

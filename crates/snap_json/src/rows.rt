@@ -6,7 +6,7 @@ ghost use Rattle.snap_json.specs.Pages.{element_from, words_from, body_of, row_o
 use crate::fault::{Field, SnapFault};
 use crate::fields;
 use serde_json::Value;
-use snap_tree::{Body, List, Row};
+use snap_tree::{Body, List, Row, SharedBody};
 use std::alloc::Global;
 
 /// What a field means, or the fault that it is out of shape.
@@ -54,7 +54,7 @@ fn row_of(alloc: Global, place: u32, row: &Value) -> Result<Row, SnapFault>
     in_shape(place, Field::Row, row.as_object())?;
     let id = in_shape(place, Field::N, fields::number_of(row.get("n")))?;
     let parent = in_shape(place, Field::P, fields::parent_of(row.get("p")))?;
-    let body = body_of(alloc, place, row)?;
+    let body = SharedBody::new(alloc, body_of(alloc, place, row)?)?;
     let facts = in_shape(place, Field::F, fields::facts_of(row.get("f")))?;
     Ok(Row {
         id,

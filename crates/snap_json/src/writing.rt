@@ -70,7 +70,7 @@ fn row_value(alloc: Global, row: &Row) -> Result<Value, OutOfMemory>
     ensures value { IfOk result (λ v. view v ≡ row_data row.now) }
     ensures small { OnOk result (IsSmall row.now) }
 {
-    let members = match &row.body {
+    let members = match row.body.get() {
         Body::Element { space, tag, attrs } => element_members(alloc, row, *space, tag, attrs)?,
         Body::Words { text } => words_members(alloc, row, text)?,
     };

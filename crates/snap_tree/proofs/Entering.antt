@@ -5,17 +5,16 @@ use Rattle.std.proofs.lemmas.Bool.{cases_eq}
 use Rattle.std.proofs.lemmas.Bool.Decides.{nat_tests}
 use Rattle.std.specs.Option.{option_or, is_some, unwrap_or}
 use Rattle.std.specs.List.{list_any}
-use Rattle.std.specs.Ordering.{nat_cmp}
-use Rattle.std.specs.BTreeMap.{BTreeMap, get, Updates, is_at}
 use Rattle.snap_tree.specs.declared.row.Row.{Row}
 use Rattle.snap_tree.specs.declared.row.NodeId.{NodeId}
 use Rattle.snap_tree.specs.declared.build.Opened.{Opened}
+use Rattle.snap_tree.specs.declared.places.Places.{Places}
 use Rattle.snap_tree.specs.declared.fault.TreeFault.TheVariants.{DoubleNumber, ParentUnknownOrNotOpen}
 use Rattle.snap_tree.specs.Trees.{Trees, empty, tree, beside}
 use Rattle.snap_tree.specs.Grown.{grown, under, planted}
 use Rattle.snap_tree.specs.Rows.{has_number}
 use Rattle.snap_tree.specs.Faults.{open_rows, ancestors, is_below_text, is_misplaced, is_first, place_fault, row_fault}
-use Rattle.snap_tree.specs.Places.{place_from, IsPlaces}
+use Rattle.snap_tree.specs.Places.{place_from, place_at, Puts, IsPlaces}
 use Rattle.snap_tree.specs.Opened.{opened, from_opened, is_below, HasEntered}
 use Rattle.snap_tree.proofs.Growth.{grown_push}
 use Rattle.snap_tree.proofs.Opening.{from_opened-map, under_opens, Went}
@@ -41,8 +40,8 @@ place_from-push from n (x ∷ rows) r = by_test (x.id.0 == n) refl (place_from-p
     by_test true e h = rw e refl
     by_test false e h = rw e (h ∙ ap (λ k. option_or (place_from (from + 1) n rows) (if r.id.0 == n then Some k else None)) sums)
 
-pub number_is_taken : (places : BTreeMap ℕ ℕ) (earlier : List Row) (r : Row) (old : Option ℕ) → IsPlaces places earlier → old ≡ get nat_cmp places r.id.0 → is_some old ≡ list_any (has_number r.id) earlier
-number_is_taken places earlier r old placed e = ap is_some (e ∙ placed r.id.0) ∙ place_from-any 0 r.id earlier
+pub number_is_taken : (places : Places) (earlier : List Row) (r : Row) → IsPlaces places earlier → is_some (place_at places r.id.0) ≡ list_any (has_number r.id) earlier
+number_is_taken places earlier r placed = ap is_some (placed r.id.0) ∙ place_from-any 0 r.id earlier
 
 -- ---- faults
 
@@ -110,11 +109,13 @@ placed_other earlier r n apart =
     let other : (r.id.0 == n) ≡ false = grind (arith, nat_tests) in
     sym (place_from-push 0 n earlier r ∙ ap (λ b. option_or (place_from 0 n earlier) (if b then Some (0 + length earlier) else None)) other ∙ option_or-None (place_from 0 n earlier))
 
-pub placed_more : (places new : BTreeMap ℕ ℕ) (earlier : List Row) (r : Row) → IsPlaces places earlier → Updates nat_cmp places new r.id.0 (Some (length earlier)) → list_any (has_number r.id) earlier ≡ false → IsPlaces new (earlier ++ r ∷ [])
-placed_more places new earlier r placed u free n =
+pub placed_more : (places new : Places) (earlier : List Row) (r : Row) → IsPlaces places earlier → Puts places new r.id.0 (length earlier) → list_any (has_number r.id) earlier ≡ false → IsPlaces new (earlier ++ r ∷ [])
+placed_more places new earlier r placed puts free n =
     ⊎_elim
-    (λ same. subst (λ k. get nat_cmp new k ≡ place_from 0 k (earlier ++ r ∷ [])) same (u.1 ∙ placed_same earlier r free))
-    (λ apart. let no : is_at (nat_cmp r.id.0) n ≡ false = grind (arith, nat_tests) in u.2 n no ∙ placed n ∙ placed_other earlier r n apart)
+    (λ same.
+    let own : (r.id.0 == r.id.0) ≡ true = grind (arith, nat_tests) in
+    subst (λ k. place_at new k ≡ place_from 0 k (earlier ++ r ∷ [])) same (puts r.id.0 ∙ ap (λ b. if b then Some (length earlier) else place_at places r.id.0) own ∙ placed_same earlier r free))
+    (λ apart. let other : (r.id.0 == n) ≡ false = grind (arith, nat_tests) in puts n ∙ ap (λ b. if b then Some (length earlier) else place_at places n) other ∙ placed n ∙ placed_other earlier r n apart)
     (cases_eq r.id.0 n)
 
 pub is_first-length : (rows : List Row) → (length rows == 0) ≡ is_first rows
@@ -122,10 +123,10 @@ is_first-length [] = refl
 is_first-length (r ∷ rows) = grind (arith, nat_tests)
 
 -- the row is taken in, where it has no fault
-pub entered : (places new : BTreeMap ℕ ℕ) (path closed : List Opened) (earlier : List Row) (r : Row) → HasEntered places path earlier → Updates nat_cmp places new r.id.0 (Some (length earlier)) → list_any (has_number r.id) earlier ≡ false
+pub entered : (places new : Places) (path closed : List Opened) (earlier : List Row) (r : Row) → HasEntered places path earlier → Puts places new r.id.0 (length earlier) → list_any (has_number r.id) earlier ≡ false
     → reverse closed ≡ from_opened r (reverse path) → is_misplaced (is_first earlier) r (length (ancestors r (grown earlier))) ≡ false → HasEntered new (closed ++ opened r ∷ []) (earlier ++ r ∷ [])
-entered places new path closed earlier r h u free e place = record {
-  placed = placed_more places new earlier r h.placed u free;
+entered places new path closed earlier r h puts free e place = record {
+  placed = placed_more places new earlier r h.placed puts free;
   opens = push_opened closed r (ancestors r (grown earlier)) (path_is path closed r (grown earlier) h.opens e) ∙ ap (map opened) (sym (opens_next earlier r place));
 }
 

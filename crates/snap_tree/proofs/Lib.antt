@@ -7,6 +7,7 @@ pub mod Sized
 pub mod Found
 pub mod RowLimits
 pub mod Wellness
+pub mod Tagging
 pub mod Labelled
 pub mod Spotting
 pub mod Climbing

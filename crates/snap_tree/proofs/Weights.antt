@@ -21,7 +21,7 @@ use Rattle.snap_tree.specs.declared.groups.Key.TheVariants.{Id, For}
 use Rattle.snap_tree.specs.Groups.{AreGroups, group_at}
 use Rattle.snap_tree.specs.Labelling.{labels_in, all_labels_in}
 use Rattle.snap_tree.specs.Grown.{is_number, grown}
-use Rattle.snap_tree.specs.Rows.{is_key}
+use Rattle.snap_tree.specs.Rows.{attrs_of, is_key}
 use Rattle.snap_tree.specs.WellRow.{IsWellAttr, IsWellBody, IsWellRow}
 use Rattle.snap_tree.specs.Faults.{shape_fault, weight_fault, tree_fault}
 use Rattle.snap_tree.specs.Opened.{Breaks}
@@ -108,6 +108,15 @@ saturated-none n h = omega arith
 -- the sum stands, where nothing is left to add
 pub saturated_end : (n m : ℕ) → n ≡ saturated n → m ≡ 0 → n ≡ saturated (n + m)
 saturated_end n m h none = omega arith
+
+-- a row without attributes refers to nothing
+no_references : (r : Row) (attrs : List Attr) → attrs_of r ≡ attrs → length attrs ≡ 0 → references r ≡ []
+unfolding references
+no_references r [] e h = rw e refl
+no_references r (a ∷ attrs) e h = absurd (omega (arith, h))
+
+pub refers_to_nothing : (t : Trees) (r : Row) (n : ℕ) → n < 2 ^ 64 → length (attrs_of r) ≡ 0 → n ≡ saturated (n + sum_by (id_weight t) (references r))
+refers_to_nothing t r n l h = saturated-none n l ∙ ap (λ ids. saturated (n + sum_by (id_weight t) ids)) (sym (no_references r (attrs_of r) refl h))
 
 pub saturated-more : (a b c : ℕ) → saturated (saturated (a + b) + c) ≡ saturated (a + (b + c))
 saturated-more a b c = omega arith

@@ -1,5 +1,5 @@
 -- How labels are found: those that name an id by groups, and those around elements from the top down.
-use Rattle.std.specs.Prelude.{◌==◌, ℕ, List, [], ◌∷◌, ◌++◌, if◌then◌else◌, Option, Some, None, option_map, String, Vec}
+use Rattle.std.specs.Prelude.{◌==◌, ◌&&◌, ◌||◌, not, ℕ, List, [], ◌∷◌, ◌++◌, codes, Bool, if◌then◌else◌, Option, Some, None, option_map, String, Vec}
 use Rattle.std.specs.Option.{option_to_list}
 use Rattle.std.specs.List.{find, slice_get}
 use Rattle.std.specs.BTreeMap.{BTreeMap}
@@ -10,7 +10,8 @@ use Rattle.snap_tree.specs.declared.labels.Around.{Around}
 use Rattle.snap_tree.specs.Trees.{Trees, empty, tree, rows_of}
 use Rattle.snap_tree.specs.Grown.{is_number}
 use Rattle.snap_tree.specs.Groups.{group_at}
-use Rattle.snap_tree.specs.Labels.{id_of, is_labelable, is_label, has_for}
+use Rattle.snap_tree.specs.Labels.{id_of, has_type, is_labelable, is_label, has_for}
+use Rattle.texts.specs.Words.{same_folded}
 
 -- the labels that name an element's id, found in the groups of ids and of what labels name
 abbrev pub labels_in : BTreeMap (String Global) (Vec NodeId Global) → BTreeMap (String Global) (Vec NodeId Global) → NodeId → Option (List ℕ) → List NodeId
@@ -20,6 +21,17 @@ labels_in ids fors n (Some id) = if is_number (slice_get (group_at ids id) 0) n 
 -- all labels of a row, given the label around it that counts for it
 abbrev pub all_labels_in : BTreeMap (String Global) (Vec NodeId Global) → BTreeMap (String Global) (Vec NodeId Global) → Row → Option NodeId → List NodeId
 all_labels_in ids fors r outer = if is_labelable r then labels_in ids fors r.id (id_of r) ++ option_to_list outer else []
+
+-- the tag is input, and the row's type isn't hidden
+abbrev pub is_shown_input : Row → List ℕ → Bool
+is_shown_input r tag = same_folded (codes "input") tag && not (has_type (codes "hidden") r)
+
+-- an HTML element of this tag is labelable
+abbrev pub is_labelable_by : Row → List ℕ → Bool
+is_labelable_by r tag =
+    same_folded (codes "button") tag || same_folded (codes "meter") tag || same_folded (codes "output") tag
+    || same_folded (codes "progress") tag || same_folded (codes "select") tag || same_folded (codes "textarea") tag
+    || is_shown_input r tag
 
 -- what a label around the rows counts for
 abbrev pub around_by : Row → List Row → Option Around

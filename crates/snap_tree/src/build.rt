@@ -5,9 +5,9 @@ ghost use Rattle.snap_tree.specs.Opened.{from_opened, is_below, HasEntered, Brea
 
 use crate::fault::{BuildFault, TreeFault};
 use crate::limits::own_fault;
+use crate::places::Places;
 use crate::row::{NodeId, Row, is_number};
 use std::alloc::Global;
-use std::collections::BTreeMap;
 
 /// How many nodes a page has at the most.
 pub const MOST_NODES: usize = 10_000;
@@ -71,7 +71,7 @@ fn place_fault(first: bool, row: &Row, above: usize, below_text: bool) -> Option
 
 // Takes in the next row, or names its first fault.
 fn enter(
-    places: &mut BTreeMap<u32, usize>,
+    places: &mut Places,
     path: &mut Vec<Opened>,
     earlier: &[Row],
     row: &Row,
@@ -81,9 +81,10 @@ fn enter(
     ensures sound { OnOk result (row_fault earlier.now row.now ≡ None) }
     ensures fault { IfErr result (λ f. Breaks f (row_fault earlier.now row.now)) }
 {
-    if places.insert(row.id.0, earlier.len())?.is_some() {
+    if places.at(row.id.0).is_some() {
         return Err(BuildFault::Tree(TreeFault::DoubleNumber { node: row.id }));
     }
+    places.put(row.id.0, earlier.len())?;
     close_to_parent(path, row);
     let below_text = is_below_text(path);
     if let Some(fault) = place_fault(earlier.is_empty(), row, path.len(), below_text) {
@@ -97,12 +98,12 @@ fn enter(
 }
 
 // The place of each number, or the first fault of the rows.
-pub(crate) fn places_of(alloc: Global, rows: &[Row]) -> Result<BTreeMap<u32, usize>, BuildFault>
+pub(crate) fn places_of(alloc: Global, rows: &[Row]) -> Result<Places, BuildFault>
     ensures places { IfOk result (λ places. IsPlaces places rows.now) }
     ensures sound { OnOk result (rows_fault [] rows.now ≡ None) }
     ensures fault { IfErr result (λ f. Breaks f (rows_fault [] rows.now)) }
 {
-    let mut places = BTreeMap::new(alloc);
+    let mut places = Places::room(alloc, rows.len())?;
     let mut path = Vec::new(alloc);
     for (place, row) in rows.iter().enumerate() {
         let (earlier, _) = rows.split_at(place);

@@ -50,7 +50,7 @@ impl Row {
     pub fn copy(&self, alloc: Global) -> Result<Self, OutOfMemory>
         ensures { IfOk result (λ copy. copy ≡ self.now) }
     {
-        let body = self.body.copy(alloc)?;
+        let body = self.body.copy()?;
         Ok(Row {
             id: self.id,
             parent: self.parent,

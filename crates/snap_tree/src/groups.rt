@@ -37,7 +37,7 @@ fn key_of(alloc: Global, key: Key, row: &Row) -> Result<Option<String>, OutOfMem
     ensures { IfOk result (λ string. option_map string_bytes string ≡ key_of key row.now) }
 {
     match key {
-        Key::Tag => match &row.body {
+        Key::Tag => match row.body.get() {
             Body::Element {
                 space: Space::Html,
                 tag,

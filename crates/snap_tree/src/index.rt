@@ -6,14 +6,11 @@ ghost use Rattle.snap_tree.specs.Indexed.{IsIndex};
 use crate::branches::Branches;
 use crate::groups::{Groups, Key, groups_of};
 use crate::labels::labels_around;
+use crate::places::Places;
 use crate::row::{NodeId, Row};
 use crate::sizes::sizes_of;
 use std::alloc::Global;
-use std::collections::BTreeMap;
 use texts::OutOfMemory;
-
-/// The place of each number in a list of rows.
-pub(crate) type Places = BTreeMap<u32, usize>;
 
 /// By what rows are weighed and looked up, so that no look-up walks the page.
 #[derive(Drop)]

@@ -3,11 +3,11 @@ ghost use Rattle.std.specs.Option.{option_copied};
 ghost use Rattle.std.specs.List.{find};
 ghost use Rattle.snap_tree.specs.Rows.{attribute};
 ghost use Rattle.snap_tree.specs.Labels.{filled, id_of, for_of, has_for, has_type, is_label, is_labelable};
-ghost use Rattle.snap_tree.specs.Labelling.{labels_in, all_labels_in, around_by, around_below, label_around, labels_around};
+ghost use Rattle.snap_tree.specs.Labelling.{is_shown_input, is_labelable_by, labels_in, all_labels_in, around_by, around_below, label_around, labels_around};
 
 use crate::branches::Branches;
 use crate::groups::{Groups, group};
-use crate::row::{NodeId, Row, is_number};
+use crate::row::{Body, NodeId, Row, Space, is_number};
 use std::alloc::Global;
 use texts::{OutOfMemory, Text, same_folded};
 
@@ -28,6 +28,26 @@ fn has_type(row: &Row, word: &str) -> bool
     }
 }
 
+// Whether the tag is `input`, and the row's type isn't `hidden`.
+fn is_shown_input(row: &Row, tag: &str) -> bool
+    ensures { result ≡ is_shown_input row.now tag.now }
+{
+    same_folded("input", tag) && !has_type(row, "hidden")
+}
+
+// Whether an HTML element of this tag is labelable. Tags are told apart by their lengths first.
+#[tactic(auto, using(crate::proofs::Tagging::tags_of_5, crate::proofs::Tagging::tags_of_6, crate::proofs::Tagging::tags_of_8))]
+fn is_labelable_by(row: &Row, tag: &str) -> bool
+    ensures { result ≡ is_labelable_by row.now tag.now }
+{
+    match tag.len() {
+        5 => same_folded("meter", tag) | is_shown_input(row, tag),
+        6 => same_folded("button", tag) | same_folded("output", tag) | same_folded("select", tag),
+        8 => same_folded("progress", tag) | same_folded("textarea", tag),
+        _ => false,
+    }
+}
+
 impl Row {
     /// Whether the node is one of HTML's labelable elements: button, meter, output, progress, select,
     /// textarea, or an input whose type isn't `hidden`.
@@ -35,13 +55,14 @@ impl Row {
     pub fn is_labelable(&self) -> bool
         ensures { result ≡ is_labelable self.now }
     {
-        self.is_html("button")
-            | self.is_html("meter")
-            | self.is_html("output")
-            | self.is_html("progress")
-            | self.is_html("select")
-            | self.is_html("textarea")
-            | (self.is_html("input") & !has_type(self, "hidden"))
+        match self.body.get() {
+            Body::Element {
+                space: Space::Html,
+                tag,
+                ..
+            } => is_labelable_by(self, tag.as_str()),
+            _ => false,
+        }
     }
 }
 

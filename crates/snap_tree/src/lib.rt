@@ -17,7 +17,9 @@ mod kids;
 mod labels;
 mod laws;
 mod limits;
+mod places;
 mod row;
+mod shared;
 mod sizes;
 mod tree;
 mod weight;
@@ -29,6 +31,7 @@ pub use kids::Kids;
 pub use laws::{laws_of_growth, laws_of_limits, laws_of_spots};
 pub use limits::{MOST_ATTRS, MOST_BYTES, own_fault};
 pub use row::{Attr, Body, Facts, NodeId, Raw, Row, Space};
+pub use shared::SharedBody;
 pub use sizes::sizes_of;
 pub use texts::{
     Duplicate, List, OutOfMemory, Text, blank, copies_of, next_word, same_folded, tidy,

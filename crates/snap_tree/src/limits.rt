@@ -77,13 +77,13 @@ pub fn own_fault(row: &Row) -> Option<TreeFault>
     if row.attrs().len() > MOST_ATTRS {
         return Some(TreeFault::TooManyAttrs { node });
     }
-    if has_long(&row.body) {
+    if has_long(row.body.get()) {
         return Some(TreeFault::TextTooLong { node });
     }
     if has_double(row.attrs()) {
         return Some(TreeFault::DoubleAttr { node });
     }
-    if row.id.0 == 0 || has_empty(&row.body) {
+    if row.id.0 == 0 || has_empty(row.body.get()) {
         return Some(TreeFault::EmptyName { node });
     }
     None

@@ -5,6 +5,7 @@ ghost use Rattle.snap_tree.specs.Grown.{is_number};
 ghost use Rattle.snap_tree.specs.Rows.{is_text, is_html, attrs_of, attribute};
 ghost use Rattle.texts.specs.Words.{same_folded};
 
+use crate::shared::SharedBody;
 use texts::{List, Text, same_folded};
 
 /// A node's number. Numbers of a well tree are above 0 and differ.
@@ -57,7 +58,7 @@ pub enum Body {
 pub struct Row {
     pub id: NodeId,
     pub parent: Option<NodeId>,
-    pub body: Body,
+    pub body: SharedBody,
     pub facts: Facts,
 }
 
@@ -73,14 +74,14 @@ impl Row {
     pub fn is_text(&self) -> bool
         ensures { result ≡ is_text self.now }
     {
-        matches!(&self.body, Body::Words { .. })
+        matches!(self.body.get(), Body::Words { .. })
     }
 
     /// Whether the node is an HTML element of this tag, which compares ASCII case-insensitively.
     pub fn is_html(&self, tag: &str) -> bool
         ensures { result ≡ is_html tag.now self.now }
     {
-        match &self.body {
+        match self.body.get() {
             Body::Element {
                 space: Space::Html,
                 tag: own,
@@ -94,7 +95,7 @@ impl Row {
     pub fn attrs(&self) -> &[Attr]
         ensures { result.now ≡ attrs_of self.now }
     {
-        match &self.body {
+        match self.body.get() {
             Body::Element { attrs, .. } => attrs.as_slice(),
             Body::Words { .. } => &[],
         }

@@ -18,9 +18,10 @@ use crate::branches::Branches;
 use crate::build::{MOST_NODES, places_of};
 use crate::fault::{BuildFault, TreeFault};
 use crate::groups::{Groups, Key, folded, group, groups_of};
-use crate::index::{Index, Places};
+use crate::index::Index;
 use crate::kids::Kids;
 use crate::labels::all_labels;
+use crate::places::Places;
 use crate::row::{NodeId, Raw, Row};
 use crate::weight::{MOST_WEIGHT, reference_weight};
 use std::alloc::Global;
@@ -81,8 +82,8 @@ fn row_of<'a>(rows: &'a [Row], places: &Places, n: NodeId) -> Option<&'a Row>
     requires { IsPlaces places.now rows.now }
     ensures { option_copied result ≡ find (has_number n) rows.now }
 {
-    match places.get(&n.0) {
-        Some(place) => rows.get(*place),
+    match places.at(n.0) {
+        Some(place) => rows.get(place),
         None => None,
     }
 }
@@ -236,11 +237,11 @@ impl Tree {
         ensures absent { IsAbsent self.now.trees n → result ≡ None }
     {
         let page = self.page();
-        match page.index.places.get(&n.0) {
+        match page.index.places.at(n.0) {
             Some(place) => Some(run_below(
                 page.rows.as_slice(),
                 page.index.sizes.as_slice(),
-                *place,
+                place,
             )),
             None => None,
         }
@@ -289,11 +290,11 @@ impl Tree {
         ensures { IfOk result (λ labels. labels ≡ labels_for self.now.trees n) }
     {
         let page = self.page();
-        let Some(place) = page.index.places.get(&n.0) else {
+        let Some(place) = page.index.places.at(n.0) else {
             return Ok(List::from_vec(Vec::new(alloc)));
         };
-        let row = &page.rows[*place];
-        let outer = page.index.outer[*place];
+        let row = &page.rows[place];
+        let outer = page.index.outer[place];
         let labels = all_labels(alloc, &page.index.ids, &page.index.fors, row, outer)?;
         Ok(List::from_vec(labels))
     }

@@ -46,7 +46,7 @@ fn node_weight(row: &Row) -> u64
     ensures weight { result ≡ node_weight row.now }
     ensures small { result ≤ 65537 }
 {
-    1 + bytes_in(&row.body) as u64 / 64
+    1 + bytes_in(row.body.get()) as u64 / 64
 }
 
 // What the rows before each place weigh, and at the end what all weigh.
@@ -111,8 +111,8 @@ impl<'a> Scale<'a> {
     fn weight_of(&self, n: NodeId) -> u64
         ensures { result ≡ weight_of self.now n }
     {
-        match self.index.places.get(&n.0) {
-            Some(place) => weight_at(self.index.sizes.as_slice(), self.sums.as_slice(), *place),
+        match self.index.places.at(n.0) {
+            Some(place) => weight_at(self.index.sizes.as_slice(), self.sums.as_slice(), place),
             None => 0,
         }
     }
@@ -152,10 +152,13 @@ impl<'a> Scale<'a> {
         sum
     }
 
-    #[tactic(auto, unfolding(crate::specs::Weight::references))]
+    #[tactic(auto, using(crate::proofs::Weights::refers_to_nothing), unfolding(crate::specs::Weight::references))]
     fn add_references(&self, sum: u64, row: &Row) -> u64
         ensures { result ≡ saturated (sum + sum_by (id_weight self.now) (references row.now)) }
     {
+        if row.attrs().is_empty() {
+            return sum;
+        }
         let sum = self.add_listed(sum, row.attribute("aria-labelledby"));
         self.add_listed(sum, row.attribute("aria-owns"))
     }

@@ -2,7 +2,7 @@ use rule_core::{Auto, Reason, Rule, Verdict};
 use rules_names::{HeadingHasName, LinkHasName};
 use snap_edit::{Edit, apply};
 use snap_json::read_snapshot;
-use snap_tree::{Attr, Body, Facts, List, NodeId, OutOfMemory, Row, Space, Text, Tree};
+use snap_tree::{Attr, Body, Facts, List, NodeId, OutOfMemory, Row, SharedBody, Space, Text, Tree};
 use std::alloc::Global;
 use std::process::Abort;
 use std::test::Fail;
@@ -39,14 +39,15 @@ fn span(alloc: Global, number: u32, id: &str) -> Result<Row, OutOfMemory> {
         name: Text::from_str(alloc, "id")?,
         value: Text::from_str(alloc, id)?,
     })?;
+    let body = Body::Element {
+        space: Space::Html,
+        tag: Text::from_str(alloc, "span")?,
+        attrs: List::from_vec(attrs),
+    };
     Ok(Row {
         id: NodeId(number),
         parent: None,
-        body: Body::Element {
-            space: Space::Html,
-            tag: Text::from_str(alloc, "span")?,
-            attrs: List::from_vec(attrs),
-        },
+        body: SharedBody::new(alloc, body)?,
         facts: SHOWN,
     })
 }

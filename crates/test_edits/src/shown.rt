@@ -24,7 +24,7 @@ fn show_row(alloc: Global, text: &mut String, row: &Row) -> Result<(), AllocErro
     text.push(' ')?;
     show_number(alloc, text, number_of(row.parent))?;
     text.push(' ')?;
-    show_body(text, &row.body)?;
+    show_body(text, row.body.get())?;
     show_facts(text, row.facts)
 }
 

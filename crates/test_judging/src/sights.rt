@@ -1,7 +1,7 @@
 use acc_tree::Attribute;
 use aria_tables::Role;
 use rule_sights::{row_of, sight_as, sight_of_html, sight_with};
-use snap_tree::{Attr, Body, Facts, List, NodeId, Raw, Row, Space, Text, Tree};
+use snap_tree::{Attr, Body, Facts, List, NodeId, Raw, Row, SharedBody, Space, Text, Tree};
 use std::alloc::Global;
 use std::test::Fail;
 
@@ -13,14 +13,15 @@ fn row(alloc: Global, id: u32, parent: u32, tag: &str, role: &str) -> Result<Row
             value: Text::from_str(alloc, role)?,
         })?;
     }
+    let body = Body::Element {
+        space: Space::Html,
+        tag: Text::from_str(alloc, tag)?,
+        attrs: List::from_vec(attrs),
+    };
     Ok(Row {
         id: NodeId(id),
         parent: (parent != 0).then_some(NodeId(parent)),
-        body: Body::Element {
-            space: Space::Html,
-            tag: Text::from_str(alloc, tag)?,
-            attrs: List::from_vec(attrs),
-        },
+        body: SharedBody::new(alloc, body)?,
         facts: Facts {
             rendered: true,
             visible: true,

@@ -100,8 +100,8 @@ fn add_frame(alloc: Global, text: &mut String, tree: &Tree, row: &Row) -> Result
         Some(role) => role.word(),
         None => "-",
     };
-    add_part(text, space_of(&row.body))?;
-    add_part(text, tag_of(&row.body))?;
+    add_part(text, space_of(row.body.get()))?;
+    add_part(text, tag_of(row.body.get()))?;
     add_part(text, role)?;
     add_part(text, value_of(row, Attribute::Aria(AriaAttr::Hidden)))?;
     add_part(text, value_of(row, Attribute::Lang))?;
@@ -131,7 +131,7 @@ fn add_attr(text: &mut String, attr: &Attr) -> Result<(), AllocError> {
 
 fn add_own(text: &mut String, row: &Row) -> Result<(), AllocError> {
     add_facts(text, row.facts)?;
-    match &row.body {
+    match row.body.get() {
         Body::Words { text: words } => text.push_str(words.as_str())?,
         Body::Element { attrs, .. } => {
             for attr in attrs.as_slice() {

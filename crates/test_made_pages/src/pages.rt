@@ -114,7 +114,7 @@ fn is_row(row: &Row, told: Told<'_>) -> bool {
         Some(NodeId(above)) => above == parent,
         None => parent == 0,
     };
-    (row.id.0 == number) & placed & is_body(&row.body, words) & (row.facts == facts(letters))
+    (row.id.0 == number) & placed & is_body(row.body.get(), words) & (row.facts == facts(letters))
 }
 
 fn is_made(alloc: Global, told: Told<'_>) -> Result<bool, Fail> {

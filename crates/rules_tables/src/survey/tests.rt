@@ -1,6 +1,6 @@
 use super::*;
 use crate::tables::below;
-use snap_tree::{Attr, Body, Facts, List, NodeId, Raw, Space, Text, Tree};
+use snap_tree::{Attr, Body, Facts, List, NodeId, Raw, SharedBody, Space, Text, Tree};
 use std::test::Fail;
 
 /// A part of a table. A cell has a colspan and a rowspan, which are left out where they are empty.
@@ -374,14 +374,15 @@ fn element(
     tag: &str,
     attrs: Vec<Attr>,
 ) -> Result<Row, Fail> {
+    let body = Body::Element {
+        space,
+        tag: Text::from_str(alloc, tag)?,
+        attrs: List::from_vec(attrs),
+    };
     Ok(Row {
         id: NodeId(id),
         parent: (parent != 0).then_some(NodeId(parent)),
-        body: Body::Element {
-            space,
-            tag: Text::from_str(alloc, tag)?,
-            attrs: List::from_vec(attrs),
-        },
+        body: SharedBody::new(alloc, body)?,
         facts: Facts {
             rendered: false,
             visible: false,

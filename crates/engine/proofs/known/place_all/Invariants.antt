@@ -1,5 +1,5 @@
 use Rattle.std.proofs.Common.{◌≡◌, map, take}
-use Rattle.engine.specs.Known.{placed_by}
+use Rattle.engine.specs.ByNumber.{placed_by}
 use Rattle.engine.proofs.known.place_all.Given as goal
 
 abbrev pub invariant-loop-row : goal.invariant-loop-row

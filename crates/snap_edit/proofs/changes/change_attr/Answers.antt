@@ -12,4 +12,4 @@ pub returns-clause-made : goal.returns-clause-made
 returns-clause-made c =
     let at = rw c.as_slice.ensures.value at c.in_ok-place.ensures.place in
     let f = attrs_after c.args.name.now (option_copied c.args.value) in
-    makes_attrs f c.requires at c.index.ensures c.attrs.ensures c.in_ok-attrs.ensures c.put_attrs.ensures
+    makes_attrs f c.requires at c.index.ensures c.attrs.ensures c.in_ok-attrs.ensures c.in_ok-put_attrs.ensures

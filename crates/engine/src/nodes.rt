@@ -1,0 +1,63 @@
+ghost use Rattle.std.specs.Prelude.{◌≡◌, IfOk};
+ghost use Rattle.engine.specs.Nodes.{is_settled, reached_by, AreNodes};
+
+use crate::before::rows_before;
+use crate::known::{Known, Placed, known_nodes, same_nodes};
+use judge_core::OutRow;
+use snap_tree::{OutOfMemory, Tree};
+use std::alloc::Global;
+
+/// The nodes of a page that was edited, as every rule goes over them.
+#[derive(Drop)]
+pub struct Nodes<'a> {
+    /// Each node of the new page in document order, with what is known of it.
+    pub placed: Vec<Placed>,
+    /// Those that the edit reaches: the node is new, or the pages don't agree on all that rules look at.
+    pub reached: Vec<Placed>,
+    /// Whether the pages hold the same nodes, in the same order.
+    pub in_order: bool,
+    /// For each node of the old page the row of a rule without rows: none.
+    pub none: Vec<Option<&'a OutRow>>,
+}
+
+/// Whether the pages agree on all that rules look at of a node of both.
+pub(crate) fn is_settled(known: Option<Known>) -> bool
+    ensures { result ≡ is_settled known }
+{
+    match known {
+        Some(known) => {
+            let flags = known.flags;
+            flags.itself & (flags.sub & (flags.table & (flags.title & (flags.metas & flags.whole))))
+        }
+        None => false,
+    }
+}
+
+// Those nodes that the edit reaches, in their order.
+fn reached_by(alloc: Global, placed: &[Placed]) -> Result<Vec<Placed>, OutOfMemory>
+    ensures { IfOk result (λ reached. reached.items ≡ reached_by placed.now) }
+{
+    let mut reached = Vec::new(alloc);
+    for it in placed {
+        if !is_settled(it.known) {
+            reached.push(*it)?;
+        }
+    }
+    Ok(reached)
+}
+
+/// The nodes of a page that was edited, each with what is known of it by the two versions. Fails only for want of memory.
+pub fn nodes_of<'a>(alloc: Global, old: &Tree, new: &Tree) -> Result<Nodes<'a>, OutOfMemory>
+    ensures { IfOk result (λ nodes. AreNodes old.now new.now nodes) }
+{
+    let placed = known_nodes(alloc, old, new)?;
+    let reached = reached_by(alloc, placed.as_slice())?;
+    let none = rows_before(alloc, old.rows(), &[])?;
+    let in_order = same_nodes(old.rows(), new.rows());
+    Ok(Nodes {
+        placed,
+        reached,
+        in_order,
+        none,
+    })
+}
