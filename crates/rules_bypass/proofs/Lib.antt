@@ -3,3 +3,4 @@ pub mod Stopping
 pub mod ByRows
 pub mod Judged
 pub mod Local
+pub mod AtAGlance

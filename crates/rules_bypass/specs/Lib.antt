@@ -1,1 +1,2 @@
 pub mod Bypass
+pub mod Shapes

@@ -7,7 +7,9 @@ ghost use Rattle.acc_tree.specs.Seen.{seen_row, seen};
 ghost use Rattle.acc_name.specs.Names.{name_of};
 ghost use Rattle.rules_bypass.specs.Bypass.{is_heading, is_link, is_button, is_summary, fragment, leads_inside, heading_line, with_name, collapses, of_heading, of_landmark, of_skip_link, of_collapse, one, line_at, lines};
 ghost use Rattle.rules_bypass.specs.Bypass.{is_mark, leads, may_count, line_in, row_lines, behind, lack, question, lines_verdict, has_stop, trees_verdict};
+ghost use Rattle.rules_bypass.specs.Shapes.{seems};
 
+use crate::shapes::{seems_heading, seems_landmark};
 use acc_name::name;
 use acc_tree::{
     Above, Attribute, Tag, above_children, attr, element_of, has, html_tag, included_at, role_at,
@@ -215,9 +217,24 @@ impl Bypass {
         }
     }
 
+    // Whether a node may count, as far as its row tells at a glance. Most rows are ruled out so.
+    fn seems(self, row: &Row) -> bool
+        ensures { result ≡ seems self (seen_row row.now) }
+    {
+        match self {
+            Bypass::Heading => seems_heading(row),
+            Bypass::Landmark => seems_landmark(row),
+            Bypass::SkipLink => row.facts.tabbable,
+            Bypass::Collapse => {
+                row.facts.tabbable
+                    && (has(row, Attribute::Aria(AriaAttr::Expanded)) || is_summary(html_tag(row)))
+            }
+        }
+    }
+
     // Whether a node may count, as far as its row tells. Where nothing is above it, it is a heading or a landmark if it
     // is one anywhere.
-    fn may_count(self, tree: &Tree, row: &Row) -> bool
+    fn counts_alone(self, tree: &Tree, row: &Row) -> bool
         ensures { result ≡ may_count self (seen tree.now.trees) (seen_row row.now) }
     {
         let above = Above::nothing();
@@ -229,6 +246,13 @@ impl Bypass {
             }
             Bypass::Collapse => row.facts.tabbable && collapses(&above, row),
         }
+    }
+
+    // The same, found at a glance for most rows.
+    fn may_count(self, tree: &Tree, row: &Row) -> bool
+        ensures { result ≡ may_count self (seen tree.now.trees) (seen_row row.now) }
+    {
+        self.seems(row) && self.counts_alone(tree, row)
     }
 
     // The line of a node, where it counts. What is above it is found only where its row doesn't rule it out.

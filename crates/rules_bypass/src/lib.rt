@@ -7,6 +7,7 @@ mod collapse;
 mod heading;
 mod landmark;
 mod laws;
+mod shapes;
 mod skip_link;
 
 pub use collapse::HasCollapse;
