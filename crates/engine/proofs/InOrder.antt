@@ -26,7 +26,7 @@ same n = grind (arith, nat_tests)
 turned : (m n : ℕ) → (m == n) ≡ false → (n == m) ≡ false
 turned m n h = grind (arith, nat_tests)
 
-neither : (a b : Bool) → (a || b) ≡ false → (a ≡ false) × (b ≡ false)
+pub neither : (a b : Bool) → (a || b) ≡ false → (a ≡ false) × (b ≡ false)
 neither true b h = cc
 neither false b h = (refl, h)
 

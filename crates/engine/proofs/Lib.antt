@@ -6,3 +6,5 @@ pub mod Sums
 pub mod InOrder
 mod Reaching
 mod Along
+pub mod Marking
+mod Live

@@ -29,7 +29,7 @@ all_placed old new (row ∷ rows) = (refl, all_placed old new rows)
 pub placed_known : (old new : Document) (placed : List Placed) → ArePlaced old new placed → AreKnown old new placed
 placed_known old new placed p = subst (AreKnown old new) (sym p) (all_placed old new (rows_of new.trees))
 
-some_known : (old new : Document) (test : Placed → Bool) (placed : List Placed) → AreKnown old new placed → AreKnown old new (filter test placed)
+pub some_known : (old new : Document) (test : Placed → Bool) (placed : List Placed) → AreKnown old new placed → AreKnown old new (filter test placed)
 some_known old new test [] each = tt
 some_known old new test (p ∷ placed) each = by_test (test p) (some_known old new test placed each.1)
   where
@@ -113,15 +113,24 @@ quiet_none book info local old new versions earlier js n known e (Some row) had 
 
 -- ---- so only those are gone over
 
+-- nothing is found where a test fails
+pub rows_kept : (f : NodeId → Option OutRow) (old new : Document) (test : Placed → Bool) (placed : List Placed) → AreKnown old new placed → ((p : Placed) → p ≡ placed_of old new p.node → test p ≡ false → f p.node ≡ None)
+    → filter_map (λ (p : Placed). f p.node) (filter test placed) ≡ filter_map (λ (p : Placed). f p.node) placed
+rows_kept f old new test [] each none = refl
+rows_kept f old new test (p ∷ placed) each none = by_test (test p) refl (rows_kept f old new test placed each.1 none)
+  where
+    by_test : (b : Bool) → test p ≡ b → filter_map (λ (p : Placed). f p.node) (filter test placed) ≡ filter_map (λ (p : Placed). f p.node) placed
+        → filter_map (λ (p : Placed). f p.node) (if b then p ∷ filter test placed else filter test placed) ≡ cons_option (f p.node) (filter_map (λ (p : Placed). f p.node) placed)
+    by_test true e h = ap (cons_option (f p.node)) h
+    by_test false e h = h ∙ ap (λ o. cons_option o (filter_map (λ (p : Placed). f p.node) placed)) (sym (none p each.0 e))
+
+turned : (b : Bool) → not b ≡ false → b ≡ true
+turned true h = refl
+turned false h = cc
+
 pub rows_reached : (f : NodeId → Option OutRow) (old new : Document) (placed : List Placed) → AreKnown old new placed → ((p : Placed) → p ≡ placed_of old new p.node → is_settled p.known ≡ true → f p.node ≡ None)
     → filter_map (λ (p : Placed). f p.node) (reached_by placed) ≡ filter_map (λ (p : Placed). f p.node) placed
-rows_reached f old new [] each none = refl
-rows_reached f old new (p ∷ placed) each none = by_test (is_settled p.known) refl (rows_reached f old new placed each.1 none)
-  where
-    by_test : (b : Bool) → is_settled p.known ≡ b → filter_map (λ (p : Placed). f p.node) (reached_by placed) ≡ filter_map (λ (p : Placed). f p.node) placed
-        → filter_map (λ (p : Placed). f p.node) (if not b then p ∷ reached_by placed else reached_by placed) ≡ cons_option (f p.node) (filter_map (λ (p : Placed). f p.node) placed)
-    by_test true e h = h ∙ ap (λ o. cons_option o (filter_map (λ (p : Placed). f p.node) placed)) (sym (none p each.0 e))
-    by_test false e h = ap (cons_option (f p.node)) h
+rows_reached f old new placed each none = rows_kept f old new (λ p. not (is_settled p.known)) placed each (λ p is off. none p is (turned (is_settled p.known) off))
 
 pub fewer : {X : Type 0} (test some : X → Bool) (xs : List X) → length (filter test (filter some xs)) ≤ length (filter test xs)
 fewer test some [] = omega arith

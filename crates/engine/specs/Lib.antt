@@ -2,4 +2,5 @@ pub mod Known
 pub mod ByNumber
 pub mod Before
 pub mod Costs
+pub mod Marks
 pub mod Nodes

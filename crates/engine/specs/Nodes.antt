@@ -1,5 +1,5 @@
 -- The nodes of a page that was edited, as every rule goes over them.
-use Rattle.std.specs.Prelude.{◌≡◌, ◌&&◌, not, List, map, filter, Bool, false, Option, Some, None}
+use Rattle.std.specs.Prelude.{◌≡◌, ◌&&◌, ◌||◌, not, List, map, filter, Bool, false, Option, Some, None}
 use Rattle.std.specs.List.{AllByRecursion}
 use Rattle.std.specs.Option.{option_copied}
 use Rattle.snap_tree.specs.Trees.{Document, rows_of}
@@ -8,6 +8,7 @@ use Rattle.engine.specs.declared.known.Known.{Known}
 use Rattle.engine.specs.declared.known.Placed.{Placed}
 use Rattle.engine.specs.declared.nodes.Nodes.{Nodes}
 use Rattle.engine.specs.Known.{placed_of, ArePlaced, same_nodes}
+use Rattle.engine.specs.Marks.{is_marked}
 
 -- the pages agree on all that rules look at of a node of both
 abbrev pub is_settled : Option Known → Bool
@@ -17,6 +18,14 @@ is_settled (Some k) = k.flags.itself && (k.flags.sub && (k.flags.table && (k.fla
 -- the others: those that the edit reaches
 abbrev pub reached_by : List Placed → List Placed
 reached_by placed = filter (λ p. not (is_settled p.known)) placed
+
+-- the edit reaches a node, or it may have a row
+abbrev pub is_live : List Bool → Placed → Bool
+is_live marks p = not (is_settled p.known) || is_marked marks p.node
+
+-- those that the edit reaches, and those that may have a row
+abbrev pub live_by : List Bool → List Placed → List Placed
+live_by marks placed = filter (is_live marks) placed
 
 -- of each of these nodes it is told what is known of it
 abbrev pub AreKnown : Document → Document → List Placed → Type 0
@@ -29,5 +38,6 @@ none_on page = map (λ row. None) (rows_of page.trees)
 pub record AreNodes (old new : Document) (nodes : Nodes) : Type 0 where
   pub placed : ArePlaced old new nodes.placed.items
   pub reached : nodes.reached.items ≡ reached_by nodes.placed.items
+  pub live : nodes.live.items ≡ live_by nodes.marks.items nodes.placed.items
   pub in_order : nodes.in_order ≡ same_nodes (rows_of old.trees) (rows_of new.trees)
   pub none : map option_copied nodes.none.items ≡ none_on old

@@ -11,6 +11,7 @@ ghost use Rattle.rule_core.specs.Reach.{is_affected, affected_nodes};
 ghost use Rattle.rule_core.specs.Local.{AreVersions};
 ghost use Rattle.engine.specs.Before.{HadRow, HadRows, WereRows};
 ghost use Rattle.engine.specs.Known.{placed_of, class_flag, has_to_judge};
+ghost use Rattle.engine.specs.Marks.{AreMarked};
 ghost use Rattle.engine.specs.Nodes.{AreKnown, AreNodes, is_settled};
 
 use crate::before::{row_before, rows_before};
@@ -172,29 +173,29 @@ fn placed_rows<B: RuleBook>(
     Ok(rows)
 }
 
-// The rows of a rule on the nodes of the new page, where the old one has the same in the same order: the rows that the
-// rule had stand in the order of the nodes.
+// The rows of a rule on some nodes of the new page, where the rows that it had on the old one are on these alone, in their
+// order.
 fn rows_along<B: RuleBook>(
     alloc: Global,
     book: &mut B,
     info: &RuleInfo,
     new: &Tree,
-    placed: &[Placed],
+    some: &[Placed],
     own: &[OutRow],
     by_node: &ByNode<'_>,
 ) -> Result<Vec<OutRow>, OutOfMemory>
     ensures rows { (old : Document) (earlier js : List Judgement) → Contains B.book.infos info.now → AreVersions old new.now
-        → AreKnown old new.now placed.now → HadRows B.book old earlier info.now.no placed.now own.now
+        → AreKnown old new.now some.now → HadRows B.book old earlier info.now.no some.now own.now
         → IsByNode js by_node.now
-        → IfOk result (λ rows. rows.items ≡ filter_map (λ p. atomic_row B.book new.now js info.now.no p.node) placed.now) }
-    ensures counted { (old : Document) (js : List Judgement) → AreKnown old new.now placed.now
-        → HadRows B.book old js info.now.no placed.now own.now
-        → B.calls book.new ≤ B.calls book.old + length (filter (λ p. is_affected info.now (B.book.means info.now.no) old new.now p.node) placed.now) }
-    ensures within { B.calls book.new ≤ B.calls book.old + length placed.now }
+        → IfOk result (λ rows. rows.items ≡ filter_map (λ p. atomic_row B.book new.now js info.now.no p.node) some.now) }
+    ensures counted { (old : Document) (js : List Judgement) → AreKnown old new.now some.now
+        → HadRows B.book old js info.now.no some.now own.now
+        → B.calls book.new ≤ B.calls book.old + length (filter (λ p. is_affected info.now (B.book.means info.now.no) old new.now p.node) some.now) }
+    ensures within { B.calls book.new ≤ B.calls book.old + length some.now }
 {
     let mut rows = Vec::new(alloc);
     let mut left = own;
-    for it in placed {
+    for it in some {
         let row = head_on(left, it.node);
         add_found(&mut rows, alloc, book, info, new, row, by_node, *it)?;
         left = after(left, it.node);
@@ -216,6 +217,7 @@ fn rows_in_order<B: RuleBook>(
     requires known { Contains B.book.infos info.now }
     requires address { old.now.address ≡ new.now.address }
     requires nodes { AreNodes old.now new.now nodes.now }
+    requires marked { AreMarked nodes.now.marks.items rows.now }
     requires order { nodes.now.in_order ≡ true }
     ensures rows { (earlier js : List Judgement) → rows.now ≡ atomic_rows B.book old.now earlier info.now.no
         → IsByNode js by_node.now → IfOk result (λ rows. rows.items ≡ atomic_rows B.book new.now js info.now.no) }
@@ -225,11 +227,11 @@ fn rows_in_order<B: RuleBook>(
 {
     well(old);
     well(new);
-    let placed = nodes.placed.as_slice();
-    rows_along(alloc, book, info, new, placed, rows, by_node)
+    let live = nodes.live.as_slice();
+    rows_along(alloc, book, info, new, live, rows, by_node)
 }
 
-// The rows of a rule that had some on the old page. It is asked of each node of the new one whether it had one.
+// The rows of a rule that had some on the old page. It is asked of each live node of the new one whether it had one.
 fn rows_by_rows<B: RuleBook>(
     alloc: Global,
     book: &mut B,
@@ -243,6 +245,7 @@ fn rows_by_rows<B: RuleBook>(
     requires known { Contains B.book.infos info.now }
     requires address { old.now.address ≡ new.now.address }
     requires nodes { AreNodes old.now new.now nodes.now }
+    requires marked { AreMarked nodes.now.marks.items rows.now }
     ensures rows { (earlier js : List Judgement) → rows.now ≡ atomic_rows B.book old.now earlier info.now.no
         → IsByNode js by_node.now → IfOk result (λ rows. rows.items ≡ atomic_rows B.book new.now js info.now.no) }
     ensures counted { (earlier : List Judgement) → rows.now ≡ atomic_rows B.book old.now earlier info.now.no
@@ -252,8 +255,8 @@ fn rows_by_rows<B: RuleBook>(
     well(old);
     well(new);
     let before = rows_before(alloc, old.rows(), rows)?;
-    let placed = nodes.placed.as_slice();
-    placed_rows(alloc, book, info, new, before.as_slice(), by_node, placed)
+    let live = nodes.live.as_slice();
+    placed_rows(alloc, book, info, new, before.as_slice(), by_node, live)
 }
 
 // The rows of a rule that had none on the old page. So it has none on a node that the edit doesn't reach.
@@ -291,8 +294,9 @@ fn rows_by_none<B: RuleBook>(
 
 /// The rows of an atomic rule on the new page under the judgements that the map has, by the rows that it had on the old
 /// page, under whatever judgements those are. The rule judges at most the nodes of the new page on which the edit
-/// affects it; and where the rows aren't those of the old page, never more than the nodes of the new page. Where it had
-/// no rows, only the nodes are gone over that the edit reaches. Fails only for want of memory.
+/// affects it; and where the rows aren't those of the old page, never more than the nodes of the new page. Only the nodes
+/// are gone over that the edit reaches, and, where the rule had rows, those that are marked, as the nodes of these rows
+/// must be. Fails only for want of memory.
 pub fn atomic_again<B: RuleBook>(
     alloc: Global,
     book: &mut B,
@@ -306,6 +310,7 @@ pub fn atomic_again<B: RuleBook>(
     requires known { Contains B.book.infos info.now }
     requires address { old.now.address ≡ new.now.address }
     requires nodes { AreNodes old.now new.now nodes.now }
+    requires marked { AreMarked nodes.now.marks.items rows.now }
     ensures rows { (earlier js : List Judgement) → rows.now ≡ atomic_rows B.book old.now earlier info.now.no
         → IsByNode js by_node.now → IfOk result (λ rows. rows ≡ atomic_rows B.book new.now js info.now.no) }
     ensures counted { (earlier : List Judgement) → rows.now ≡ atomic_rows B.book old.now earlier info.now.no

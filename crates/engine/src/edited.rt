@@ -5,6 +5,7 @@ ghost use Rattle.judge_core.specs.Outcomes.{rule_rows, outcomes, judgings};
 ghost use Rattle.judged_rows.specs.ByNode.{IsByNode};
 ghost use Rattle.judged_rows.specs.Parts.{IsPart};
 ghost use Rattle.rule_core.specs.Reach.{affected};
+ghost use Rattle.engine.specs.Marks.{AreMarked};
 ghost use Rattle.engine.specs.Nodes.{AreNodes};
 ghost use Rattle.engine.specs.Costs.{affected_cost, whole_cost};
 
@@ -37,7 +38,8 @@ pub fn reaudit<B: RuleBook>(
 {
     let infos = infos_of(alloc, book)?;
     let by_node = by_node(alloc, js)?;
-    let nodes = nodes_of(alloc, old, new)?;
+    let found = rows.rows.as_slice();
+    let nodes = nodes_of(alloc, old, new, found)?;
     let parts = parts_again(
         alloc,
         book,
@@ -45,7 +47,7 @@ pub fn reaudit<B: RuleBook>(
         old,
         new,
         &nodes,
-        rows.rows.as_slice(),
+        found,
         &by_node,
     )?;
     let rows = joined_parts(alloc, parts)?;
@@ -68,6 +70,7 @@ fn parts_again<B: RuleBook>(
     requires infos { infos.now ≡ B.book.infos }
     requires address { old.now.address ≡ new.now.address }
     requires nodes { AreNodes old.now new.now nodes.now }
+    requires marked { AreMarked nodes.now.marks.items rows.now }
     ensures infos { IfOk result (λ parts. map (λ p. p.info) parts.items ≡ infos.now) }
     ensures parts { (earlier js : List Judgement) → rows.now ≡ outcomes B.book old.now earlier → IsByNode js by_node.now
         → IfOk result (λ parts. AllByRecursion (IsPart B.book new.now js) parts.items) }
@@ -100,6 +103,7 @@ fn part_again<B: RuleBook>(
     requires known { Contains B.book.infos info.now }
     requires address { old.now.address ≡ new.now.address }
     requires nodes { AreNodes old.now new.now nodes.now }
+    requires marked { AreMarked nodes.now.marks.items rows.now }
     ensures info { IfOk result (λ part. part.info ≡ info.now) }
     ensures part { (earlier js : List Judgement) → rows.now ≡ rule_rows B.book old.now earlier info.now
         → IsByNode js by_node.now → IfOk result (λ part. IsPart B.book new.now js part) }

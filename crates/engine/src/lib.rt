@@ -7,6 +7,7 @@ mod before;
 mod by_number;
 mod edited;
 mod known;
+mod marks;
 mod nodes;
 
 pub use again::atomic_again;

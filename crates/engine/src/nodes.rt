@@ -1,8 +1,10 @@
 ghost use Rattle.std.specs.Prelude.{◌≡◌, IfOk};
-ghost use Rattle.engine.specs.Nodes.{is_settled, reached_by, AreNodes};
+ghost use Rattle.engine.specs.Marks.{AreMarked};
+ghost use Rattle.engine.specs.Nodes.{is_live, is_settled, live_by, reached_by, AreNodes};
 
 use crate::before::rows_before;
 use crate::known::{Known, Placed, known_nodes, same_nodes};
+use crate::marks::{is_marked, marks_of};
 use judge_core::OutRow;
 use snap_tree::{OutOfMemory, Tree};
 use std::alloc::Global;
@@ -14,6 +16,10 @@ pub struct Nodes<'a> {
     pub placed: Vec<Placed>,
     /// Those that the edit reaches: the node is new, or the pages don't agree on all that rules look at.
     pub reached: Vec<Placed>,
+    /// Marks of the nodes that may have a row, by their numbers.
+    pub marks: Vec<bool>,
+    /// Those that the edit reaches, and those that may have a row.
+    pub live: Vec<Placed>,
     /// Whether the pages hold the same nodes, in the same order.
     pub in_order: bool,
     /// For each node of the old page the row of a rule without rows: none.
@@ -46,17 +52,47 @@ fn reached_by(alloc: Global, placed: &[Placed]) -> Result<Vec<Placed>, OutOfMemo
     Ok(reached)
 }
 
-/// The nodes of a page that was edited, each with what is known of it by the two versions. Fails only for want of memory.
-pub fn nodes_of<'a>(alloc: Global, old: &Tree, new: &Tree) -> Result<Nodes<'a>, OutOfMemory>
-    ensures { IfOk result (λ nodes. AreNodes old.now new.now nodes) }
+fn is_live(marks: &[bool], it: &Placed) -> bool
+    ensures { result ≡ is_live marks.now it.now }
+{
+    !is_settled(it.known) | is_marked(marks, it.node)
+}
+
+// Those that the edit reaches, and those that are marked, in their order.
+fn live_by(alloc: Global, marks: &[bool], placed: &[Placed]) -> Result<Vec<Placed>, OutOfMemory>
+    ensures { IfOk result (λ live. live.items ≡ live_by marks.now placed.now) }
+{
+    let mut live = Vec::new(alloc);
+    for it in placed {
+        if is_live(marks, it) {
+            live.push(*it)?;
+        }
+    }
+    Ok(live)
+}
+
+/// The nodes of a page that was edited, each with what is known of it by the two versions; those with one of these rows
+/// are marked. Fails only for want of memory.
+pub fn nodes_of<'a>(
+    alloc: Global,
+    old: &Tree,
+    new: &Tree,
+    rows: &[OutRow],
+) -> Result<Nodes<'a>, OutOfMemory>
+    ensures nodes { IfOk result (λ nodes. AreNodes old.now new.now nodes) }
+    ensures marked { IfOk result (λ nodes. AreMarked nodes.marks.items rows.now) }
 {
     let placed = known_nodes(alloc, old, new)?;
     let reached = reached_by(alloc, placed.as_slice())?;
+    let marks = marks_of(alloc, placed.len(), rows)?;
+    let live = live_by(alloc, marks.as_slice(), placed.as_slice())?;
     let none = rows_before(alloc, old.rows(), &[])?;
     let in_order = same_nodes(old.rows(), new.rows());
     Ok(Nodes {
         placed,
         reached,
+        marks,
+        live,
         in_order,
         none,
     })

@@ -16,7 +16,7 @@ pub loop-it-preserved : goal.loop-it-preserved
 loop-it-preserved g c =
     let book = g.B.RuleBook.book in
     let info = c.args.info.now in
-    let some = c.args.placed.now in
+    let some = c.args.some.now in
     let new = c.args.new.now in
     let i = c.loop-it.it-index in
     let row = c.head_on-row.result in
@@ -39,7 +39,7 @@ returns-in_err-add_found-clause-counted g c =
     λ old js p h.
     let book = g.B.RuleBook.book in
     let info = c.args.info.now in
-    let some = c.args.placed.now in
+    let some = c.args.some.now in
     let new = c.args.new.now in
     let i = c.loop-it.it-index in
     let left = c.loop-it.left.now in
@@ -55,7 +55,7 @@ returns-clause-counted g c =
     λ old js p h.
     let book = g.B.RuleBook.book in
     let info = c.args.info.now in
-    let some = c.args.placed.now in
+    let some = c.args.some.now in
     let test = λ (p : Placed). is_affected info (book.means info.no) old c.args.new.now p.node in
     let cut = length-filter-take test c.loop-it.it-index some in
     omega (arith, c.loop-it.invariant.counted old js p h, cut)
@@ -65,6 +65,6 @@ returns-clause-rows g c =
     λ old earlier js contained versions p h has.
     let book = g.B.RuleBook.book in
     let info = c.args.info.now in
-    let some = c.args.placed.now in
+    let some = c.args.some.now in
     c.loop-it.invariant.rows old earlier js contained versions p h has
     ∙ ap (filter_map (λ (p : Placed). atomic_row book c.args.new.now js info.no p.node)) (take_all c.loop-it.it-index some (omega arith))

@@ -1,17 +1,9 @@
-use Rattle.std.proofs.Common.{length, map, filter, ◌∙◌, sym, ap, subst, arith}
+use Rattle.std.proofs.Common.{◌≡◌, sym, ◌∙◌, arith}
 use Rattle.std.proofs.lemmas.Result.{IfOk-weaker}
-use Rattle.std.specs.List.{filter_map}
-use Rattle.snap_tree.specs.declared.row.Row.{Row}
-use Rattle.snap_tree.specs.Trees.{rows_of}
+use Rattle.rule_core.specs.Local.{AreVersions}
 use Rattle.rule_core.specs.Reach.{is_affected}
-use Rattle.judge_core.specs.Outcomes.{atomic_row}
-use Rattle.judged_rows.proofs.Merged.{filter_map_map}
-use Rattle.engine.specs.declared.known.Placed.{Placed}
-use Rattle.engine.specs.Nodes.{AreKnown}
-use Rattle.engine.proofs.Along.{numbers_are}
-use Rattle.engine.proofs.InOrder.{of_same}
-use Rattle.engine.proofs.Placing.{affected_in, rows_are}
-use Rattle.engine.proofs.Reaching.{placed_known}
+use Rattle.engine.specs.Nodes.{live_by}
+use Rattle.engine.proofs.Live.{live_known, had_live, has_live, live_affected, live_within}
 use Rattle.engine.proofs.again.rows_in_order.Goals as goal
 
 pub returns-clause-rows : goal.returns-clause-rows
@@ -21,17 +13,14 @@ returns-clause-rows g c =
     let info = c.args.info.now in
     let old = c.args.old.now in
     let new = c.args.new.now in
-    let rule = info.no in
-    let f = atomic_row book old earlier rule in
+    let marks = c.args.nodes.now.marks.items in
     let placed = c.args.nodes.now.placed.items in
-    let list = c.as_slice-placed.ensures.value in
-    let each = subst (AreKnown old new) (sym list) (placed_known old new placed c.requires.nodes.placed) in
-    let same = of_same (λ n. n) (rows_of old.trees) (rows_of new.trees) (sym c.requires.nodes.in_order ∙ c.requires.order) in
-    let nodes = same ∙ numbers_are old new placed c.requires.nodes.placed ∙ ap (map (λ (p : Placed). p.node)) (sym list) in
-    let had = h ∙ sym (filter_map_map f (λ (row : Row). row.id) (rows_of old.trees)) ∙ ap (filter_map f) nodes in
-    IfOk-weaker c.rows_along.result _ _ (λ rows e.
-    e ∙ ap (filter_map (λ (p : Placed). atomic_row book new js rule p.node)) list ∙ rows_are old new placed c.requires.nodes.placed (atomic_row book new js rule))
-    (c.rows_along.ensures.rows old earlier js c.requires.known (record { old_well = c.well.ensures; new_well = c.well-2.ensures; address = c.requires.address }) each had has)
+    let live = c.as_slice-live.result.now in
+    let is : live ≡ live_by marks placed = c.as_slice-live.ensures.value ∙ c.requires.nodes.live in
+    let versions : AreVersions old new = record { old_well = c.well.ensures; new_well = c.well-2.ensures; address = c.requires.address } in
+    let had = had_live book info.no old new earlier marks placed live c.args.rows.now c.requires.nodes.placed (sym c.requires.nodes.in_order ∙ c.requires.order) is h c.requires.marked in
+    IfOk-weaker c.rows_along.result _ _ (λ rows e. e ∙ has_live book info (g.met.B.RuleBook.local info c.requires.known) old new versions earlier js marks placed live c.args.rows.now c.requires.nodes.placed is h c.requires.marked)
+    (c.rows_along.ensures.rows old earlier js c.requires.known versions (live_known old new marks placed live c.requires.nodes.placed is) had has)
 
 pub returns-clause-counted : goal.returns-clause-counted
 returns-clause-counted g c =
@@ -40,14 +29,17 @@ returns-clause-counted g c =
     let info = c.args.info.now in
     let old = c.args.old.now in
     let new = c.args.new.now in
-    let rule = info.no in
-    let f = atomic_row book old earlier rule in
+    let marks = c.args.nodes.now.marks.items in
     let placed = c.args.nodes.now.placed.items in
-    let list = c.as_slice-placed.ensures.value in
-    let each = subst (AreKnown old new) (sym list) (placed_known old new placed c.requires.nodes.placed) in
-    let same = of_same (λ n. n) (rows_of old.trees) (rows_of new.trees) (sym c.requires.nodes.in_order ∙ c.requires.order) in
-    let nodes = same ∙ numbers_are old new placed c.requires.nodes.placed ∙ ap (map (λ (p : Placed). p.node)) (sym list) in
-    let had = h ∙ sym (filter_map_map f (λ (row : Row). row.id) (rows_of old.trees)) ∙ ap (filter_map f) nodes in
-    let test = is_affected info (book.means rule) old new in
-    let all = ap (λ xs. length (filter (λ (p : Placed). test p.node) xs)) list ∙ affected_in old new placed c.requires.nodes.placed test in
-    omega (arith, c.rows_along.ensures.counted old earlier each had, all)
+    let live = c.as_slice-live.result.now in
+    let is : live ≡ live_by marks placed = c.as_slice-live.ensures.value ∙ c.requires.nodes.live in
+    let had = had_live book info.no old new earlier marks placed live c.args.rows.now c.requires.nodes.placed (sym c.requires.nodes.in_order ∙ c.requires.order) is h c.requires.marked in
+    let some = live_affected old new marks placed live c.requires.nodes.placed is (is_affected info (book.means info.no) old new) in
+    omega (arith, c.rows_along.ensures.counted old earlier (live_known old new marks placed live c.requires.nodes.placed is) had, some)
+
+pub returns-clause-within : goal.returns-clause-within
+returns-clause-within g c =
+    let old = c.args.old.now in
+    let new = c.args.new.now in
+    let some = live_within old new c.args.nodes.now.marks.items c.args.nodes.now.placed.items c.as_slice-live.result.now c.requires.nodes.placed (c.as_slice-live.ensures.value ∙ c.requires.nodes.live) in
+    omega (arith, c.rows_along.ensures.within, some)

@@ -9,7 +9,7 @@ returns-in_err-parts-clause-counted g c =
     λ earlier is.
     let book = g.B.RuleBook.book in
     let sum = ap (sum_by (affected_cost book c.args.old.now c.args.new.now)) (c.as_slice.ensures.value ∙ c.in_ok-infos.ensures) ∙ affected_of_all book c.args.old.now c.args.new.now in
-    omega (arith, c.parts_again.ensures.counted earlier (c.as_slice-2.ensures ∙ is), sum)
+    omega (arith, c.parts_again.ensures.counted earlier (c.as_slice-found.ensures ∙ is), sum)
 
 pub returns-in_err-parts-clause-within : goal.returns-in_err-parts-clause-within
 returns-in_err-parts-clause-within g c =
@@ -22,7 +22,7 @@ returns-in_err-rows-clause-counted g c =
     λ earlier is.
     let book = g.B.RuleBook.book in
     let sum = ap (sum_by (affected_cost book c.args.old.now c.args.new.now)) (c.as_slice.ensures.value ∙ c.in_ok-infos.ensures) ∙ affected_of_all book c.args.old.now c.args.new.now in
-    omega (arith, c.parts_again.ensures.counted earlier (c.as_slice-2.ensures ∙ is), sum)
+    omega (arith, c.parts_again.ensures.counted earlier (c.as_slice-found.ensures ∙ is), sum)
 
 pub returns-in_err-rows-clause-within : goal.returns-in_err-rows-clause-within
 returns-in_err-rows-clause-within g c =
@@ -37,7 +37,7 @@ returns-clause-rows g c =
     c.from_vec.ensures
     ∙ c.in_ok-rows.ensures book c.args.new.now c.args.js.now g.met.B.RuleBook.strange (record {
       whole = c.in_ok-parts.ensures.infos ∙ c.as_slice.ensures.value ∙ c.in_ok-infos.ensures;
-      each = c.in_ok-parts.ensures.parts earlier c.args.js.now (c.as_slice-2.ensures ∙ is) c.in_ok-by_node.ensures;
+      each = c.in_ok-parts.ensures.parts earlier c.args.js.now (c.as_slice-found.ensures ∙ is) c.in_ok-by_node.ensures;
     })
 
 pub returns-clause-counted : goal.returns-clause-counted
@@ -45,7 +45,7 @@ returns-clause-counted g c =
     λ earlier is.
     let book = g.B.RuleBook.book in
     let sum = ap (sum_by (affected_cost book c.args.old.now c.args.new.now)) (c.as_slice.ensures.value ∙ c.in_ok-infos.ensures) ∙ affected_of_all book c.args.old.now c.args.new.now in
-    omega (arith, c.parts_again.ensures.counted earlier (c.as_slice-2.ensures ∙ is), sum)
+    omega (arith, c.parts_again.ensures.counted earlier (c.as_slice-found.ensures ∙ is), sum)
 
 pub returns-clause-within : goal.returns-clause-within
 returns-clause-within g c =
