@@ -1,5 +1,5 @@
 -- What is found of a rule without rows: nothing, but where the edit reaches.
-use Rattle.std.proofs.Common.{◌≡◌, ◌≤◌, ◌<◌, ◌&&◌, not, ℕ, zero, suc, List, [], ◌∷◌, length, filter, map, get_or, slice_get, Bool, true, false, if◌then◌else◌, Option, Some, None, IfSome, Bor, subst, refl, sym, ◌∙◌, ap, arith}
+use Rattle.std.proofs.Common.{◌≡◌, ◌≤◌, ◌<◌, ◌&&◌, ◌||◌, not, ℕ, zero, suc, List, [], ◌∷◌, length, filter, map, get_or, slice_get, Bool, true, false, if◌then◌else◌, Option, Some, None, IfSome, Bor, subst, refl, sym, ◌∙◌, ap, arith}
 use Rattle.std.specs.List.{filter_map, cons_option}
 use Rattle.std.specs.Option.{option_copied, is_some}
 use Rattle.snap_tree.specs.declared.row.NodeId.{NodeId}
@@ -8,16 +8,18 @@ use Rattle.snap_tree.specs.Trees.{Document, rows_of}
 use Rattle.rule_core.specs.declared.info.Class.{Class}
 use Rattle.rule_core.specs.declared.info.Class.TheVariants.{SelfOnly, Sub, Table, Title, Metas, Whole}
 use Rattle.rule_core.specs.declared.info.RuleInfo.{RuleInfo}
+use Rattle.rule_core.specs.declared.info.RuleNo.{RuleNo}
 use Rattle.rule_core.specs.Books.{Book}
 use Rattle.rule_core.specs.Local.{AreVersions, IsLocal}
 use Rattle.judge_core.specs.declared.judgement.Judgement.{Judgement}
 use Rattle.judge_core.specs.declared.outcomes.OutRow.{OutRow}
-use Rattle.judge_core.specs.Outcomes.{atomic_row}
+use Rattle.judge_core.specs.Outcomes.{atomic_row, atomic_rows}
 use Rattle.engine.specs.declared.known.Known.{Known}
 use Rattle.engine.specs.declared.known.Placed.{Placed}
 use Rattle.engine.specs.Known.{placed_of, known_of, ArePlaced, class_flag, has_to_judge}
-use Rattle.engine.specs.Before.{joined, kept_at, WereRows}
-use Rattle.engine.specs.Nodes.{is_settled, reached_by, AreKnown, none_on}
+use Rattle.engine.specs.Before.{joined, kept_at, HadRow, KeepsRows, WereRows}
+use Rattle.engine.specs.Marks.{is_marked}
+use Rattle.engine.specs.Nodes.{is_settled, live_by, reached_by, AreKnown}
 use Rattle.engine.proofs.Kept.{kept_here, had_at}
 
 -- ---- of each it is told what is known
@@ -48,7 +50,7 @@ known_at old new (p ∷ some) each (suc i) d h = known_at old new some each.1 i 
 -- ---- the others have no row
 
 -- where there is none at all, there is none on each
-pub none_of_each : (f : NodeId → Option OutRow) (rows : List Row) → [] ≡ filter_map (λ row. f row.id) rows → map (λ (row : Row). f row.id) rows ≡ map (λ (row : Row). let none : Option OutRow = None in none) rows
+none_of_each : (f : NodeId → Option OutRow) (rows : List Row) → [] ≡ filter_map (λ row. f row.id) rows → map (λ (row : Row). f row.id) rows ≡ map (λ (row : Row). let none : Option OutRow = None in none) rows
 none_of_each f [] e = refl
 none_of_each f (row ∷ rows) e = by_row (f row.id) refl e (λ h. none_of_each f rows h)
   where
@@ -58,18 +60,32 @@ none_of_each f (row ∷ rows) e = by_row (f row.id) refl e (λ h. none_of_each f
     by_row None is h later = λ i. is i ∷ later h i
     by_row (Some x) is h later = cc
 
-pub no_rows : (f : NodeId → Option OutRow) (rows : List Row) → (each : (n : NodeId) → f n ≡ None) → [] ≡ filter_map f (map (λ (row : Row). row.id) rows)
-no_rows f [] each = refl
-no_rows f (row ∷ rows) each = no_rows f rows each ∙ ap (λ o. cons_option o (filter_map f (map (λ (row : Row). row.id) rows))) (sym (each row.id))
+abbrev none_on : Document → List (Option OutRow)
+none_on page = map (λ (row : Row). let none : Option OutRow = None in none) (rows_of page.trees)
 
 none_at : (rows : List Row) (place : ℕ) → joined (slice_get (map (λ (row : Row). let none : Option OutRow = None in none) rows) place) ≡ None
 none_at [] place = refl
 none_at (row ∷ rows) zero = refl
 none_at (row ∷ rows) (suc place) = none_at rows place
 
-pub none_kept : (page : Document) (before : List (Option OutRow)) → before ≡ none_on page → (known : Option Known) → kept_at before known ≡ None
-none_kept page before e None = refl
-none_kept page before e (Some known) = ap (λ xs. joined (slice_get xs known.place)) e ∙ none_at (rows_of page.trees) known.place
+none_kept : (page : Document) (known : Option Known) → kept_at (none_on page) known ≡ None
+none_kept page None = refl
+none_kept page (Some known) = none_at (rows_of page.trees) known.place
+
+-- a rule without rows had none on a node
+none_had : (book : Book) (old new : Document) (js : List Judgement) (rule : RuleNo) → [] ≡ atomic_rows book old js rule → (p : Placed) → p ≡ placed_of old new p.node → HadRow book old js rule p None
+none_had book old new js rule h p is =
+    had_at book old new js rule p.node (none_on old) (sym (none_of_each (atomic_row book old js rule) (rows_of old.trees) h)) p.known (ap (λ (p : Placed). p.known) is) None (sym (none_kept old p.known))
+
+no_place : (known : Option Known) → kept_at [] known ≡ None
+no_place None = refl
+no_place (Some known) = refl
+
+pub keeps_none : (book : Book) (old new : Document) (js : List Judgement) (rule : RuleNo) → [] ≡ atomic_rows book old js rule → KeepsRows book old new js rule []
+keeps_none book old new js rule h = record { each = λ p is. subst (HadRow book old js rule p) (sym (no_place p.known)) (none_had book old new js rule h p is) }
+
+pub keeps_rows : (book : Book) (old new : Document) (js : List Judgement) (rule : RuleNo) (before : List (Option OutRow)) → WereRows book old js rule before → KeepsRows book old new js rule before
+keeps_rows book old new js rule before w = record { each = λ p is. had_at book old new js rule p.node before w p.known (ap (λ (p : Placed). p.known) is) (kept_at before p.known) refl }
 
 both : (a b : Bool) → (a && b) ≡ true → (a ≡ true) × (b ≡ true)
 both true b h = (refl, h)
@@ -97,11 +113,10 @@ settled_off info None h = cc
 settled_off info (Some k) h = ap (λ b. not (b && true)) (each_flag info.applies k h)
 
 -- so a rule without rows has none where the edit doesn't reach
-pub settled_none : (book : Book) (info : RuleInfo) → IsLocal info (book.means info.no) → (old new : Document) → AreVersions old new → (earlier js : List Judgement) (before : List (Option OutRow)) → WereRows book old earlier info.no before → before ≡ none_on old
+pub settled_none : (book : Book) (info : RuleInfo) → IsLocal info (book.means info.no) → (old new : Document) → AreVersions old new → (earlier js : List Judgement) → [] ≡ atomic_rows book old earlier info.no
     → (p : Placed) → p ≡ placed_of old new p.node → is_settled p.known ≡ true → atomic_row book new js info.no p.node ≡ None
-settled_none book info local old new versions earlier js before w none p is settled =
-    let known = ap (λ (p : Placed). p.known) is in
-    sym (kept_here book info local old new versions earlier js p.node p.known known None (had_at book old new earlier info.no p.node before w p.known known None (sym (none_kept old before none p.known))) (settled_off info p.known settled))
+settled_none book info local old new versions earlier js h p is settled =
+    sym (kept_here book info local old new versions earlier js p.node p.known (ap (λ (p : Placed). p.known) is) None (none_had book old new earlier info.no h p is) (settled_off info p.known settled))
 
 -- nor has it one on a node that had none, where the edit doesn't reach
 pub quiet_none : (book : Book) (info : RuleInfo) → IsLocal info (book.means info.no) → (old new : Document) → AreVersions old new → (earlier js : List Judgement) (n : NodeId) (known : Option Known) → known ≡ known_of old new n
@@ -131,6 +146,17 @@ turned false h = cc
 pub rows_reached : (f : NodeId → Option OutRow) (old new : Document) (placed : List Placed) → AreKnown old new placed → ((p : Placed) → p ≡ placed_of old new p.node → is_settled p.known ≡ true → f p.node ≡ None)
     → filter_map (λ (p : Placed). f p.node) (reached_by placed) ≡ filter_map (λ (p : Placed). f p.node) placed
 rows_reached f old new placed each none = rows_kept f old new (λ p. not (is_settled p.known)) placed each (λ p is off. none p is (turned (is_settled p.known) off))
+
+-- those that the edit reaches are among the live ones
+pub reached_live : (marks : List Bool) (placed : List Placed) → reached_by (live_by marks placed) ≡ reached_by placed
+reached_live marks [] = refl
+reached_live marks (p ∷ placed) = by_test (is_settled p.known) refl (is_marked marks p.node) (reached_live marks placed)
+  where
+    by_test : (s : Bool) → is_settled p.known ≡ s → (m : Bool) → reached_by (live_by marks placed) ≡ reached_by placed
+        → reached_by (if not s || m then p ∷ live_by marks placed else live_by marks placed) ≡ (if not s then p ∷ reached_by placed else reached_by placed)
+    by_test false e m h = ap (λ b. if not b then p ∷ reached_by (live_by marks placed) else reached_by (live_by marks placed)) e ∙ ap (λ l. p ∷ l) h
+    by_test true e true h = ap (λ b. if not b then p ∷ reached_by (live_by marks placed) else reached_by (live_by marks placed)) e ∙ h
+    by_test true e false h = h
 
 pub fewer : {X : Type 0} (test some : X → Bool) (xs : List X) → length (filter test (filter some xs)) ≤ length (filter test xs)
 fewer test some [] = omega arith

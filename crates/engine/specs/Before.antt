@@ -9,6 +9,7 @@ use Rattle.judge_core.specs.declared.outcomes.OutRow.{OutRow}
 use Rattle.judge_core.specs.Outcomes.{atomic_row}
 use Rattle.engine.specs.declared.known.Known.{Known}
 use Rattle.engine.specs.declared.known.Placed.{Placed}
+use Rattle.engine.specs.Known.{placed_of}
 
 abbrev pub joined : Option (Option OutRow) → Option OutRow
 joined None = None
@@ -26,6 +27,10 @@ WereRows book old js rule before = before ≡ map (λ row. atomic_row book old j
 -- the row that a rule had on a node, where the old page holds the node
 abbrev pub HadRow : Book → Document → List Judgement → RuleNo → Placed → Option OutRow → Type 0
 HadRow book old js rule placed row = IfSome placed.known (λ k. row ≡ atomic_row book old js rule placed.node)
+
+-- the rows that a rule had on the nodes of the old page that the new one holds, each at the place of its node
+pub record KeepsRows (book : Book) (old new : Document) (js : List Judgement) (rule : RuleNo) (before : List (Option OutRow)) : Type 0 where
+  pub each : (p : Placed) → p ≡ placed_of old new p.node → HadRow book old js rule p (kept_at before p.known)
 
 -- the rows that a rule had, where the nodes of the old page are these, in their order
 abbrev pub HadRows : Book → Document → List Judgement → RuleNo → List Placed → List OutRow → Type 0

@@ -1,9 +1,7 @@
 -- The nodes of a page that was edited, as every rule goes over them.
-use Rattle.std.specs.Prelude.{◌≡◌, ◌&&◌, ◌||◌, not, List, map, filter, Bool, false, Option, Some, None}
+use Rattle.std.specs.Prelude.{◌≡◌, ◌&&◌, ◌||◌, not, List, filter, Bool, false, Option, Some, None}
 use Rattle.std.specs.List.{AllByRecursion}
-use Rattle.std.specs.Option.{option_copied}
 use Rattle.snap_tree.specs.Trees.{Document, rows_of}
-use Rattle.judge_core.specs.declared.outcomes.OutRow.{OutRow}
 use Rattle.engine.specs.declared.known.Known.{Known}
 use Rattle.engine.specs.declared.known.Placed.{Placed}
 use Rattle.engine.specs.declared.nodes.Nodes.{Nodes}
@@ -31,13 +29,8 @@ live_by marks placed = filter (is_live marks) placed
 abbrev pub AreKnown : Document → Document → List Placed → Type 0
 AreKnown old new some = AllByRecursion (λ p. p ≡ placed_of old new p.node) some
 
--- the rows that a rule without rows has on the nodes of the old page: none on each
-abbrev pub none_on : Document → List (Option OutRow)
-none_on page = map (λ row. None) (rows_of page.trees)
-
 pub record AreNodes (old new : Document) (nodes : Nodes) : Type 0 where
   pub placed : ArePlaced old new nodes.placed.items
   pub reached : nodes.reached.items ≡ reached_by nodes.placed.items
   pub live : nodes.live.items ≡ live_by nodes.marks.items nodes.placed.items
   pub in_order : nodes.in_order ≡ same_nodes (rows_of old.trees) (rows_of new.trees)
-  pub none : map option_copied nodes.none.items ≡ none_on old

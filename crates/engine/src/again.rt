@@ -9,7 +9,7 @@ ghost use Rattle.judged_rows.specs.Again.{again};
 ghost use Rattle.judged_rows.specs.ByNode.{IsByNode};
 ghost use Rattle.rule_core.specs.Reach.{is_affected, affected_nodes};
 ghost use Rattle.rule_core.specs.Local.{AreVersions};
-ghost use Rattle.engine.specs.Before.{HadRow, HadRows, WereRows};
+ghost use Rattle.engine.specs.Before.{HadRow, HadRows, KeepsRows};
 ghost use Rattle.engine.specs.Known.{placed_of, class_flag, has_to_judge};
 ghost use Rattle.engine.specs.Marks.{AreMarked};
 ghost use Rattle.engine.specs.Nodes.{AreKnown, AreNodes, is_settled};
@@ -85,6 +85,34 @@ fn has_to_judge(info: &RuleInfo, known: Option<Known>, target: bool) -> bool
     }
 }
 
+// Adds the row of a rule on a node of the new page, where there is one: judged where the edit reaches it, else the one
+// that it had.
+fn add_either<B: RuleBook>(
+    rows: &mut Vec<OutRow>,
+    alloc: Global,
+    book: &mut B,
+    info: &RuleInfo,
+    new: &Tree,
+    row: Option<&OutRow>,
+    by_node: &ByNode<'_>,
+    placed: Placed,
+) -> Result<(), OutOfMemory>
+    ensures row { (old : Document) (earlier js : List Judgement) → Contains B.book.infos info.now → AreVersions old new.now
+        → placed ≡ placed_of old new.now placed.node → HadRow B.book old earlier info.now.no placed (option_copied row.entry)
+        → IsByNode js by_node.now
+        → OnOk result (rows.new.items ≡ rows.old.items ++ option_to_list (atomic_row B.book new.now js info.now.no placed.node)) }
+    ensures counted { (old : Document) (js : List Judgement) → placed ≡ placed_of old new.now placed.node
+        → HadRow B.book old js info.now.no placed (option_copied row.entry)
+        → B.calls book.new ≤ B.calls book.old + (if is_affected info.now (B.book.means info.now.no) old new.now placed.node then 1 else 0) }
+    ensures within { B.calls book.new ≤ B.calls book.old + 1 }
+{
+    if has_to_judge(info, placed.known, row.is_some()) {
+        add_judged(rows, alloc, book, new, by_node, info.no, placed.node)
+    } else {
+        add_kept(rows, alloc, row, by_node)
+    }
+}
+
 // Whether a node had no row, and the edit doesn't reach it: so it has none. Most nodes are so.
 fn is_quiet(known: Option<Known>, had: bool) -> bool
     ensures { result ≡ (is_settled known && not had) }
@@ -92,8 +120,7 @@ fn is_quiet(known: Option<Known>, had: bool) -> bool
     is_settled(known) & !had
 }
 
-// Adds the row of a rule on a node of the new page, where there is one: judged where the edit reaches it, else the one
-// that it had.
+// Adds the row of a rule on a node of the new page, where there is one.
 fn add_found<B: RuleBook>(
     rows: &mut Vec<OutRow>,
     alloc: Global,
@@ -113,14 +140,10 @@ fn add_found<B: RuleBook>(
         → B.calls book.new ≤ B.calls book.old + (if is_affected info.now (B.book.means info.now.no) old new.now placed.node then 1 else 0) }
     ensures within { B.calls book.new ≤ B.calls book.old + 1 }
 {
-    let had = row.is_some();
-    if is_quiet(placed.known, had) {
-        Ok(())
-    } else if has_to_judge(info, placed.known, had) {
-        add_judged(rows, alloc, book, new, by_node, info.no, placed.node)
-    } else {
-        add_kept(rows, alloc, row, by_node)
+    if is_quiet(placed.known, row.is_some()) {
+        return Ok(());
     }
+    add_either(rows, alloc, book, info, new, row, by_node, placed)
 }
 
 // The same, by the rows of all nodes of the old page.
@@ -135,11 +158,11 @@ fn add_row<B: RuleBook>(
     placed: Placed,
 ) -> Result<(), OutOfMemory>
     ensures row { (old : Document) (earlier js : List Judgement) → Contains B.book.infos info.now → AreVersions old new.now
-        → placed ≡ placed_of old new.now placed.node → WereRows B.book old earlier info.now.no (map option_copied before.now)
+        → placed ≡ placed_of old new.now placed.node → KeepsRows B.book old new.now earlier info.now.no (map option_copied before.now)
         → IsByNode js by_node.now
         → OnOk result (rows.new.items ≡ rows.old.items ++ option_to_list (atomic_row B.book new.now js info.now.no placed.node)) }
     ensures counted { (old : Document) (js : List Judgement) → placed ≡ placed_of old new.now placed.node
-        → WereRows B.book old js info.now.no (map option_copied before.now)
+        → KeepsRows B.book old new.now js info.now.no (map option_copied before.now)
         → B.calls book.new ≤ B.calls book.old + (if is_affected info.now (B.book.means info.now.no) old new.now placed.node then 1 else 0) }
     ensures within { B.calls book.new ≤ B.calls book.old + 1 }
 {
@@ -158,11 +181,11 @@ fn placed_rows<B: RuleBook>(
     some: &[Placed],
 ) -> Result<Vec<OutRow>, OutOfMemory>
     ensures rows { (old : Document) (earlier js : List Judgement) → Contains B.book.infos info.now → AreVersions old new.now
-        → AreKnown old new.now some.now → WereRows B.book old earlier info.now.no (map option_copied before.now)
+        → AreKnown old new.now some.now → KeepsRows B.book old new.now earlier info.now.no (map option_copied before.now)
         → IsByNode js by_node.now
         → IfOk result (λ rows. rows.items ≡ filter_map (λ p. atomic_row B.book new.now js info.now.no p.node) some.now) }
     ensures counted { (old : Document) (js : List Judgement) → AreKnown old new.now some.now
-        → WereRows B.book old js info.now.no (map option_copied before.now)
+        → KeepsRows B.book old new.now js info.now.no (map option_copied before.now)
         → B.calls book.new ≤ B.calls book.old + length (filter (λ p. is_affected info.now (B.book.means info.now.no) old new.now p.node) some.now) }
     ensures within { B.calls book.new ≤ B.calls book.old + length some.now }
 {
@@ -210,7 +233,7 @@ fn rows_in_order<B: RuleBook>(
     info: &RuleInfo,
     old: &Tree,
     new: &Tree,
-    nodes: &Nodes<'_>,
+    nodes: &Nodes,
     rows: &[OutRow],
     by_node: &ByNode<'_>,
 ) -> Result<Vec<OutRow>, OutOfMemory>
@@ -238,7 +261,7 @@ fn rows_by_rows<B: RuleBook>(
     info: &RuleInfo,
     old: &Tree,
     new: &Tree,
-    nodes: &Nodes<'_>,
+    nodes: &Nodes,
     rows: &[OutRow],
     by_node: &ByNode<'_>,
 ) -> Result<Vec<OutRow>, OutOfMemory>
@@ -266,7 +289,7 @@ fn rows_by_none<B: RuleBook>(
     info: &RuleInfo,
     old: &Tree,
     new: &Tree,
-    nodes: &Nodes<'_>,
+    nodes: &Nodes,
     by_node: &ByNode<'_>,
 ) -> Result<Vec<OutRow>, OutOfMemory>
     requires known { Contains B.book.infos info.now }
@@ -281,15 +304,7 @@ fn rows_by_none<B: RuleBook>(
     well(old);
     well(new);
     let reached = nodes.reached.as_slice();
-    placed_rows(
-        alloc,
-        book,
-        info,
-        new,
-        nodes.none.as_slice(),
-        by_node,
-        reached,
-    )
+    placed_rows(alloc, book, info, new, &[], by_node, reached)
 }
 
 /// The rows of an atomic rule on the new page under the judgements that the map has, by the rows that it had on the old
@@ -303,7 +318,7 @@ pub fn atomic_again<B: RuleBook>(
     info: &RuleInfo,
     old: &Tree,
     new: &Tree,
-    nodes: &Nodes<'_>,
+    nodes: &Nodes,
     rows: &[OutRow],
     by_node: &ByNode<'_>,
 ) -> Result<List<OutRow>, OutOfMemory>

@@ -46,12 +46,17 @@ fn put(by_number: &mut ByNumber, known: Known) -> Result<(), OutOfMemory>
     }
 }
 
+/// How many slots a table by number has on a page of so many nodes.
+pub(crate) fn slots(count: usize) -> usize {
+    count.saturating_mul(SPREAD).saturating_add(1)
+}
+
 // Nothing is known, and there is room for what is of so many nodes.
 fn room(alloc: Global, count: usize) -> Result<ByNumber, OutOfMemory>
     ensures { IfOk result (λ by_number. (n : ℕ) → at by_number n ≡ None) }
 {
     let mut near = Vec::new(alloc);
-    near.resize(count.saturating_mul(SPREAD).saturating_add(1), None)?;
+    near.resize(slots(count), None)?;
     Ok(ByNumber {
         near,
         far: BTreeMap::new(alloc),

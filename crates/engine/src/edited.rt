@@ -63,7 +63,7 @@ fn parts_again<B: RuleBook>(
     infos: &[RuleInfo],
     old: &Tree,
     new: &Tree,
-    nodes: &Nodes<'_>,
+    nodes: &Nodes,
     rows: &[OutRow],
     by_node: &ByNode<'_>,
 ) -> Result<Vec<Part>, OutOfMemory>
@@ -96,7 +96,7 @@ fn part_again<B: RuleBook>(
     info: &RuleInfo,
     old: &Tree,
     new: &Tree,
-    nodes: &Nodes<'_>,
+    nodes: &Nodes,
     rows: &[OutRow],
     by_node: &ByNode<'_>,
 ) -> Result<Part, OutOfMemory>

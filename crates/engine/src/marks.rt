@@ -1,12 +1,10 @@
 ghost use Rattle.std.specs.Prelude.{◌≡◌, true, slice_set, IfOk};
 ghost use Rattle.engine.specs.Marks.{is_marked, AreMarked};
 
+use crate::by_number::slots;
 use judge_core::OutRow;
 use snap_tree::{NodeId, OutOfMemory};
 use std::alloc::Global;
-
-// A page's numbers are mostly below so many times the count of its nodes.
-const SPREAD: usize = 2;
 
 // Marks a node, where the table reaches so far.
 #[tactic(auto, using(crate::proofs::Marking::set_past))]
@@ -19,13 +17,6 @@ fn mark(marks: &mut Vec<bool>, node: NodeId)
     }
 }
 
-// Marks of so many nodes, none of which is marked.
-fn unmarked(alloc: Global, count: usize) -> Result<Vec<bool>, OutOfMemory> {
-    let mut marks = Vec::new(alloc);
-    marks.resize(count.saturating_mul(SPREAD).saturating_add(1), false)?;
-    Ok(marks)
-}
-
 /// Marks of the nodes that have a row among these, on a page of so many nodes: a table with a mark for each number up
 /// to some. Fails only for want of memory.
 pub(crate) fn marks_of(
@@ -35,7 +26,8 @@ pub(crate) fn marks_of(
 ) -> Result<Vec<bool>, OutOfMemory>
     ensures { IfOk result (λ marks. AreMarked marks.items rows.now) }
 {
-    let mut marks = unmarked(alloc, count)?;
+    let mut marks = Vec::new(alloc);
+    marks.resize(slots(count), false)?;
     for row in rows {
         mark(&mut marks, row.node);
     }

@@ -2,7 +2,6 @@ ghost use Rattle.std.specs.Prelude.{◌≡◌, IfOk};
 ghost use Rattle.engine.specs.Marks.{AreMarked};
 ghost use Rattle.engine.specs.Nodes.{is_live, is_settled, live_by, reached_by, AreNodes};
 
-use crate::before::rows_before;
 use crate::known::{Known, Placed, known_nodes, same_nodes};
 use crate::marks::{is_marked, marks_of};
 use judge_core::OutRow;
@@ -11,7 +10,7 @@ use std::alloc::Global;
 
 /// The nodes of a page that was edited, as every rule goes over them.
 #[derive(Drop)]
-pub struct Nodes<'a> {
+pub struct Nodes {
     /// Each node of the new page in document order, with what is known of it.
     pub placed: Vec<Placed>,
     /// Those that the edit reaches: the node is new, or the pages don't agree on all that rules look at.
@@ -22,8 +21,6 @@ pub struct Nodes<'a> {
     pub live: Vec<Placed>,
     /// Whether the pages hold the same nodes, in the same order.
     pub in_order: bool,
-    /// For each node of the old page the row of a rule without rows: none.
-    pub none: Vec<Option<&'a OutRow>>,
 }
 
 /// Whether the pages agree on all that rules look at of a node of both.
@@ -73,20 +70,19 @@ fn live_by(alloc: Global, marks: &[bool], placed: &[Placed]) -> Result<Vec<Place
 
 /// The nodes of a page that was edited, each with what is known of it by the two versions; those with one of these rows
 /// are marked. Fails only for want of memory.
-pub fn nodes_of<'a>(
+pub fn nodes_of(
     alloc: Global,
     old: &Tree,
     new: &Tree,
     rows: &[OutRow],
-) -> Result<Nodes<'a>, OutOfMemory>
+) -> Result<Nodes, OutOfMemory>
     ensures nodes { IfOk result (λ nodes. AreNodes old.now new.now nodes) }
     ensures marked { IfOk result (λ nodes. AreMarked nodes.marks.items rows.now) }
 {
     let placed = known_nodes(alloc, old, new)?;
-    let reached = reached_by(alloc, placed.as_slice())?;
     let marks = marks_of(alloc, placed.len(), rows)?;
     let live = live_by(alloc, marks.as_slice(), placed.as_slice())?;
-    let none = rows_before(alloc, old.rows(), &[])?;
+    let reached = reached_by(alloc, live.as_slice())?;
     let in_order = same_nodes(old.rows(), new.rows());
     Ok(Nodes {
         placed,
@@ -94,6 +90,5 @@ pub fn nodes_of<'a>(
         marks,
         live,
         in_order,
-        none,
     })
 }

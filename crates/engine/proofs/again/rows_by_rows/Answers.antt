@@ -11,6 +11,7 @@ use Rattle.judged_rows.proofs.Merged.{filter_map_map}
 use Rattle.judged_rows.proofs.PartLaws.{on_own}
 use Rattle.engine.specs.Nodes.{live_by}
 use Rattle.engine.proofs.Live.{live_known, has_live, live_affected, live_within}
+use Rattle.engine.proofs.Reaching.{keeps_rows}
 use Rattle.engine.proofs.again.rows_by_rows.Goals as goal
 
 pub returns-clause-rows : goal.returns-clause-rows
@@ -29,8 +30,9 @@ returns-clause-rows g c =
     let nodes = ap (map (λ (row : Row). row.id)) (sym c.rows.ensures.rows) in
     let given = h ∙ sym (filter_map_map f (λ (row : Row). row.id) (rows_of old.trees)) ∙ ap (filter_map f) nodes in
     let were = ap (map option_copied) c.as_slice.ensures.value ∙ c.in_ok-before.ensures f (on_own book old earlier info.no) given ∙ ap (map (λ (row : Row). f row.id)) c.rows.ensures.rows in
+    let keeps = keeps_rows book old new earlier info.no (map option_copied c.as_slice.result.now) were in
     IfOk-weaker c.placed_rows.result _ _ (λ rows e. e ∙ has_live book info (g.met.B.RuleBook.local info c.requires.known) old new versions earlier js marks placed live c.args.rows.now c.requires.nodes.placed is h c.requires.marked)
-    (c.placed_rows.ensures.rows old earlier js c.requires.known versions (live_known old new marks placed live c.requires.nodes.placed is) were has)
+    (c.placed_rows.ensures.rows old earlier js c.requires.known versions (live_known old new marks placed live c.requires.nodes.placed is) keeps has)
 
 pub returns-clause-counted : goal.returns-clause-counted
 returns-clause-counted g c =
@@ -47,8 +49,9 @@ returns-clause-counted g c =
     let nodes = ap (map (λ (row : Row). row.id)) (sym c.rows.ensures.rows) in
     let given = h ∙ sym (filter_map_map f (λ (row : Row). row.id) (rows_of old.trees)) ∙ ap (filter_map f) nodes in
     let were = ap (map option_copied) c.as_slice.ensures.value ∙ c.in_ok-before.ensures f (on_own book old earlier info.no) given ∙ ap (map (λ (row : Row). f row.id)) c.rows.ensures.rows in
+    let keeps = keeps_rows book old new earlier info.no (map option_copied c.as_slice.result.now) were in
     let some = live_affected old new marks placed live c.requires.nodes.placed is (is_affected info (book.means info.no) old new) in
-    omega (arith, c.placed_rows.ensures.counted old earlier (live_known old new marks placed live c.requires.nodes.placed is) were, some)
+    omega (arith, c.placed_rows.ensures.counted old earlier (live_known old new marks placed live c.requires.nodes.placed is) keeps, some)
 
 pub returns-clause-within : goal.returns-clause-within
 returns-clause-within g c =

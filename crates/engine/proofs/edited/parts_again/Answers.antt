@@ -5,8 +5,15 @@ use Rattle.judged_rows.specs.Parts.{IsPart}
 use Rattle.judged_rows.proofs.PartLaws.{all_more, infos_more}
 use Rattle.judged_rows.proofs.Anew.{orderly_rise, next_rule}
 use Rattle.engine.specs.Costs.{affected_cost, whole_cost}
+use Rattle.engine.specs.Marks.{AreMarked}
+use Rattle.engine.proofs.Marking.{marked_take, marked_drop}
 use Rattle.engine.proofs.Sums.{cost_more, cost_within}
 use Rattle.engine.proofs.edited.parts_again.Goals as goal
+
+pub part_again-requires-clause-marked : goal.part_again-requires-clause-marked
+part_again-requires-clause-marked g c =
+    let marks = c.args.nodes.now.marks.items in
+    subst (AreMarked marks) (sym c.split_rule.ensures.leading) (marked_take marks _ c.loop-info.left.now c.loop-info.invariant.marked)
 
 pub loop-info-preserved : goal.loop-info-preserved
 loop-info-preserved g c =
@@ -19,6 +26,7 @@ loop-info-preserved g c =
     record {
       infos = infos_more infos at.info-index _ at.parts.items _ c.in_ok-part.part (omega arith) at.invariant.infos c.in_ok-push.ensures.items c.in_ok-part.ensures.info;
       left = λ earlier is. let next = next_rule book old earlier infos at.info-index _ at.left.now rising (omega arith) (at.invariant.left earlier is) in c.split_rule.ensures.later ∙ next.1;
+      marked = let marks = c.args.nodes.now.marks.items in subst (AreMarked marks) (sym c.split_rule.ensures.later) (marked_drop marks _ at.left.now at.invariant.marked);
       parts = λ earlier js is has. let next = next_rule book old earlier infos at.info-index _ at.left.now rising (omega arith) (at.invariant.left earlier is) in subst (AllByRecursion (IsPart book new js)) {x = at.parts.items ++ c.in_ok-part.part ∷ []} (sym c.in_ok-push.ensures.items)
           (all_more (IsPart book new js) at.parts.items _ (at.invariant.parts earlier js is has) (c.in_ok-part.ensures.part earlier js (c.split_rule.ensures.leading ∙ next.0) has));
       counted = λ earlier is. let next = next_rule book old earlier infos at.info-index _ at.left.now rising (omega arith) (at.invariant.left earlier is) in cost_more (affected_cost book old new) infos at.info-index _ _ _ _ (omega arith) (at.invariant.counted earlier is) (c.part_again.ensures.counted earlier (c.split_rule.ensures.leading ∙ next.0));

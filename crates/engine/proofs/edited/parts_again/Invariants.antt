@@ -5,6 +5,7 @@ use Rattle.judge_core.specs.Outcomes.{rule_rows, outcomes}
 use Rattle.judged_rows.specs.ByNode.{IsByNode}
 use Rattle.judged_rows.specs.Parts.{IsPart}
 use Rattle.engine.specs.Costs.{affected_cost, whole_cost}
+use Rattle.engine.specs.Marks.{AreMarked}
 use Rattle.engine.proofs.edited.parts_again.Given as goal
 
 abbrev pub invariant-loop-info : goal.invariant-loop-info
@@ -13,6 +14,7 @@ invariant-loop-info g l =
     record {
       infos : map (λ p. p.info) l.parts.items ≡ take l.info-index l.infos;
       left : (earlier : List Judgement) → l.rows ≡ outcomes book l.old earlier → l.left ≡ flat_map (rule_rows book l.old earlier) (drop l.info-index l.infos);
+      marked : AreMarked l.nodes.marks.items l.left;
       parts : (earlier js : List Judgement) → l.rows ≡ outcomes book l.old earlier → IsByNode js l.by_node → AllByRecursion (IsPart book l.new js) l.parts.items;
       counted : (earlier : List Judgement) → l.rows ≡ outcomes book l.old earlier → g.B.RuleBook.calls l.book ≤ g.B.RuleBook.calls l.initial.book + sum_by (affected_cost book l.old l.new) (take l.info-index l.infos);
       within : g.B.RuleBook.calls l.book ≤ g.B.RuleBook.calls l.initial.book + sum_by (whole_cost l.new) (take l.info-index l.infos);
