@@ -4,6 +4,7 @@ pub mod AttrLoop
 pub mod RowLoop
 pub mod Json
 pub mod WrittenData
+pub mod WrittenTokens
 pub mod ReadBack
 pub mod Readable
 pub mod ReadTree

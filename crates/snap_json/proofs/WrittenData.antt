@@ -1,37 +1,14 @@
--- What is written has no float, and nests five levels deep at the most.
-use Rattle.std.proofs.Common.{◌≡◌, ℕ, ◌≤◌, List, [], ◌∷◌, map, false, Option, Some, None, refl, arith}
-use Rattle.serde_json.specs.Data.{depth, items_depth}
+-- What is written nests five levels deep at the most.
+use Rattle.std.proofs.Common.{◌≡◌, ℕ, ◌≤◌, List, [], ◌∷◌, map, Option, Some, None, refl, arith}
+use Rattle.serde_json.specs.Data.{object, depth, items_depth}
 use Rattle.serde_json.specs.Read.{max_depth}
 use Rattle.serde_json.specs.View.{items_of}
-use Rattle.serde_json.specs.Written.{has_float, items_have_float}
 use Rattle.snap_tree.specs.declared.row.NodeId.{NodeId}
 use Rattle.snap_tree.specs.declared.row.Attr.{Attr}
 use Rattle.snap_tree.specs.declared.row.Body.{Body}
 use Rattle.snap_tree.specs.declared.row.Body.TheVariants.{Element, Words}
 use Rattle.snap_tree.specs.declared.row.Row.{Row}
 use Rattle.snap_json.specs.Written.{parent_data, attr_data, members_data, row_data, page_data}
-use Rattle.serde_json.specs.Data.{object}
-
-parent_has_no_float : (p : Option NodeId) → has_float (parent_data p) ≡ false
-parent_has_no_float None = refl
-parent_has_no_float (Some p) = refl
-
-attrs_have_no_float : (attrs : List Attr) → items_have_float (items_of (map attr_data attrs)) ≡ false
-attrs_have_no_float [] = refl
-attrs_have_no_float (a ∷ attrs) = attrs_have_no_float attrs
-
-body_has_no_float : (row : Row) (body : Body) → has_float (object (members_data row body)) ≡ false
-body_has_no_float row (Element space tag attrs) = rw (attrs_have_no_float attrs, parent_has_no_float row.parent) refl
-body_has_no_float row (Words text) = rw (parent_has_no_float row.parent) refl
-
-rows_have_no_float : (rows : List Row) → items_have_float (items_of (map row_data rows)) ≡ false
-unfolding row_data
-rows_have_no_float [] = refl
-rows_have_no_float (row ∷ rows) = rw (body_has_no_float row row.body) (rows_have_no_float rows)
-
-pub page_has_no_float : (address : List ℕ) (rows : List Row) → has_float (page_data address rows) ≡ false
-unfolding page_data
-page_has_no_float address rows = rw (rows_have_no_float rows) refl
 
 parent_is_flat : (p : Option NodeId) → depth (parent_data p) ≡ 0
 parent_is_flat None = refl

@@ -4,3 +4,4 @@ pub mod Seen
 pub mod Pages
 pub mod Small
 pub mod Written
+pub mod Tokens

@@ -34,14 +34,6 @@ parent_data (Some parent) = number_data parent
 abbrev pub attr_data : Attr → Data
 attr_data a = array (item (string a.name) (item (string a.value) no_items))
 
--- the members of any row: its facts, its number, and its parent's
-abbrev pub common_data : Row → Members
-common_data row =
-    member (codes "f") (string (letters row.facts))
-    (member (codes "n") (number_data row.id)
-    (member (codes "p") (parent_data row.parent)
-    no_members))
-
 -- the members of an element
 abbrev pub element_data : Row → Space → List ℕ → List Attr → Members
 element_data row space tag attrs =

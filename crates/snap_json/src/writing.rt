@@ -1,16 +1,18 @@
-ghost use Rattle.std.specs.Prelude.{◌≡◌, ◌≤◌, length, map, Ok, ◌<◌, ◌^◌, Some, IfOk, IfSome, OnOk, string_bytes};
+ghost use Rattle.std.specs.Prelude.{◌≡◌, ◌≤◌, [], ◌∷◌, ◌++◌, length, codes, map, Ok, ◌<◌, ◌^◌, Some, IfOk, IfSome, OnOk};
 ghost use Rattle.std.specs.List.{AllByRecursion};
-ghost use Rattle.serde_json.specs.Data.{string};
-ghost use Rattle.serde_json.specs.View.{view, items_of, items_view, members_view};
+ghost use Rattle.json.specs.Token.{key, string, null};
+ghost use Rattle.serde_json.specs.Data.{array, object};
+ghost use Rattle.serde_json.specs.View.{items_of};
 ghost use Rattle.serde_json.specs.Written.{compact_text};
 ghost use Rattle.snap_json.specs.Small.{IsSmall};
 ghost use Rattle.snap_tree.specs.Trees.{rows_of};
 ghost use Rattle.web_address.specs.Address.{IsWebAddress};
 ghost use Rattle.snap_json.specs.Pages.{json_of, kept_tree, sent_tree};
-ghost use Rattle.snap_json.specs.Written.{letters, space_name, number_data, parent_data, attr_data, common_data, element_data, words_data, row_data, page_data, snapshot_text};
+ghost use Rattle.snap_json.specs.Tokens.{tokens_of};
+ghost use Rattle.snap_json.specs.Written.{letters, space_name, number_data, parent_data, attr_data, element_data, words_data, row_data, page_data, snapshot_text};
 
 use crate::limits::{MOST_ADDRESS_BYTES, MOST_SNAPSHOT_BYTES};
-use serde_json::{Map, Value, put};
+use json::Writer;
 use snap_tree::{Attr, Body, Facts, List, NodeId, OutOfMemory, Row, Space, Text, Tree};
 use std::alloc::Global;
 
@@ -32,133 +34,171 @@ pub fn write_snapshot(alloc: Global, tree: &Tree) -> Result<Vec<u8>, OutOfMemory
 }
 
 /// The bytes of a page.
-#[tactic(auto, using(crate::proofs::WrittenData::page_has_no_float, crate::proofs::Json::is_json, crate::proofs::WrittenData::page_nests_few))]
+#[tactic(auto, using(crate::proofs::WrittenTokens::page_print, crate::proofs::WrittenTokens::page_read))]
 fn page_text(alloc: Global, address: &Text, rows: &[Row]) -> Result<Vec<u8>, OutOfMemory>
     ensures text { IfOk result (λ b. b.items ≡ compact_text (page_data address.now rows.now)) }
     ensures json { IfOk result (λ b. json_of b.items ≡ Some (page_data address.now rows.now)) }
     ensures small { OnOk result (AllByRecursion IsSmall rows.now) }
 {
-    let page = page_value(alloc, address, rows)?;
-    Ok(page.to_vec(alloc)?)
+    let mut writer = Writer::new(Vec::new(alloc));
+    put_page(&mut writer, address, rows)?;
+    Ok(writer.into_inner())
 }
 
 #[tactic(auto, unfolding(crate::specs::Written::page_data))]
-fn page_value(alloc: Global, address: &Text, rows: &[Row]) -> Result<Value, OutOfMemory>
-    ensures value { IfOk result (λ v. view v ≡ page_data address.now rows.now) }
+fn put_page(writer: &mut Writer, address: &Text, rows: &[Row]) -> Result<(), OutOfMemory>
+    ensures before { OnOk result (writer.new.before ≡ writer.old.before) }
+    ensures tokens { OnOk result (writer.new.tokens
+        ≡ writer.old.tokens ++ tokens_of (page_data address.now rows.now)) }
     ensures small { OnOk result (AllByRecursion IsSmall rows.now) }
 {
-    let nodes = rows_value(alloc, rows)?;
-    let mut members = Map::new(alloc);
-    put(&mut members, alloc, "nodes", Value::Array(nodes))?;
-    put(&mut members, alloc, "url", text_value(alloc, address)?)?;
-    Ok(Value::Object(members))
+    writer.begin_object()?;
+    writer.key("nodes")?;
+    put_rows(writer, rows)?;
+    put_text(writer, "url", address.as_str())?;
+    writer.end_object()?;
+    Ok(())
 }
 
-fn rows_value(alloc: Global, rows: &[Row]) -> Result<Vec<Value>, OutOfMemory>
-    ensures value { IfOk result (λ v. items_view v.items ≡ items_of (map row_data rows.now)) }
+/// Writes the list of some rows.
+fn put_rows(writer: &mut Writer, rows: &[Row]) -> Result<(), OutOfMemory>
+    ensures before { OnOk result (writer.new.before ≡ writer.old.before) }
+    ensures tokens { OnOk result (writer.new.tokens
+        ≡ writer.old.tokens ++ tokens_of (array (items_of (map row_data rows.now)))) }
     ensures small { OnOk result (AllByRecursion IsSmall rows.now) }
 {
-    let mut values = Vec::new(alloc);
+    writer.begin_array()?;
     for row in rows {
-        values.push(row_value(alloc, row)?)?;
+        put_row(writer, row)?;
     }
-    Ok(values)
+    writer.end_array()?;
+    Ok(())
 }
 
 #[tactic(auto, unfolding(crate::specs::Written::row_data))]
-fn row_value(alloc: Global, row: &Row) -> Result<Value, OutOfMemory>
-    ensures value { IfOk result (λ v. view v ≡ row_data row.now) }
+fn put_row(writer: &mut Writer, row: &Row) -> Result<(), OutOfMemory>
+    ensures before { OnOk result (writer.new.before ≡ writer.old.before) }
+    ensures tokens { OnOk result (writer.new.tokens
+        ≡ writer.old.tokens ++ tokens_of (row_data row.now)) }
     ensures small { OnOk result (IsSmall row.now) }
 {
-    let members = match row.body.get() {
-        Body::Element { space, tag, attrs } => element_members(alloc, row, *space, tag, attrs)?,
-        Body::Words { text } => words_members(alloc, row, text)?,
-    };
-    Ok(Value::Object(members))
+    match row.body.get() {
+        Body::Element { space, tag, attrs } => put_element(writer, row, *space, tag, attrs),
+        Body::Words { text } => put_words(writer, row, text),
+    }
 }
 
-fn element_members(
-    alloc: Global,
+fn put_element(
+    writer: &mut Writer,
     row: &Row,
     space: Space,
     tag: &Text,
     attrs: &List<Attr>,
-) -> Result<Map<String, Value>, OutOfMemory>
-    ensures value { IfOk result
-        (λ m. members_view m.entries ≡ element_data row.now space tag.now attrs.now) }
+) -> Result<(), OutOfMemory>
+    ensures before { OnOk result (writer.new.before ≡ writer.old.before) }
+    ensures tokens { OnOk result (writer.new.tokens
+        ≡ writer.old.tokens ++ tokens_of (object (element_data row.now space tag.now attrs.now))) }
     ensures small { OnOk result (IsSmall row.now) }
 {
-    let mut members = common_members(alloc, row)?;
-    let attrs = Value::Array(attrs_value(alloc, attrs.as_slice())?);
-    put(&mut members, alloc, "attrs", attrs)?;
-    let space = Value::try_from_str(alloc, space_name(space))?;
-    put(&mut members, alloc, "ns", space)?;
-    put(&mut members, alloc, "tag", text_value(alloc, tag)?)?;
-    Ok(members)
+    writer.begin_object()?;
+    writer.key("attrs")?;
+    put_attrs(writer, attrs.as_slice())?;
+    put_text(writer, "f", letters(row.facts))?;
+    put_number(writer, "n", row.id)?;
+    put_text(writer, "ns", space_name(space))?;
+    put_parent(writer, row.parent)?;
+    put_text(writer, "tag", tag.as_str())?;
+    writer.end_object()?;
+    Ok(())
 }
 
-fn words_members(alloc: Global, row: &Row, text: &Text) -> Result<Map<String, Value>, OutOfMemory>
-    ensures value { IfOk result (λ m. members_view m.entries ≡ words_data row.now text.now) }
+fn put_words(writer: &mut Writer, row: &Row, text: &Text) -> Result<(), OutOfMemory>
+    ensures before { OnOk result (writer.new.before ≡ writer.old.before) }
+    ensures tokens { OnOk result (writer.new.tokens
+        ≡ writer.old.tokens ++ tokens_of (object (words_data row.now text.now))) }
     ensures small { OnOk result (IsSmall row.now) }
 {
-    let mut members = common_members(alloc, row)?;
-    put(&mut members, alloc, "text", text_value(alloc, text)?)?;
-    Ok(members)
+    writer.begin_object()?;
+    put_text(writer, "f", letters(row.facts))?;
+    put_number(writer, "n", row.id)?;
+    put_parent(writer, row.parent)?;
+    put_text(writer, "text", text.as_str())?;
+    writer.end_object()?;
+    Ok(())
 }
 
-/// The members of any row: its facts, its number, and its parent's.
-fn common_members(alloc: Global, row: &Row) -> Result<Map<String, Value>, OutOfMemory>
-    ensures value { IfOk result (λ m. members_view m.entries ≡ common_data row.now) }
-    ensures small { OnOk result (IsSmall row.now) }
+/// Writes a member whose value is a text.
+fn put_text(writer: &mut Writer, name: &str, text: &str) -> Result<(), OutOfMemory>
+    ensures before { OnOk result (writer.new.before ≡ writer.old.before) }
+    ensures tokens { OnOk result (writer.new.tokens
+        ≡ writer.old.tokens ++ (key name.now ∷ string text.now ∷ [])) }
 {
-    let mut members = Map::new(alloc);
-    let facts = Value::String(letters(alloc, row.facts)?);
-    put(&mut members, alloc, "f", facts)?;
-    put(&mut members, alloc, "n", number_value(row.id))?;
-    put(&mut members, alloc, "p", parent_value(row.parent))?;
-    Ok(members)
+    writer.key(name)?;
+    writer.string(text)?;
+    Ok(())
 }
 
-fn text_value(alloc: Global, text: &Text) -> Result<Value, OutOfMemory>
-    ensures { IfOk result (λ v. view v ≡ string text.now) }
+/// Writes a member whose value is a number.
+fn put_number(writer: &mut Writer, name: &str, number: NodeId) -> Result<(), OutOfMemory>
+    ensures before { OnOk result (writer.new.before ≡ writer.old.before) }
+    ensures tokens { OnOk result (writer.new.tokens
+        ≡ writer.old.tokens ++ (key name.now ∷ tokens_of (number_data number))) }
+    ensures fits { number.0 < 2 ^ 32 }
 {
-    Ok(Value::try_from_str(alloc, text.as_str())?)
+    writer.key(name)?;
+    writer.u64(u64::from(number.0))?;
+    Ok(())
 }
 
-fn parent_value(parent: Option<NodeId>) -> Value
-    ensures value { view result ≡ parent_data parent }
+/// Writes the member that names the parent.
+fn put_parent(writer: &mut Writer, parent: Option<NodeId>) -> Result<(), OutOfMemory>
+    ensures before { OnOk result (writer.new.before ≡ writer.old.before) }
+    ensures tokens { OnOk result (writer.new.tokens
+        ≡ writer.old.tokens ++ (key (codes "p") ∷ tokens_of (parent_data parent))) }
     ensures fits { IfSome parent (λ p. p.0 < 2 ^ 32) }
 {
     match parent {
-        None => Value::Null,
-        Some(parent) => number_value(parent),
+        None => put_null(writer, "p"),
+        Some(parent) => put_number(writer, "p", parent),
     }
 }
 
-fn number_value(number: NodeId) -> Value
-    ensures value { view result ≡ number_data number }
-    ensures fits { number.0 < 2 ^ 32 }
+/// Writes a member whose value is null.
+fn put_null(writer: &mut Writer, name: &str) -> Result<(), OutOfMemory>
+    ensures before { OnOk result (writer.new.before ≡ writer.old.before) }
+    ensures tokens { OnOk result (writer.new.tokens
+        ≡ writer.old.tokens ++ (key name.now ∷ null ∷ [])) }
 {
-    Value::from(number.0)
+    writer.key(name)?;
+    writer.null()?;
+    Ok(())
 }
 
-fn attrs_value(alloc: Global, attrs: &[Attr]) -> Result<Vec<Value>, OutOfMemory>
-    ensures { IfOk result (λ v. items_view v.items ≡ items_of (map attr_data attrs.now)) }
+/// Writes the list of some attributes.
+fn put_attrs(writer: &mut Writer, attrs: &[Attr]) -> Result<(), OutOfMemory>
+    ensures before { OnOk result (writer.new.before ≡ writer.old.before) }
+    ensures tokens { OnOk result (writer.new.tokens
+        ≡ writer.old.tokens ++ tokens_of (array (items_of (map attr_data attrs.now)))) }
 {
-    let mut values = Vec::new(alloc);
+    writer.begin_array()?;
     for attr in attrs {
-        values.push(attr_value(alloc, attr)?)?;
+        put_attr(writer, attr)?;
     }
-    Ok(values)
+    writer.end_array()?;
+    Ok(())
 }
 
-fn attr_value(alloc: Global, attr: &Attr) -> Result<Value, OutOfMemory>
-    ensures { IfOk result (λ v. view v ≡ attr_data attr.now) }
+/// Writes an attribute, as the pair of its name and its value.
+fn put_attr(writer: &mut Writer, attr: &Attr) -> Result<(), OutOfMemory>
+    ensures before { OnOk result (writer.new.before ≡ writer.old.before) }
+    ensures tokens { OnOk result (writer.new.tokens
+        ≡ writer.old.tokens ++ tokens_of (attr_data attr.now)) }
 {
-    let mut pair = Vec::new(alloc);
-    pair.push(text_value(alloc, &attr.name)?)?;
-    pair.push(text_value(alloc, &attr.value)?)?;
-    Ok(Value::Array(pair))
+    writer.begin_array()?;
+    writer.string(attr.name.as_str())?;
+    writer.string(attr.value.as_str())?;
+    writer.end_array()?;
+    Ok(())
 }
 
 fn space_name(space: Space) -> &'static str
@@ -172,21 +212,30 @@ fn space_name(space: Space) -> &'static str
 }
 
 /// The letters of facts.
-fn letters(alloc: Global, facts: Facts) -> Result<String, OutOfMemory>
-    ensures { IfOk result (λ s. string_bytes s ≡ letters facts) }
+fn letters(facts: Facts) -> &'static str
+    ensures { result.now ≡ letters facts }
 {
-    let mut letters = String::new(alloc);
-    if facts.rendered {
-        letters.push_str("r")?;
+    match (
+        facts.rendered,
+        facts.visible,
+        facts.focusable,
+        facts.tabbable,
+    ) {
+        (true, true, true, true) => "rvft",
+        (true, true, true, false) => "rvf",
+        (true, true, false, true) => "rvt",
+        (true, true, false, false) => "rv",
+        (true, false, true, true) => "rft",
+        (true, false, true, false) => "rf",
+        (true, false, false, true) => "rt",
+        (true, false, false, false) => "r",
+        (false, true, true, true) => "vft",
+        (false, true, true, false) => "vf",
+        (false, true, false, true) => "vt",
+        (false, true, false, false) => "v",
+        (false, false, true, true) => "ft",
+        (false, false, true, false) => "f",
+        (false, false, false, true) => "t",
+        (false, false, false, false) => "",
     }
-    if facts.visible {
-        letters.push_str("v")?;
-    }
-    if facts.focusable {
-        letters.push_str("f")?;
-    }
-    if facts.tabbable {
-        letters.push_str("t")?;
-    }
-    Ok(letters)
 }
