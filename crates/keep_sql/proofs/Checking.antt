@@ -1,7 +1,8 @@
 -- What was read before rows are replaced or dropped.
-use Rattle.std.proofs.Common.{◌≡◌, ℕ, List, [], ◌∷◌, true, Option, Some, None, option_map, is_some, IsSome, Result, Ok, Err, OnOk, refl, sym, ap, subst, ◌∙◌, true≢false}
+use Rattle.std.proofs.Common.{◌≡◌, ℕ, List, [], ◌∷◌, true, Option, Some, None, option_map, is_some, IsSome, Result, Ok, Err, OnOk, IsTrue, refl, sym, ap, subst, ◌∙◌, true≢false}
 use Rattle.std.specs.Option.{option_to_list}
 use Rattle.sqlite_value.specs.Order.{Row, column}
+use Rattle.sqlite.specs.Effect.{Database}
 use Rattle.sqlite.specs.State.{State, IsUnchanged}
 use Rattle.named_rows.specs.ByName.{at}
 use Rattle.sql_rows.specs.Tables.{name_at}
@@ -10,17 +11,26 @@ use Rattle.judge_core.specs.declared.outcomes.OutRow.{OutRow}
 use Rattle.judge_core.specs.declared.outcomes.Outcomes.{Outcomes}
 use Rattle.keep_core.specs.declared.site.Site.{Site}
 use Rattle.keep_core.specs.declared.page.Page.{Page}
-use Rattle.store_texts.specs.Stored.{Stored, sites_in, pages_of, site_at, members_at, page_at, heads_at, judgements_at, outcomes_at}
+use Rattle.store_texts.specs.Stored.{Stored, stored, sites_in, pages_of, site_at, members_at, page_at, heads_at, judgements_at, outcomes_at}
 use Rattle.store_tables.specs.Reading.{read_counted}
 use Rattle.store_tables.specs.Rows.{judgement_from, outcome_from}
 use Rattle.store_tables.specs.Told.{is_site, is_page, site_shown, page_shown, judgements_shown, outcomes_shown}
 use Rattle.store_tables.specs.Batches.{ReadsSite, ReadsPage}
 use Rattle.store_tables.proofs.Steps.{some_same, none_some}
 use Rattle.store_tables.proofs.Counted.{first_counted}
+use Rattle.keep_sql.specs.declared.known.Known.{Known}
+use Rattle.keep_sql.specs.Reading.{outcomes_in, Recalls}
 
 pub always : {A E P : Type 0} (r : Result A E) → P → OnOk r P
 always (Ok a) p = p
 always (Err e) p = tt
+
+pub unchanged_itself : (s : State) → IsTrue s.is_open → IsUnchanged s s
+unchanged_itself s is_open = (record { was_open = is_open; is_open = is_open; now_is = refl; committed_is = refl; mode = refl }, record { changes = refl; last_rowid = refl }, refl)
+
+-- outcomes that are known are those that are kept
+pub recalled : (known : Option Known) (site page : List ℕ) (os : Outcomes) (s : State) → known ≡ Some (record { site = site; page = page; outcomes = os }) → IsTrue s.is_open → Recalls known s → outcomes_in site page s ≡ Some os
+recalled known site page os s is is_open recalls = let told : Recalls (Some (record { site = site; page = page; outcomes = os })) s = subst (λ k. Recalls k s) is recalls in told is_open
 
 pub unchanged_through : (a b c : State) → IsUnchanged a b → IsUnchanged b c → IsUnchanged a c
 unchanged_through a b c first second = (
@@ -34,6 +44,11 @@ unchanged_through a b c first second = (
   record { changes = second.1.changes ∙ first.1.changes; last_rowid = second.1.last_rowid ∙ first.1.last_rowid },
   second.2 ∙ first.2,
 )
+
+-- outcomes that are known stay so where nothing is changed
+pub still_recalled : (known : Option Known) (a b : State) → IsUnchanged a b → Recalls known a → Recalls known b
+still_recalled None a b same recalls = tt
+still_recalled (Some k) a b same recalls = λ is_open. ap (λ (d : Database). outcomes_shown (outcomes_at k.site k.page (stored d.trees))) same.0.now_is ∙ recalls same.0.was_open
 
 is_read : {A : Type 0} (o : Option A) (x : A) → o ≡ Some x → IsSome o
 is_read o x is = subst IsSome (sym is) refl

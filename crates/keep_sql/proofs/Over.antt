@@ -1,8 +1,8 @@
 -- A page that is put over one that reads, and a judgement that comes to one.
-use Rattle.std.proofs.Common.{◌≡◌, ℕ, suc, List, [], ◌∷◌, length, Some, Ok, sym, ap, subst, ◌∙◌}
+use Rattle.std.proofs.Common.{◌≡◌, ℕ, suc, ℤ, List, [], ◌∷◌, length, Option, Some, None, Ok, sym, ap, subst, ◌∙◌}
 use Rattle.sqlite_value.specs.Order.{Row}
 use Rattle.sqlite.specs.Effect.{Database}
-use Rattle.sqlite.specs.State.{State}
+use Rattle.sqlite.specs.State.{State, IsUnchanged}
 use Rattle.named_rows.specs.ByName.{put_row}
 use Rattle.snap_json.specs.Pages.{kept_tree}
 use Rattle.sql_rows.specs.Tables.{name_at, rows_outside}
@@ -12,14 +12,15 @@ use Rattle.judge_core.specs.declared.outcomes.Outcomes.{Outcomes}
 use Rattle.keep_core.specs.declared.page.PagePut.{PagePut}
 use Rattle.keep_core.specs.declared.change.Change.TheVariants.{AddJudgement}
 use Rattle.store_texts.specs.Stored.{Stored, stored, judgements_at, outcomes_at}
-use Rattle.store_texts.specs.Changes.{Makes, ChangesPages, ChangesJudgements, ChangesOutcomes}
+use Rattle.store_texts.specs.Changes.{Makes, PutsSite, ChangesPages, ChangesJudgements, ChangesOutcomes}
 use Rattle.store_tables.specs.Told.{outcomes_shown}
 use Rattle.store_tables.specs.Batches.{Applies, ReadsPage, ReadsJudged, page_cells, judgement_cells, outcome_rows}
-use Rattle.keep_sql.specs.Reading.{rows_in, outcomes_in}
+use Rattle.keep_sql.specs.declared.known.Known.{Known}
+use Rattle.keep_sql.specs.Reading.{rows_in, outcomes_in, Recalls}
 use Rattle.keep_sql.specs.Writing.{PutsOver}
 
 -- what is made of rows that are as they were
-from_same : (Change : Stored → Stored → Type 0) (a b c : State) → b.now ≡ a.now → Makes Change b c → Makes Change a c
+pub from_same : (Change : Stored → Stored → Type 0) (a b c : State) → b.now ≡ a.now → Makes Change b c → Makes Change a c
 from_same Change a b c same made = record { ready = made.ready; change = subst (λ (d : Database). Change (stored d.trees) (rows_in c)) same made.change }
 
 -- rows of other tables don't tell the outcomes of a page
@@ -27,6 +28,11 @@ still_shown : (site page : List ℕ) (kept : Outcomes) (a b c : State) → b.now
 still_shown site page kept a b c same stay shown =
     ap (λ (rows : List Row). outcomes_shown (outcomes_at site page (record (rows_in b) { outcomes = rows }))) stay
     ∙ ap (λ (d : Database). outcomes_shown (outcomes_at site page (stored d.trees))) same ∙ shown
+
+-- nor does a site's row
+pub recalled_behind_site : (known : Option Known) (site : List ℕ) (counter : ℤ) (a b c : State) → IsUnchanged a b → Makes (PutsSite site counter) b c → Recalls known a → Recalls known c
+recalled_behind_site None site counter a b c same made recalls = tt
+recalled_behind_site (Some k) site counter a b c same made recalls = λ is_open. still_shown k.site k.page k.outcomes a b c same.0.now_is (ap (λ (s : Stored). s.outcomes) made.change.0) (recalls same.0.was_open)
 
 -- names that are the same
 pub renamed : (site page name page_name : List ℕ) (outcomes : Outcomes) (a b : State) → name ≡ site → page_name ≡ page

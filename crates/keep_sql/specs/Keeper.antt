@@ -15,9 +15,10 @@ use Rattle.keep_core.specs.Changes.{changed}
 use Rattle.store_texts.specs.Stored.{stored}
 use Rattle.store_texts.specs.Changes.{IsStore}
 use Rattle.store_tables.specs.Told.{tables_in}
+use Rattle.keep_sql.specs.declared.known.Known.{Known}
 use Rattle.keep_sql.specs.declared.keeper.Prepared.{Prepared}
 use Rattle.keep_sql.specs.declared.keeper.Prepared.TheVariants.{Ready, OtherEdition}
-use Rattle.keep_sql.specs.Reading.{rows_in, edition_in}
+use Rattle.keep_sql.specs.Reading.{rows_in, edition_in, Recalls}
 use Rattle.keep_sql.specs.Writing.{MayLeave}
 use Rattle.keep_sql.specs.Preparing.{HasNone, HasSix, IsPrepared}
 
@@ -54,6 +55,11 @@ module _ {S : Type 0} (g : Ghosts S) where
   pub record AreWell (ready waiting : Option (Held S)) : Type 0 where
     pub ready_is : IfSome ready IsWell
     pub idle : IfSome waiting (λ conn. conn.in_transaction ≡ false)
+
+  -- and the outcomes that are known are what a store that is ready and clean keeps
+  pub record AreKnown (ready waiting : Option (Held S)) (known : Option Known) : Type 0 where
+    pub well : AreWell ready waiting
+    pub known_is : IfSome ready (λ conn. HasCleanDisk (state g conn) → Recalls known (state g conn))
 
   abbrev pub told_of : Option (Held S) → Option Tables
   told_of None = None

@@ -1,5 +1,5 @@
 -- What is read of a store, and what a call that reads leaves.
-use Rattle.std.specs.Prelude.{◌≡◌, ℕ, List, Option, Some, Result, IfOk, IsTrue}
+use Rattle.std.specs.Prelude.{◌≡◌, ℕ, List, Option, Some, IfSome, Result, IfOk, IsTrue}
 use Rattle.sqlite.specs.State.{State, HasCleanDisk}
 use Rattle.judge_core.specs.declared.judgement.Judgement.{Judgement}
 use Rattle.judge_core.specs.declared.outcomes.Outcomes.{Outcomes}
@@ -9,6 +9,7 @@ use Rattle.keep_core.specs.declared.page.Page.{Page}
 use Rattle.store_texts.specs.Stored.{Stored, stored, site_at, members_at, page_at, heads_at, judgements_at, outcomes_at, editions_at}
 use Rattle.store_texts.specs.Changes.{IsStore, IsReady}
 use Rattle.store_tables.specs.Told.{site_shown, page_shown, heads_shown, judgements_shown, outcomes_shown, edition_shown}
+use Rattle.keep_sql.specs.declared.known.Known.{Known}
 
 abbrev pub rows_in : State → Stored
 rows_in s = stored s.now.trees
@@ -28,6 +29,10 @@ judgements_in site page s = judgements_shown (judgements_at site page (rows_in s
 
 abbrev pub outcomes_in : List ℕ → List ℕ → State → Option Outcomes
 outcomes_in site page s = outcomes_shown (outcomes_at site page (rows_in s))
+
+-- the outcomes that are known, if any are, are what the rows of their page are read as, while the store is open
+abbrev pub Recalls : Option Known → State → Type 0
+Recalls known s = IfSome known (λ k. IsTrue s.is_open → outcomes_in k.site k.page s ≡ Some k.outcomes)
 
 -- the greatest edition that is noted, if one is
 abbrev pub edition_in : State → Option (Option ℕ)

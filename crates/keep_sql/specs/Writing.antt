@@ -1,5 +1,5 @@
 -- What is read and written of a store in a transaction, and what changes of the tables make of it.
-use Rattle.std.specs.Prelude.{◌≡◌, ℕ, suc, pos, List, [], ◌∷◌, if◌then◌else◌, Result, OnOk, OnErr, IsTrue}
+use Rattle.std.specs.Prelude.{◌≡◌, ℕ, suc, pos, List, [], ◌∷◌, if◌then◌else◌, Option, Result, OnOk, OnErr, IsTrue}
 use Rattle.sqlite_trees.specs.Tree.{Trees}
 use Rattle.sqlite_value.specs.Order.{Row}
 use Rattle.sqlite.specs.State.{State, HasCleanDisk, IsUnchanged}
@@ -13,7 +13,8 @@ use Rattle.store_texts.specs.Changes.{IsStore, IsReady, Makes}
 use Rattle.store_texts.specs.declared.outcomes.OutcomeRow.{OutcomeRow}
 use Rattle.store_tables.specs.Cells.{auto_number}
 use Rattle.store_tables.specs.Batches.{Applies, ReadsPage, PutsOne, outcome_cells}
-use Rattle.keep_sql.specs.Reading.{rows_in}
+use Rattle.keep_sql.specs.declared.known.Known.{Known}
+use Rattle.keep_sql.specs.Reading.{rows_in, Recalls}
 
 -- a call in a transaction finds this of the rows, and leaves them as they were
 abbrev pub FindsInside : {A E : Type 0} → (Stored → Type 0) → State → State → Result A E → Type 0
@@ -22,6 +23,13 @@ FindsInside Finds old new result = HasCleanDisk new → IsReady old → OnOk res
 -- a call in a transaction makes this of the rows, and the transaction goes on
 abbrev pub MakesInside : {A E : Type 0} → (Stored → Stored → Type 0) → State → State → Result A E → Type 0
 MakesInside Change old new result = HasCleanDisk new → IsReady old → OnOk result (Makes Change old new)
+
+-- the same two, where the outcomes that are known are what is kept
+abbrev pub FindsKnowing : {A E : Type 0} → Option Known → (Stored → Type 0) → State → State → Result A E → Type 0
+FindsKnowing known Finds old new result = HasCleanDisk new → IsReady old → Recalls known old → OnOk result (Finds (rows_in old) × IsUnchanged old new)
+
+abbrev pub MakesKnowing : {A E : Type 0} → Option Known → (Stored → Stored → Type 0) → State → State → Result A E → Type 0
+MakesKnowing known Change old new result = HasCleanDisk new → IsReady old → Recalls known old → OnOk result (Makes Change old new)
 
 -- a page is put over one that reads
 abbrev pub PutsOver : List ℕ → PagePut → Stored → Stored → Type 0

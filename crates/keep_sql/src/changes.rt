@@ -9,9 +9,11 @@ ghost use Rattle.keep_core.specs.declared.page.PagePut.{PagePut};
 ghost use Rattle.keep_core.specs.declared.change.Change.TheVariants as change;
 ghost use Rattle.keep_core.specs.Fits.{Fits, FitsPage};
 ghost use Rattle.store_tables.specs.Batches.{Applies, PutsPages, PutsEach, DropsWhole, ReadsPage};
-ghost use Rattle.keep_sql.specs.Writing.{MakesInside, PutsOver, ChangesStore, MayLeave};
+ghost use Rattle.keep_sql.specs.Reading.{Recalls};
+ghost use Rattle.keep_sql.specs.Writing.{MakesInside, MakesKnowing, PutsOver, ChangesStore, MayLeave};
 
 use crate::checks::{check_judged, check_kept, check_page, check_site, has_site};
+use crate::known::Known;
 use crate::writes::{write_judgement, write_members, write_outcomes, write_page, write_site};
 use judge_core::{Judgement, Outcomes};
 use keep_core::{Change, PagePut, Site};
@@ -37,45 +39,48 @@ fn put_site<S: Alter>(
     write_members(tx, name, site.members.as_slice())
 }
 
-// Puts a page over one that reads.
+// Puts a page over one that reads, whose outcomes may be those that are known.
 fn put_one<S: Alter>(
     alloc: Global,
     memo: &mut Memo,
     tx: &mut Transaction<'_, S>,
     site: &Text,
     put: &PagePut,
+    known: Option<Known>,
 ) -> Result<(), StoreFault>
     requires fits { FitsPage put.now.page }
     ensures same_reference { tx.new.conn.ghost_name ≡ tx.old.conn.ghost_name }
-    ensures makes { MakesInside (PutsOver site.now put.now) (state S.Store tx.old.conn.now) (state S.Store tx.new.conn.now) result }
+    ensures makes { MakesKnowing known (PutsOver site.now put.now) (state S.Store tx.old.conn.now) (state S.Store tx.new.conn.now) result }
     ensures kept { HasCleanDisk (state S.Store tx.new.conn.now) → StaysInside (state S.Store tx.old.conn.now) (state S.Store tx.new.conn.now) result }
     ensures survives { Survives (state S.Store tx.old.conn.now) (state S.Store tx.new.conn.now) (λ _. ⊥) }
 {
     let page = &put.page.head.page;
-    let kept = check_page(alloc, memo, tx, site, page)?;
+    let kept = check_page(alloc, memo, tx, site, page, known)?;
     let site = site.as_str();
     write_page(alloc, memo, tx, site, &put.page)?;
     write_outcomes(tx, site, page.as_str(), &kept, &put.outcomes)
 }
 
+// What is known serves the first alone.
 fn put_each<S: Alter>(
     alloc: Global,
     memo: &mut Memo,
     tx: &mut Transaction<'_, S>,
     site: &Text,
     puts: &[PagePut],
+    known: Option<Known>,
 ) -> Result<(), StoreFault>
     requires fits { All (λ (p : PagePut). FitsPage p.page) puts.now }
     ensures same_reference { tx.new.conn.ghost_name ≡ tx.old.conn.ghost_name }
-    ensures makes { MakesInside (PutsEach site.now puts.now) (state S.Store tx.old.conn.now) (state S.Store tx.new.conn.now) result }
+    ensures makes { MakesKnowing known (PutsEach site.now puts.now) (state S.Store tx.old.conn.now) (state S.Store tx.new.conn.now) result }
     ensures kept { HasCleanDisk (state S.Store tx.new.conn.now) → StaysInside (state S.Store tx.old.conn.now) (state S.Store tx.new.conn.now) result }
     ensures survives { Survives (state S.Store tx.old.conn.now) (state S.Store tx.new.conn.now) (λ _. ⊥) }
 {
     let Some((first, rest)) = puts.split_first() else {
         return Ok(());
     };
-    put_one(alloc, memo, tx, site, first)?;
-    put_each(alloc, memo, tx, site, rest)
+    put_one(alloc, memo, tx, site, first, known)?;
+    put_each(alloc, memo, tx, site, rest, None)
 }
 
 fn put_pages<S: Alter>(
@@ -85,16 +90,17 @@ fn put_pages<S: Alter>(
     site: &Text,
     counter: u64,
     puts: &[PagePut],
+    known: Option<Known>,
 ) -> Result<(), StoreFault>
     requires fits { All (λ (p : PagePut). FitsPage p.page) puts.now }
     ensures same_reference { tx.new.conn.ghost_name ≡ tx.old.conn.ghost_name }
-    ensures makes { MakesInside (PutsPages site.now counter puts.now) (state S.Store tx.old.conn.now) (state S.Store tx.new.conn.now) result }
+    ensures makes { MakesKnowing known (PutsPages site.now counter puts.now) (state S.Store tx.old.conn.now) (state S.Store tx.new.conn.now) result }
     ensures kept { HasCleanDisk (state S.Store tx.new.conn.now) → StaysInside (state S.Store tx.old.conn.now) (state S.Store tx.new.conn.now) result }
     ensures survives { Survives (state S.Store tx.old.conn.now) (state S.Store tx.new.conn.now) (λ _. ⊥) }
 {
     check_kept(alloc, tx, site)?;
     write_site(tx, site.as_str(), counter)?;
-    put_each(alloc, memo, tx, site, puts)
+    put_each(alloc, memo, tx, site, puts, known)
 }
 
 // Takes a page out that reads, of a site that is there.
@@ -110,7 +116,7 @@ fn take_page<S: Alter>(
     ensures kept { HasCleanDisk (state S.Store tx.new.conn.now) → StaysInside (state S.Store tx.old.conn.now) (state S.Store tx.new.conn.now) result }
     ensures survives { Survives (state S.Store tx.old.conn.now) (state S.Store tx.new.conn.now) (λ _. ⊥) }
 {
-    check_page(alloc, memo, tx, site, page)?;
+    check_page(alloc, memo, tx, site, page, None)?;
     let (site, page) = (site.as_str(), page.as_str());
     drop_page(tx, site, page)?;
     drop_judgements(tx, site, page)?;
@@ -144,28 +150,30 @@ fn judge<S: Alter>(
     page: &Text,
     judgement: &Judgement,
     outcomes: &Outcomes,
+    known: Option<Known>,
 ) -> Result<(), StoreFault>
     ensures same_reference { tx.new.conn.ghost_name ≡ tx.old.conn.ghost_name }
-    ensures makes { MakesInside (Applies (change.AddJudgement site.now page.now judgement.now outcomes.now)) (state S.Store tx.old.conn.now) (state S.Store tx.new.conn.now) result }
+    ensures makes { MakesKnowing known (Applies (change.AddJudgement site.now page.now judgement.now outcomes.now)) (state S.Store tx.old.conn.now) (state S.Store tx.new.conn.now) result }
     ensures kept { HasCleanDisk (state S.Store tx.new.conn.now) → StaysInside (state S.Store tx.old.conn.now) (state S.Store tx.new.conn.now) result }
     ensures survives { Survives (state S.Store tx.old.conn.now) (state S.Store tx.new.conn.now) (λ _. ⊥) }
 {
-    let (place, kept) = check_judged(alloc, tx, site, page)?;
+    let (place, kept) = check_judged(alloc, tx, site, page, known)?;
     let (site, page) = (site.as_str(), page.as_str());
     write_judgement(tx, site, page, place, judgement)?;
     write_outcomes(tx, site, page, &kept, outcomes)
 }
 
-/// Makes a change that fits, of rows that read.
+/// Makes a change that fits, of rows that read. Outcomes that are known aren't read again.
 pub fn make_inside<S: Alter>(
     alloc: Global,
     memo: &mut Memo,
     tx: &mut Transaction<'_, S>,
     change: &Change,
+    known: Option<Known>,
 ) -> Result<(), StoreFault>
     requires fits { Fits change.now }
     ensures same_reference { tx.new.conn.ghost_name ≡ tx.old.conn.ghost_name }
-    ensures makes { MakesInside (Applies change.now) (state S.Store tx.old.conn.now) (state S.Store tx.new.conn.now) result }
+    ensures makes { MakesKnowing known (Applies change.now) (state S.Store tx.old.conn.now) (state S.Store tx.new.conn.now) result }
     ensures kept { HasCleanDisk (state S.Store tx.new.conn.now) → StaysInside (state S.Store tx.old.conn.now) (state S.Store tx.new.conn.now) result }
     ensures survives { Survives (state S.Store tx.old.conn.now) (state S.Store tx.new.conn.now) (λ _. ⊥) }
 {
@@ -175,14 +183,14 @@ pub fn make_inside<S: Alter>(
             site,
             counter,
             pages,
-        } => put_pages(alloc, memo, tx, site, *counter, pages.as_slice()),
+        } => put_pages(alloc, memo, tx, site, *counter, pages.as_slice(), known),
         Change::DropPage { site, page } => take_out(alloc, memo, tx, site, page),
         Change::AddJudgement {
             site,
             page,
             judgement,
             outcomes,
-        } => judge(alloc, tx, site, page, judgement, outcomes),
+        } => judge(alloc, tx, site, page, judgement, outcomes, known),
     }
 }
 
@@ -192,16 +200,18 @@ pub fn make<S: Alter>(
     memo: &mut Memo,
     conn: &mut Connection<S>,
     change: &Change,
+    known: Option<Known>,
 ) -> Result<(), StoreFault>
     requires idle { conn.old.in_transaction ≡ false }
     requires fits { Fits change.now }
+    requires known { HasCleanDisk (state S.Store conn.old) → Recalls known (state S.Store conn.old) }
     ensures idle { conn.new.in_transaction ≡ false }
     ensures changes { ChangesStore change.now (state S.Store conn.old) (state S.Store conn.new) result }
     ensures crash { Survives (state S.Store conn.old) (state S.Store conn.new) (MayLeave change.now (state S.Store conn.old)) }
 {
     let _idle = conn.is_autocommit();
     let mut tx = conn.transaction();
-    make_inside(alloc, memo, &mut tx, change)?;
+    make_inside(alloc, memo, &mut tx, change, known)?;
     tx.commit()?;
     Ok(())
 }

@@ -1,6 +1,6 @@
 //! What has to read before it is replaced or dropped. Each call fails with `Failed` where it doesn't.
 
-ghost use Rattle.std.specs.Prelude.{◌≡◌, [], suc, length, IfOk, IsTrue, Some, None, true, IsSome};
+ghost use Rattle.std.specs.Prelude.{◌≡◌, [], suc, length, IfOk, OnOk, IsTrue, Some, None, true, IsSome};
 ghost use Rattle.sqlite.specs.Held.{state};
 ghost use Rattle.sqlite.specs.State.{HasCleanDisk, Survives, IsUnchanged};
 ghost use Rattle.sql_rows.specs.Inside.{StaysInside};
@@ -8,9 +8,10 @@ ghost use Rattle.store_texts.specs.Stored.{site_at, members_at, heads_at, judgem
 ghost use Rattle.store_texts.specs.Changes.{IsReady};
 ghost use Rattle.store_tables.specs.Batches.{ReadsSite, ReadsPage, ReadsJudged};
 ghost use Rattle.store_tables.specs.Told.{is_site, is_page, site_shown, judgements_shown};
-ghost use Rattle.keep_sql.specs.Reading.{rows_in, outcomes_in, ReadsInside};
-ghost use Rattle.keep_sql.specs.Writing.{FindsInside};
+ghost use Rattle.keep_sql.specs.Reading.{rows_in, outcomes_in, Recalls};
+ghost use Rattle.keep_sql.specs.Writing.{FindsInside, FindsKnowing};
 
+use crate::known::{Known, known_of};
 use crate::reads;
 use judge_core::{Judgement, Outcomes};
 use keep_core::Page;
@@ -104,23 +105,49 @@ fn are_housed(page: &Option<Page>, judgements: &List<Judgement>, outcomes: &Outc
     page.is_some() || (judgements.len() == 0 && outcomes.rows.len() == 0)
 }
 
+// The outcomes of a page, which are read where they aren't those that are known.
+#[tactic(auto, using(crate::proofs::Checking::recalled, crate::proofs::Checking::unchanged_itself))]
+fn kept_outcomes<S: Alter>(
+    alloc: Global,
+    tx: &mut Transaction<'_, S>,
+    site: &Text,
+    page: &Text,
+    known: Option<Known>,
+) -> Result<Outcomes, StoreFault>
+    ensures same_reference { tx.new.conn.ghost_name ≡ tx.old.conn.ghost_name }
+    ensures reads { HasCleanDisk (state S.Store tx.new.conn.now) → IsReady (state S.Store tx.old.conn.now) → IsTrue (state S.Store tx.old.conn.now).is_open → Recalls known (state S.Store tx.old.conn.now)
+        → IfOk result (λ outcomes. outcomes_in site.now page.now (state S.Store tx.old.conn.now) ≡ Some outcomes) }
+    ensures same { HasCleanDisk (state S.Store tx.new.conn.now) → IsReady (state S.Store tx.old.conn.now) → IsTrue (state S.Store tx.old.conn.now).is_open
+        → OnOk result (IsUnchanged (state S.Store tx.old.conn.now) (state S.Store tx.new.conn.now)) }
+    ensures kept { HasCleanDisk (state S.Store tx.new.conn.now) → StaysInside (state S.Store tx.old.conn.now) (state S.Store tx.new.conn.now) result }
+    ensures survives { Survives (state S.Store tx.old.conn.now) (state S.Store tx.new.conn.now) (λ _. ⊥) }
+{
+    match known_of(known, site, page) {
+        Some(outcomes) => Ok(outcomes),
+        None => reads::outcomes_in(alloc, tx, site, page),
+    }
+}
+
 /// The outcomes of a page. Its row, its judgements and its outcomes read; without the row there are none of its name.
+/// Those that are known aren't read again.
 pub fn check_page<S: Alter>(
     alloc: Global,
     memo: &mut Memo,
     tx: &mut Transaction<'_, S>,
     site: &Text,
     page: &Text,
+    known: Option<Known>,
 ) -> Result<Outcomes, StoreFault>
     ensures same_reference { tx.new.conn.ghost_name ≡ tx.old.conn.ghost_name }
-    ensures reads { ReadsInside (outcomes_in site.now page.now) (state S.Store tx.old.conn.now) (state S.Store tx.new.conn.now) result }
-    ensures finds { FindsInside (ReadsPage site.now page.now) (state S.Store tx.old.conn.now) (state S.Store tx.new.conn.now) result }
+    ensures reads { HasCleanDisk (state S.Store tx.new.conn.now) → IsReady (state S.Store tx.old.conn.now) → Recalls known (state S.Store tx.old.conn.now)
+        → IfOk result (λ outcomes. outcomes_in site.now page.now (state S.Store tx.old.conn.now) ≡ Some outcomes) }
+    ensures finds { FindsKnowing known (ReadsPage site.now page.now) (state S.Store tx.old.conn.now) (state S.Store tx.new.conn.now) result }
     ensures kept { HasCleanDisk (state S.Store tx.new.conn.now) → StaysInside (state S.Store tx.old.conn.now) (state S.Store tx.new.conn.now) result }
     ensures survives { Survives (state S.Store tx.old.conn.now) (state S.Store tx.new.conn.now) (λ _. ⊥) }
 {
     let found = reads::page_in(alloc, memo, tx, site, page)?;
     let judgements = reads::judgements_in(alloc, tx, site, page)?;
-    let outcomes = reads::outcomes_in(alloc, tx, site, page)?;
+    let outcomes = kept_outcomes(alloc, tx, site, page, known)?;
     if !are_housed(&found, &judgements, &outcomes) {
         return Err(StoreFault::Failed);
     }
@@ -166,17 +193,18 @@ fn check_there<S: Alter>(
 }
 
 /// The place that comes behind the judgements of a page, and its outcomes. The page is there, and its judgements and
-/// its outcomes read.
+/// its outcomes read. Those that are known aren't read again.
 pub fn check_judged<S: Alter>(
     alloc: Global,
     tx: &mut Transaction<'_, S>,
     site: &Text,
     page: &Text,
+    known: Option<Known>,
 ) -> Result<(u64, Outcomes), StoreFault>
     ensures same_reference { tx.new.conn.ghost_name ≡ tx.old.conn.ghost_name }
-    ensures reads { HasCleanDisk (state S.Store tx.new.conn.now) → IsReady (state S.Store tx.old.conn.now)
+    ensures reads { HasCleanDisk (state S.Store tx.new.conn.now) → IsReady (state S.Store tx.old.conn.now) → Recalls known (state S.Store tx.old.conn.now)
         → IfOk result (λ found. outcomes_in site.now page.now (state S.Store tx.old.conn.now) ≡ Some found.1) }
-    ensures finds { HasCleanDisk (state S.Store tx.new.conn.now) → IsReady (state S.Store tx.old.conn.now)
+    ensures finds { HasCleanDisk (state S.Store tx.new.conn.now) → IsReady (state S.Store tx.old.conn.now) → Recalls known (state S.Store tx.old.conn.now)
         → IfOk result (λ found. (found.0 ≡ suc (length (judgements_at site.now page.now (rows_in (state S.Store tx.old.conn.now)))))
         × ReadsJudged site.now page.now (rows_in (state S.Store tx.old.conn.now)) × IsUnchanged (state S.Store tx.old.conn.now) (state S.Store tx.new.conn.now)) }
     ensures kept { HasCleanDisk (state S.Store tx.new.conn.now) → StaysInside (state S.Store tx.old.conn.now) (state S.Store tx.new.conn.now) result }
@@ -184,6 +212,6 @@ pub fn check_judged<S: Alter>(
 {
     check_there(tx, site.as_str(), page.as_str())?;
     let place = next_place(alloc, tx, site.as_str(), page.as_str())?;
-    let outcomes = reads::outcomes_in(alloc, tx, site, page)?;
+    let outcomes = kept_outcomes(alloc, tx, site, page, known)?;
     Ok((place, outcomes))
 }

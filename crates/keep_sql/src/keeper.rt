@@ -10,6 +10,7 @@ ghost use Rattle.keep_sql.specs.declared.keeper.Prepared.TheVariants as prepared
 ghost use Rattle.keep_sql.specs.Keeper.{tables as told_tables, WaitsFailing, Across, Between, LeavesAll, LeavesChange, LeavesTables, LeavesPrepared, IsSettled, IsNoted, IsToldOf, FoundEdition, StaysStored, GivesBack, AreWell, first_of, held};
 
 use crate::calls::{read_heads, read_judgements, read_outcomes, read_page, read_site};
+use crate::known::Known;
 use crate::{changes, preparing};
 use counts::next;
 use judge_core::{Judgement, Outcomes};
@@ -40,10 +41,12 @@ pub struct SqlKeeper<S: Alter> {
     shut: Option<S>,
     faults: u64,
     memo: Memo,
+    // What the last call answered, where that was `outcomes`.
+    known: Option<Known>,
 }
 
 impl<S: Alter> Model for SqlKeeper<S> {
-    ghost use Rattle.keep_sql.specs.Keeper.{Keeper, keeper_code, AreWell};
+    ghost use Rattle.keep_sql.specs.Keeper.{Keeper, keeper_code, AreKnown};
 
     ghost Value = { Keeper S };
 
@@ -51,7 +54,7 @@ impl<S: Alter> Model for SqlKeeper<S> {
 
     ghost view = { λ k. record { ready = k.ready; waiting = k.waiting; shut = k.shut; faults = k.faults } };
 
-    ghost invariant = { λ k. AreWell S.Store k.ready k.waiting };
+    ghost invariant = { λ k. AreKnown S.Store k.ready k.waiting k.known };
 }
 
 // A fault of the store as one of the keeper, which counts what failed.
@@ -87,6 +90,7 @@ impl<S: Alter> SqlKeeper<S> {
             shut: None,
             faults: 0,
             memo: Memo::new(),
+            known: None,
         }
     }
 }
@@ -111,6 +115,7 @@ impl<S: Alter + Drop> SqlKeeper<S> {
         ensures quiet { OnOk result (self.new.faults ≡ self.old.faults) }
         ensures faults { CountsFaults self.old.faults self.new.faults result }
     {
+        self.known = None;
         let Some(conn) = taken(&mut self.ready, &mut self.waiting) else {
             return Err(refused(&mut self.faults));
         };
@@ -150,6 +155,7 @@ impl<S: Alter + Drop> SqlKeeper<S> {
             shut,
             faults: _,
             memo: _,
+            known: _,
         } = self;
         if let Some(conn) = ready {
             return Some(conn.into_store());
@@ -191,6 +197,7 @@ impl<S: Alter> Keeper for SqlKeeper<S> {
         ensures waits { WaitsFailing self.old self.new result }
         ensures crash { Across S.Store LeavesAll self.old.ready self.new.ready }
     {
+        self.known = None;
         let Some(conn) = &mut self.ready else {
             return Err(refused(&mut self.faults));
         };
@@ -207,6 +214,7 @@ impl<S: Alter> Keeper for SqlKeeper<S> {
         ensures waits { WaitsFailing self.old self.new result }
         ensures crash { Across S.Store LeavesAll self.old.ready self.new.ready }
     {
+        self.known = None;
         let Some(conn) = &mut self.ready else {
             return Err(refused(&mut self.faults));
         };
@@ -223,6 +231,7 @@ impl<S: Alter> Keeper for SqlKeeper<S> {
         ensures waits { WaitsFailing self.old self.new result }
         ensures crash { Across S.Store LeavesAll self.old.ready self.new.ready }
     {
+        self.known = None;
         let Some(conn) = &mut self.ready else {
             return Err(refused(&mut self.faults));
         };
@@ -243,6 +252,7 @@ impl<S: Alter> Keeper for SqlKeeper<S> {
         ensures waits { WaitsFailing self.old self.new result }
         ensures crash { Across S.Store LeavesAll self.old.ready self.new.ready }
     {
+        self.known = None;
         let Some(conn) = &mut self.ready else {
             return Err(refused(&mut self.faults));
         };
@@ -258,11 +268,15 @@ impl<S: Alter> Keeper for SqlKeeper<S> {
         ensures waits { WaitsFailing self.old self.new result }
         ensures crash { Across S.Store LeavesAll self.old.ready self.new.ready }
     {
+        self.known = None;
         let Some(conn) = &mut self.ready else {
             return Err(refused(&mut self.faults));
         };
         match read_outcomes(alloc, conn, site, page) {
-            Ok(outcomes) => Ok(outcomes),
+            Ok(outcomes) => {
+                self.known = Known::of(alloc, site, page, &outcomes);
+                Ok(outcomes)
+            }
             Err(fault) => Err(fault_of(fault, &mut self.faults)),
         }
     }
@@ -276,11 +290,12 @@ impl<S: Alter> Keeper for SqlKeeper<S> {
         ensures leaves { Across S.Store (LeavesTables batch.now.change) self.old.ready self.new.ready }
         ensures settled { OnOk result (Across S.Store IsSettled self.old.ready self.new.ready) }
     {
+        let known = self.known.take();
         let Some(conn) = &mut self.ready else {
             return Err(refused(&mut self.faults));
         };
         see_numbers(&batch.change);
-        match changes::make(alloc, &mut self.memo, conn, &batch.change) {
+        match changes::make(alloc, &mut self.memo, conn, &batch.change, known) {
             Ok(()) => Ok(()),
             Err(fault) => Err(fault_of(fault, &mut self.faults)),
         }

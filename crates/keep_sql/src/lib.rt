@@ -9,6 +9,7 @@ mod changes;
 mod checks;
 mod fitting;
 mod keeper;
+mod known;
 mod preparing;
 mod reads;
 mod writes;

@@ -6,42 +6,42 @@ use Rattle.store_texts.specs.Stored.{judgements_at, outcomes_at, stored}
 use Rattle.store_tables.specs.Told.{judgements_shown, outcomes_shown}
 use Rattle.keep_sql.specs.Reading.{rows_in}
 use Rattle.keep_sql.proofs.Ready.{ready_same}
-use Rattle.keep_sql.proofs.Checking.{unchanged_through, reads_page}
+use Rattle.keep_sql.proofs.Checking.{unchanged_through, still_recalled, reads_page}
 use Rattle.keep_sql.proofs.checks.check_page.Goals as goal
 
 pub returns-clause-finds : goal.returns-clause-finds
-returns-clause-finds g c clean ready =
+returns-clause-finds g c clean ready recalls =
     let site = c.args.site.now in
     let page = c.args.page.now in
     let s0 = state g.S.Store c.args.tx.now.conn.now in
     let s1 = state g.S.Store c.page_in.new.tx.conn.now in
     let s2 = state g.S.Store c.judgements_in.new.tx.conn.now in
-    let s3 = state g.S.Store c.outcomes_in.new.tx.conn.now in
-    let clean2 : HasCleanDisk s2 = omega (arith, clean, c.outcomes_in.ensures.survives.clean) in
+    let s3 = state g.S.Store c.kept_outcomes.new.tx.conn.now in
+    let clean2 : HasCleanDisk s2 = omega (arith, clean, c.kept_outcomes.ensures.survives.clean) in
     let clean1 : HasCleanDisk s1 = omega (arith, clean2, c.judgements_in.ensures.survives.clean) in
     let same1 = c.in_ok-found.ensures.same clean1 ready in
     let ready1 = ready_same s0 s1 ready same1 in
     let same2 = c.in_ok-judgements.ensures.same clean2 ready1 in
     let ready2 = ready_same s1 s2 ready1 same2 in
-    let same3 = c.in_ok-outcomes.ensures.same clean ready2 in
+    let same3 = c.in_ok-outcomes.ensures.same clean ready2 same2.0.is_open in
     let first_two = unchanged_through s0 s1 s2 same1 same2 in
     let judged = ap (λ (d : Database). judgements_shown (judgements_at site page (stored d.trees))) same1.0.now_is in
     let audited = ap (λ (d : Database). outcomes_shown (outcomes_at site page (stored d.trees))) first_two.0.now_is in (
       reads_page site page (rows_in s0) c.in_ok-found.found c.in_ok-judgements.judgements c.in_ok-outcomes.outcomes (c.in_ok-found.ensures.reads clean1 ready)
-          (sym judged ∙ c.in_ok-judgements.ensures.reads clean2 ready1) (sym audited ∙ c.in_ok-outcomes.ensures.reads clean ready2) (c.if-not-are_housed.ensures refl),
+          (sym judged ∙ c.in_ok-judgements.ensures.reads clean2 ready1) (sym audited ∙ c.in_ok-outcomes.ensures.reads clean ready2 same2.0.is_open (still_recalled c.args.known s0 s2 first_two recalls)) (c.if-not-are_housed.ensures refl),
       unchanged_through s0 s2 s3 first_two same3,
     )
 
 pub returns-clause-reads : goal.returns-clause-reads
-returns-clause-reads g c clean ready =
+returns-clause-reads g c clean ready recalls =
     let s0 = state g.S.Store c.args.tx.now.conn.now in
     let s1 = state g.S.Store c.page_in.new.tx.conn.now in
     let s2 = state g.S.Store c.judgements_in.new.tx.conn.now in
-    let clean2 : HasCleanDisk s2 = omega (arith, clean, c.outcomes_in.ensures.survives.clean) in
+    let clean2 : HasCleanDisk s2 = omega (arith, clean, c.kept_outcomes.ensures.survives.clean) in
     let clean1 : HasCleanDisk s1 = omega (arith, clean2, c.judgements_in.ensures.survives.clean) in
     let same1 = c.in_ok-found.ensures.same clean1 ready in
     let ready1 = ready_same s0 s1 ready same1 in
     let same2 = c.in_ok-judgements.ensures.same clean2 ready1 in
     let same = unchanged_through s0 s1 s2 same1 same2 in
     sym (ap (λ (d : Database). outcomes_shown (outcomes_at c.args.site.now c.args.page.now (stored d.trees))) same.0.now_is)
-    ∙ c.in_ok-outcomes.ensures.reads clean (ready_same s1 s2 ready1 same2)
+    ∙ c.in_ok-outcomes.ensures.reads clean (ready_same s1 s2 ready1 same2) same2.0.is_open (still_recalled c.args.known s0 s2 same recalls)

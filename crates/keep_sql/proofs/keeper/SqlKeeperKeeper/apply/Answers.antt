@@ -6,12 +6,12 @@ use Rattle.keep_sql.proofs.keeper.SqlKeeperKeeper.apply.Goals as goal
 pub returns-in-Ok-clause-makes : goal.returns-in-Ok-clause-makes
 returns-in-Ok-clause-makes g c =
     made_of g.S.Store c.self.inside.ready c.args.self.now.ready c.in-Some.conn c.make.new.conn c.in-Some.is (ap (λ (k : Keeper g.row.S.Denot). k.ready) (sym c.self.view_is) ∙ c.in-Some.is)
-    c.make.ensures.crash.clean c.self.invariant.ready_is c.args.batch.now.change c.requires.fits c.in-Ok.ensures.changes
+    c.make.ensures.crash.clean c.self.invariant.well.ready_is c.args.batch.now.change c.requires.fits c.in-Ok.ensures.changes
 
 pub returns-in-Err-clause-makes : goal.returns-in-Err-clause-makes
 returns-in-Err-clause-makes g c =
     kept_of g.S.Store c.self.inside.ready c.args.self.now.ready c.in-Some.conn c.make.new.conn c.in-Some.is (ap (λ (k : Keeper g.row.S.Denot). k.ready) (sym c.self.view_is) ∙ c.in-Some.is)
-    c.make.ensures.crash.clean c.self.invariant.ready_is c.args.batch.now.change c.in-Err.fault c.fault_of.result c.in-Err.ensures.changes
+    c.make.ensures.crash.clean c.self.invariant.well.ready_is c.args.batch.now.change c.in-Err.fault c.fault_of.result c.in-Err.ensures.changes
 
 pub returns-in-Ok-clause-crash : goal.returns-in-Ok-clause-crash
 returns-in-Ok-clause-crash g c =
@@ -27,9 +27,9 @@ returns-in-Ok-clause-settled g c = across_of g.S.Store IsSettled c.args.self.now
 pub returns-in-Ok-clause-leaves : goal.returns-in-Ok-clause-leaves
 returns-in-Ok-clause-leaves g c =
     leaves_of g.S.Store c.self.inside.ready c.args.self.now.ready c.in-Some.conn c.make.new.conn c.in-Some.is (ap (λ (k : Keeper g.row.S.Denot). k.ready) (sym c.self.view_is) ∙ c.in-Some.is)
-    c.make.ensures.crash.clean c.self.invariant.ready_is c.args.batch.now.change c.requires.fits c.see_numbers.ensures c.make.ensures.crash
+    c.make.ensures.crash.clean c.self.invariant.well.ready_is c.args.batch.now.change c.requires.fits c.see_numbers.ensures c.make.ensures.crash
 
 pub returns-in-Err-clause-leaves : goal.returns-in-Err-clause-leaves
 returns-in-Err-clause-leaves g c =
     leaves_of g.S.Store c.self.inside.ready c.args.self.now.ready c.in-Some.conn c.make.new.conn c.in-Some.is (ap (λ (k : Keeper g.row.S.Denot). k.ready) (sym c.self.view_is) ∙ c.in-Some.is)
-    c.make.ensures.crash.clean c.self.invariant.ready_is c.args.batch.now.change c.requires.fits c.see_numbers.ensures c.make.ensures.crash
+    c.make.ensures.crash.clean c.self.invariant.well.ready_is c.args.batch.now.change c.requires.fits c.see_numbers.ensures c.make.ensures.crash
