@@ -1,5 +1,5 @@
--- Marks by number, also of a number that the old page doesn't hold.
-use Rattle.std.proofs.Common.{◌≡◌, ◌&&◌, ◌==◌, not, List, [], ◌∷◌, map, codes, Bool, true, false, if◌then◌else◌, Option, Some, None, Bor, option_map, option_and_then, refl, sym, ◌∙◌, ap}
+-- What is the same by number, also of a number that the old page doesn't hold.
+use Rattle.std.proofs.Common.{◌≡◌, ◌&&◌, ◌==◌, not, List, [], ◌∷◌, map, Bool, true, false, if◌then◌else◌, Option, Some, None, Bor, option_map, refl, sym, ◌∙◌, ap}
 use Rattle.std.proofs.lemmas.Bool.Decides.{Decides-eqb}
 use Rattle.std.specs.List.{find}
 use Rattle.std.specs.Cmp.Lexicographic.{pointwise}
@@ -7,7 +7,7 @@ use Rattle.std.specs.Option.{option_eq, option_or, option_map_or, option_copied,
 use Rattle.snap_tree.specs.declared.row.NodeId.{NodeId}
 use Rattle.snap_tree.specs.declared.row.Row.{Row}
 use Rattle.snap_tree.specs.Lookups.{node}
-use Rattle.snap_tree.specs.Rows.{has_number, is_html}
+use Rattle.snap_tree.specs.Rows.{has_number}
 use Rattle.snap_tree.specs.Spots.{Spot, spot}
 use Rattle.snap_tree.specs.Trees.{Trees, rows_of}
 use Rattle.snap_tree.proofs.Spotting.{spot_row}
@@ -17,11 +17,10 @@ use Rattle.acc_tree.specs.Sights.{Sight, sight_of}
 use Rattle.keys.specs.Keys.{frame_key, own_key, kids_key, own, root_numbers, frame_at, own_at, kids_at}
 use Rattle.keys.specs.Same.{same_node, same_frame, same_own, same, all_same}
 use Rattle.keys.specs.Nodes.{frames_of, frames_above, self_keys, keys_in, keys_below, tree_keys}
-use Rattle.keys.specs.Classes.{table_in, table_of, is_root, is_meta}
 use Rattle.keys.proofs.Agreeing.{no_sight}
-use Rattle.page_changes.specs.declared.marks.Marks.{Marks}
+use Rattle.page_changes.specs.declared.by_number.Agreement.{Agreement}
 use Rattle.page_changes.specs.Marks.{marks_of}
-use Rattle.page_changes.specs.ByNumber.{first_marks, strange}
+use Rattle.page_changes.specs.ByNumber.{agreed, first_agreed, strange}
 
 pub row_lost : (t : Trees) (n : NodeId) (r : Option (Bor Row)) → option_map seen_row (option_copied r) ≡ option_map (λ s. s.row) (sight_of t n) → is_none r ≡ not (is_some (sight_of t n))
 row_lost t n r h = by_both r (sight_of t n) h
@@ -43,12 +42,12 @@ next_or None h f x true e = ap (λ h. option_or h f) e
 next_or None h f x false e = ap (λ h. option_or h f) e
 next_or (Some y) h f x b e = ap (λ h. option_or h f) e
 
-pub marks_find : (old new : Trees) (n : NodeId) (rows : List Row) → first_marks n.0 (map (λ row. marks_of old new row.id) rows) ≡ option_map (λ row. marks_of old new row.id) (find (has_number n) rows)
+pub marks_find : (old new : Trees) (n : NodeId) (rows : List Row) → first_agreed n.0 (map (λ row. marks_of old new row.id) rows) ≡ option_map (λ row. agreed (marks_of old new row.id)) (find (has_number n) rows)
 marks_find old new n [] = refl
 marks_find old new n (row ∷ rows) = by_number (row.id.0 == n.0) (marks_find old new n rows)
   where
-    by_number : (b : Bool) → first_marks n.0 (map (λ (row : Row). marks_of old new row.id) rows) ≡ option_map (λ (row : Row). marks_of old new row.id) (find (has_number n) rows)
-        → (if b then Some (marks_of old new row.id) else first_marks n.0 (map (λ (row : Row). marks_of old new row.id) rows)) ≡ option_map (λ (row : Row). marks_of old new row.id) (if b then Some row else find (has_number n) rows)
+    by_number : (b : Bool) → first_agreed n.0 (map (λ (row : Row). marks_of old new row.id) rows) ≡ option_map (λ (row : Row). agreed (marks_of old new row.id)) (find (has_number n) rows)
+        → (if b then Some (agreed (marks_of old new row.id)) else first_agreed n.0 (map (λ (row : Row). marks_of old new row.id) rows)) ≡ option_map (λ (row : Row). agreed (marks_of old new row.id)) (if b then Some row else find (has_number n) rows)
     by_number true h = refl
     by_number false h = h
 
@@ -65,14 +64,14 @@ found_number n (x ∷ rows) row e = by_number (has_number n x) refl e (found_num
         ap (λ (r : Row). r.id) (sym same_row) ∙ ap (λ k. record { 0 = k }) ((Decides-eqb x.id.0 n.0).0 e)
     by_number false e h k = let is : find (has_number n) rows ≡ Some row = rw e at h in k is
 
-pub marks_found : (old new : Trees) (n : NodeId) (m : Marks) → Some m ≡ option_map (λ row. marks_of old new row.id) (node old n) → m ≡ marks_of old new n
+pub marks_found : (old new : Trees) (n : NodeId) (m : Agreement) → Some m ≡ option_map (λ row. agreed (marks_of old new row.id)) (node old n) → m ≡ agreed (marks_of old new n)
 marks_found old new n m e = by_row (node old n) refl e
   where
-    by_row : (o : Option Row) → node old n ≡ o → Some m ≡ option_map (λ (row : Row). marks_of old new row.id) o → m ≡ marks_of old new n
+    by_row : (o : Option Row) → node old n ≡ o → Some m ≡ option_map (λ (row : Row). agreed (marks_of old new row.id)) o → m ≡ agreed (marks_of old new n)
     by_row None k h = cc
     by_row (Some row) k h =
-        let is : m ≡ marks_of old new row.id = cc in
-        is ∙ ap (marks_of old new) (found_number n (rows_of old) row k)
+        let is : m ≡ agreed (marks_of old new row.id) = cc in
+        is ∙ ap (λ n. agreed (marks_of old new n)) (found_number n (rows_of old) row k)
 
 -- ---- a number that isn't
 
@@ -115,7 +114,7 @@ thrice : (b : Bool) → b ≡ (b && (b && (b && true)))
 thrice true = refl
 thrice false = refl
 
-pub marks_lost : (old new : Trees) (n : NodeId) → None ≡ option_map (λ row. marks_of old new row.id) (node old n) → strange n (not (is_some (sight_of new n))) ≡ marks_of old new n
+pub marks_lost : (old new : Trees) (n : NodeId) → None ≡ option_map (λ row. agreed (marks_of old new row.id)) (node old n) → strange (not (is_some (sight_of new n))) ≡ agreed (marks_of old new n)
 marks_lost old new n e =
     let lost = not (is_some (sight_of new n)) in
     let away : spot old n ≡ None = no_spot old n (none (node old n) e) in
@@ -125,13 +124,10 @@ marks_lost old new n e =
     let k : lost ≡ same old new (kids_key n) = sym (lost_kids old new n unseen) in
     let up : true ≡ all_same old new (frames_above old n) = sym (ap (λ o. all_same old new (option_map_or (λ (s : Spot). frames_of s.above) o [])) away) in
     let below : true ≡ all_same old new (keys_below old n) = sym (ap (λ o. all_same old new (option_map_or (λ (s : Spot). keys_in s.below) o [])) away) in
-    let root : false ≡ is_root old n = sym (ap (λ o. option_map_or (λ (s : Sight). not (is_some s.row.parent)) o false) unseen) in
-    let meta : false ≡ is_meta old n = sym (ap (λ o. option_map_or (λ (s : Sight). is_html (codes "meta") s.row) o false) unseen) in
-    let table : None ≡ table_of old n = sym (ap (option_and_then (λ (s : Sight). table_in s.above)) unseen) in
     let itself : lost ≡ all_same old new (self_keys old n) = twice lost ∙ (λ i. f i && (o i && up i)) in
     let trees : lost ≡ all_same old new (tree_keys old n) = thrice lost ∙ (λ i. f i && (o i && (k i && below i))) in
-    λ i. record { node = n; root = root i; meta = meta i; table = table i; itself = itself i; own = o i; tree = trees i }
+    λ i. record { itself = itself i; own = o i; tree = trees i }
   where
-    none : (o : Option Row) → None ≡ option_map (λ (row : Row). marks_of old new row.id) o → o ≡ None
+    none : (o : Option Row) → None ≡ option_map (λ (row : Row). agreed (marks_of old new row.id)) o → o ≡ None
     none None h = refl
     none (Some row) h = cc

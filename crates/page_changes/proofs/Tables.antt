@@ -1,5 +1,5 @@
 -- A row is a table where its tag is that word.
-use Rattle.std.proofs.Common.{◌≡◌, ◌&&◌, ℕ, List, [], ◌∷◌, codes, Bool, true, false, Option, Some, None, cond, option_and_then, refl, sym, ◌∙◌, ap}
+use Rattle.std.proofs.Common.{◌≡◌, ℕ, List, [], ◌∷◌, codes, Bool, true, false, Option, Some, cond, option_and_then, refl, sym, ◌∙◌, ap}
 use Rattle.std.proofs.lemmas.Slice.Eq.{bytes_eq-Decides}
 use Rattle.std.specs.List.{find}
 use Rattle.std.specs.Str.{bytes_eq}
@@ -12,7 +12,7 @@ use Rattle.texts.specs.Words.{folded, same_folded}
 use Rattle.acc_tree.specs.declared.tags.Tag.{Tag}
 use Rattle.acc_tree.specs.declared.tags.Tag.TheVariants as tag
 use Rattle.acc_tree.specs.Frames.{is_table}
-use Rattle.acc_tree.specs.Tags.{tag_word, tag_among, all_tags, known_tag, space_in, tag_in, any_tag, in_html, html_tag}
+use Rattle.acc_tree.specs.Tags.{tag_word, tag_among, all_tags, known_tag, space_in, tag_in, in_html, html_tag}
 
 -- the first of some tags isn't that of tables, nor is what follows
 one_other : (text : List ℕ) (t : Tag) (rest : Option Tag) (b : Bool) → same_folded text (tag_word t) ≡ b → same_folded text (codes "table") ≡ false → is_table rest ≡ false → is_table (cond b (Some t) rest) ≡ false

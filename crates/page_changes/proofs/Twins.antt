@@ -1,5 +1,5 @@
 -- A node that stands on two pages.
-use Rattle.std.proofs.Common.{◌≡◌, ◌&&◌, ℕ, List, [], ◌∷◌, Bool, true, false, if◌then◌else◌, Option, Some, None, option_map, refl, sym, ◌∙◌, ap, rules}
+use Rattle.std.proofs.Common.{◌≡◌, ◌&&◌, List, [], ◌∷◌, Bool, true, false, if◌then◌else◌, Option, Some, None, option_map, refl, sym, ◌∙◌, ap, rules}
 use Rattle.std.proofs.lemmas.Slice.Eq.{bytes_eq-Decides}
 use Rattle.std.specs.Cmp.{first_so, second_so, unsigned_Decides, booleans_Decides}
 use Rattle.std.specs.Bool.{beq}
@@ -19,15 +19,15 @@ use Rattle.snap_tree.specs.Spots.{Spot, spot}
 use Rattle.snap_tree.specs.Trees.{Trees}
 use Rattle.acc_tree.specs.declared.above.Above.{Above}
 use Rattle.acc_tree.specs.declared.above.TableAbove.{TableAbove}
-use Rattle.acc_tree.specs.Frames.{frame, under, above_of, is_table, table_at}
+use Rattle.acc_tree.specs.Frames.{frame, under, above_of, is_table}
 use Rattle.acc_tree.specs.Sights.{Sight, sight_of, summed}
 use Rattle.acc_tree.specs.Tags.{space_in, tag_in, html_tag}
 use Rattle.keys.specs.Keys.{frame_key, own_key, own, text_in, root_numbers, frame_at}
-use Rattle.keys.specs.Same.{same_node, same_frame, same_own, same}
+use Rattle.keys.specs.Same.{same_node, same_frame, same_own}
 use Rattle.keys.specs.Classes.{table_in}
-use Rattle.keys.specs.Standing.{spot_with, Stand}
+use Rattle.keys.specs.Standing.{spot_with}
 use Rattle.keys.proofs.Agreeing.{spot_sight, no_sight}
-use Rattle.keys.proofs.Stands.{spot_number, stand_below}
+use Rattle.keys.proofs.Stands.{spot_number}
 use Rattle.keys.proofs.Tests.{same_tells, agree}
 use Rattle.page_changes.specs.Here.{frame_here, own_here, kids_here}
 use Rattle.page_changes.specs.Beside.{same_table, same_above, AreTwins}

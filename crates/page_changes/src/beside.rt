@@ -84,6 +84,7 @@ fn framed_by<'a>(
 }
 
 // What is above a node, which is found by climbing.
+#[inline(never)]
 fn above_at(page: &Tree, n: NodeId) -> Above<'_>
     ensures { (s : Sight) → sight_of (seen page.now.trees) n ≡ Some s → result ≡ s.above }
 {
@@ -94,6 +95,7 @@ fn above_at(page: &Tree, n: NodeId) -> Above<'_>
 }
 
 /// What is above the children of a node of the old page, under what is known to be above it.
+#[inline(never)]
 pub(crate) fn under_old<'a>(old: &'a Tree, pair: Option<&Pair<'a>>, row: &'a Row) -> Above<'a>
     ensures { (kids : Trees) (ups : List Row) (other : Above) → spot (seen old.now.trees) row.now.id ≡ Some (spot_with (seen_row row.now) kids ups)
         → IsPair (option_copied pair.entry) (above_of ups) other → result ≡ above_of (seen_row row.now ∷ ups) }
@@ -105,6 +107,7 @@ pub(crate) fn under_old<'a>(old: &'a Tree, pair: Option<&Pair<'a>>, row: &'a Row
 }
 
 /// Of a node of the old page, under what is known to be above it, and of the other one's row under what is above that.
+#[inline(never)]
 pub(crate) fn framed_apart<'a>(
     old: &'a Tree,
     pair: Option<&Pair<'a>>,
@@ -124,6 +127,7 @@ pub(crate) fn framed_apart<'a>(
 
 /// Whether a node has an equal row on the other page, where it stands under what is known to be above it, and what is
 /// above both is the same. Then its frame is the same, and what is above its children.
+#[inline(always)]
 pub(crate) fn is_alike(pair: Option<&Pair<'_>>, row: &Row, other: &Row, own: bool) -> bool
     ensures { (old new : Trees) (ups others : List Row) (kids below : Trees)
         → AreTwins old new ups others (seen_row row.now) (seen_row other.now) kids below
@@ -137,6 +141,7 @@ pub(crate) fn is_alike(pair: Option<&Pair<'_>>, row: &Row, other: &Row, own: boo
 }
 
 /// Of a node that stands on the other page under what is known to be above it there.
+#[inline(never)]
 pub(crate) fn framed_under<'a>(
     old: &'a Tree,
     pair: Option<&Pair<'a>>,

@@ -57,6 +57,7 @@ fn flags_at(pages: &Pages<'_>, common: Common, marks: Marks, references: bool) -
     }
 }
 
+#[inline(never)]
 fn all_flags(
     alloc: Global,
     pages: &Pages<'_>,

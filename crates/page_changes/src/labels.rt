@@ -16,6 +16,7 @@ use std::collections::BTreeMap;
 pub(crate) type Labels = BTreeMap<String, Vec<NodeId>>;
 
 /// Whether the node is an HTML element of this tag.
+#[inline(always)]
 pub(crate) fn is_html(row: &Row, tag: &str) -> bool
     ensures { result ≡ is_html tag.now (seen_row row.now) }
 {
@@ -45,6 +46,7 @@ fn is_label(row: &Row) -> bool
 }
 
 // The id that a label names; None for another row, and for a label that names none.
+#[inline(always)]
 #[tactic(auto, unfolding(snap_tree::specs::Labels::for_of, acc_tree::specs::Attributes::attribute_name))]
 fn for_of(row: &Row) -> Option<&Text>
     ensures { option_copied result ≡ for_of (seen_row row.now) }
@@ -56,6 +58,7 @@ fn for_of(row: &Row) -> Option<&Text>
 }
 
 /// The nearest label above the children of a row.
+#[inline(always)]
 pub(crate) fn label_under(label: Option<NodeId>, row: &Row) -> Option<NodeId>
     ensures { result ≡ label_under label (seen_row row.now) }
 {

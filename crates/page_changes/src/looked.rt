@@ -47,6 +47,7 @@ fn is_aria(name: &str) -> bool
 }
 
 /// Whether the name of some attribute begins `aria-`.
+#[inline(always)]
 pub(crate) fn has_aria(attrs: &[Attr]) -> bool
     ensures { result ≡ list_any (λ a. is_aria a.name) attrs.now }
 {
@@ -84,6 +85,7 @@ fn next_looked(attrs: &[Attr]) -> Option<(&Attr, &[Attr])>
     None
 }
 
+#[inline(always)]
 fn same_attr(a: &Attr, b: &Attr) -> bool
     ensures { result ≡ same_attr a.now b.now }
 {
@@ -91,6 +93,7 @@ fn same_attr(a: &Attr, b: &Attr) -> bool
 }
 
 // Whether two lists have the same attributes that are looked at, each found by its name.
+#[inline(never)]
 fn same_looked(a: &[Attr], b: &[Attr]) -> bool
     ensures { result ≡ pointwise same_attr (filter (λ a. is_looked_at a.name) a.now) (filter (λ a. is_looked_at a.name) b.now) }
 {
@@ -113,6 +116,7 @@ fn same_looked(a: &[Attr], b: &[Attr]) -> bool
 
 /// Whether two lists have the same attributes that are looked at, in the same order. As long as two attributes are the
 /// same, it doesn't matter whether they are looked at.
+#[inline(always)]
 pub(crate) fn same_attrs(a: &[Attr], b: &[Attr]) -> bool
     ensures { result ≡ pointwise same_attr (filter (λ a. is_looked_at a.name) a.now) (filter (λ a. is_looked_at a.name) b.now) }
 {

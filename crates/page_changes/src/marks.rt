@@ -44,6 +44,7 @@ pub(crate) struct PageMarks {
 }
 
 // The nearest table above the children of a row.
+#[inline(always)]
 fn table_under(table: Option<NodeId>, row: &Row) -> Option<NodeId>
     ensures { (above : Above) → table ≡ table_in above → result ≡ table_in (under above (seen_row row.now)) }
 {
@@ -65,6 +66,7 @@ fn put(list: &mut Vec<Marks>, place: usize, marks: Marks)
 // Adds the marks of the nodes of some trees; beside them, trees of the new page stand ahead. What is above both is
 // handed down, as are the nearest table and whether the frames above are the same; whether everything of the trees is
 // the same is handed up.
+#[cycle(adding)]
 fn add_marks<'a>(
     list: &mut Vec<Marks>,
     old: &'a Tree,
@@ -108,7 +110,7 @@ fn add_marks<'a>(
             tree: kids,
         };
         list.push(marks)?;
-        let inner = add_marks(
+        let inner = add_below(
             list,
             old,
             new,
@@ -125,6 +127,35 @@ fn add_marks<'a>(
         next = after;
     }
     Ok(all)
+}
+
+// The same of the trees below a node, of which a leaf has none.
+#[cycle(adding)]
+#[inline(always)]
+fn add_below<'a>(
+    list: &mut Vec<Marks>,
+    old: &'a Tree,
+    new: &'a Tree,
+    pair: Option<&Pair<'a>>,
+    table: Option<NodeId>,
+    above_same: bool,
+    trees: Branches<'a>,
+    ahead: Option<Branches<'a>>,
+) -> Result<bool, OutOfMemory>
+    ensures longer { OnOk result (vec_len list.old ≤ vec_len list.new) }
+    ensures list { (ups others : List Row)
+        → AreBeside (seen old.now.trees) (seen new.now.trees) (option_copied pair.entry) ups others (seen trees.entry) (ahead_of ahead.entry)
+        → table ≡ table_in (above_of ups)
+        → OnOk result (list.new.items ≡ list.old.items ++ marks_here (seen new.now.trees) (above_of ups) above_same (seen trees.entry)) }
+    ensures all { (ups others : List Row)
+        → AreBeside (seen old.now.trees) (seen new.now.trees) (option_copied pair.entry) ups others (seen trees.entry) (ahead_of ahead.entry)
+        → table ≡ table_in (above_of ups)
+        → IfOk result (λ all. all ≡ tree_here (seen new.now.trees) (above_of ups) (seen trees.entry)) }
+{
+    if trees.is_empty() {
+        return Ok(true);
+    }
+    add_marks(list, old, new, pair, table, above_same, trees, ahead)
 }
 
 /// A page is well. It does nothing: the clause is what it is for.

@@ -32,6 +32,7 @@ pub(crate) struct Met<'a> {
 }
 
 // The first of some trees with this number at its root, among so many.
+#[inline(never)]
 fn near<'a>(ahead: &Branches<'a>, n: NodeId, steps: usize) -> Option<Branch<'a>>
     ensures { IfSome result (λ branch. Leads (seen ahead.now) n branch) }
 {
@@ -46,25 +47,28 @@ fn near<'a>(ahead: &Branches<'a>, n: NodeId, steps: usize) -> Option<Branch<'a>>
     }
 }
 
-// The same among the most that are looked at. Mostly it is the very first, which takes no recursion.
-fn first_or_near<'a>(ahead: &Branches<'a>, n: NodeId) -> Option<Branch<'a>>
-    ensures { IfSome result (λ branch. Leads (seen ahead.now) n branch) }
+// The very first of some trees, where it has this number at its root. Mostly it has.
+#[inline(always)]
+fn heading<'a>(ahead: Option<&Branches<'a>>, n: NodeId) -> Option<Branch<'a>>
+    ensures { IfSome result (λ branch. Leads (ahead_of (option_copied ahead.entry)) n branch) }
 {
-    let branch = ahead.first()?;
+    let branch = ahead?.first()?;
     if branch.row.id == n {
         Some(branch)
     } else {
-        near(&branch.after, n, NEAR - 1)
+        None
     }
 }
 
+// The first with this number among the most that are looked at.
 fn leading<'a>(ahead: Option<&Branches<'a>>, n: NodeId) -> Option<Branch<'a>>
     ensures { IfSome result (λ branch. Leads (ahead_of (option_copied ahead.entry)) n branch) }
 {
-    first_or_near(ahead?, n)
+    near(ahead?, n, NEAR)
 }
 
 // A node that stands ahead on the other page.
+#[inline(always)]
 fn met_ahead<'a>(
     old: &'a Tree,
     pair: Option<&Pair<'a>>,
@@ -102,6 +106,7 @@ fn met_ahead<'a>(
 }
 
 // A node that stands elsewhere on the other page.
+#[inline(never)]
 fn met_elsewhere<'a>(
     old: &'a Tree,
     pair: Option<&Pair<'a>>,
@@ -129,6 +134,7 @@ fn met_elsewhere<'a>(
 }
 
 // A node that the other page doesn't hold.
+#[inline(never)]
 fn unmet<'a>(
     old: &'a Tree,
     pair: Option<&Pair<'a>>,
@@ -154,9 +160,9 @@ fn unmet<'a>(
     }
 }
 
-/// A node of the old page, under what is above both; some trees of the new one stand ahead. It is looked for among
-/// the next of these, and else by its number.
-pub(crate) fn meet<'a>(
+// A node that isn't the very first ahead. It is looked for among the next, and else by its number.
+#[inline(never)]
+fn met_behind<'a>(
     old: &'a Tree,
     new: &'a Tree,
     pair: Option<&Pair<'a>>,
@@ -176,4 +182,26 @@ pub(crate) fn meet<'a>(
         Some(sight) => met_elsewhere(old, pair, row, kids, sight, ahead),
         None => unmet(old, pair, row, ahead),
     }
+}
+
+/// A node of the old page, under what is above both; some trees of the new one stand ahead. It is looked for among
+/// the next of these, and else by its number.
+#[inline(always)]
+pub(crate) fn meet<'a>(
+    old: &'a Tree,
+    new: &'a Tree,
+    pair: Option<&Pair<'a>>,
+    row: &'a Row,
+    kids: &Branches<'a>,
+    ahead: Option<Branches<'a>>,
+) -> Met<'a>
+    ensures { (ups others : List Row) → spot (seen old.now.trees) row.now.id ≡ Some (spot_with (seen_row row.now) (seen kids.now) ups)
+        → Stand (seen new.now.trees) [] (seen new.now.trees) → Stand (seen new.now.trees) others (ahead_of ahead.entry)
+        → IsPair (option_copied pair.entry) (above_of ups) (above_of others)
+        → Meets (seen new.now.trees) ups others (seen_row row.now) (seen kids.now) result }
+{
+    if let Some(branch) = heading(ahead.as_ref(), row.id) {
+        return met_ahead(old, pair, row, kids, branch);
+    }
+    met_behind(old, new, pair, row, kids, ahead)
 }

@@ -13,7 +13,7 @@ ghost use Rattle.keys.specs.Same.{same_node, same, all_same};
 ghost use Rattle.keys.specs.References.{reference_keys};
 ghost use Rattle.page_changes.specs.References.{AreCompared, IsMemory, Remembers, nodes_same, word_same, words_same, named_same, id_same, labels_same, row_same, rows_same, below_same};
 
-use crate::by_number::marks_at;
+use crate::by_number::agreed_at;
 use crate::labels::{id_of, label_under, labels_naming};
 use crate::looked::has_aria;
 use crate::marks::well;
@@ -59,14 +59,15 @@ fn same_number(a: Option<NodeId>, b: Option<NodeId>) -> bool
 }
 
 // Whether these nodes agree by themselves and throughout their subtrees.
+#[inline(never)]
 fn nodes_same(pages: &Pages<'_>, nodes: &[NodeId]) -> bool
     requires { AreCompared pages.now }
     ensures { result ≡ nodes_same (seen pages.now.old.now.trees) (seen pages.now.new.now.trees) nodes.now }
 {
     let mut rest = nodes;
     while let Some((node, later)) = rest.split_first() {
-        let marks = marks_at(pages.old, pages.new, pages.by_number, *node);
-        if !(marks.itself & marks.tree) {
+        let agreed = agreed_at(pages.old, pages.new, pages.by_number, *node);
+        if !(agreed.itself & agreed.tree) {
             return false;
         }
         rest = later;
@@ -123,6 +124,7 @@ fn attr_same(pages: &Pages<'_>, row: &Row, name: AriaAttr) -> bool
 }
 
 // Whether all that the words of the five attributes find is the same.
+#[inline(never)]
 #[tactic(auto, using(crate::proofs::Keyed::five_attrs))]
 fn attrs_same(pages: &Pages<'_>, row: &Row) -> bool
     requires { AreCompared pages.now }
@@ -138,6 +140,7 @@ fn attrs_same(pages: &Pages<'_>, row: &Row) -> bool
 
 // Whether all that the words of a row's references find is the same. A row has none unless the name of one of its
 // attributes begins `aria-`.
+#[inline(always)]
 #[tactic(auto, using(crate::proofs::Unreferring::no_references))]
 fn references_same(pages: &Pages<'_>, row: &Row) -> bool
     requires { AreCompared pages.now }
@@ -177,6 +180,7 @@ fn remember(memory: &mut Memory, id: String, same: bool) -> Result<(), OutOfMemo
 }
 
 // The same, found once for each id.
+#[inline(never)]
 fn named_again(
     alloc: Global,
     pages: &Pages<'_>,
@@ -196,6 +200,7 @@ fn named_again(
     Ok(same)
 }
 
+#[inline(never)]
 fn id_same(
     alloc: Global,
     pages: &Pages<'_>,
@@ -217,6 +222,7 @@ fn id_same(
 }
 
 // Nothing labels a row that has no id and stands below no label.
+#[inline(always)]
 #[tactic(auto, using(crate::proofs::Unreferring::no_labels))]
 fn is_unlabelled(label: Option<NodeId>, row: &Row) -> bool
     ensures { result ≡ true → (old new : Trees) → true ≡ labels_same old new label (seen_row row.now) }
@@ -227,6 +233,7 @@ fn is_unlabelled(label: Option<NodeId>, row: &Row) -> bool
     }
 }
 
+#[inline(always)]
 fn labels_same(
     alloc: Global,
     pages: &Pages<'_>,
@@ -250,6 +257,7 @@ fn labels_same(
     Ok(named & around)
 }
 
+#[inline(always)]
 fn row_same(
     alloc: Global,
     pages: &Pages<'_>,
@@ -276,6 +284,7 @@ fn put(list: &mut Vec<bool>, place: usize, same: bool)
 
 // Adds, of each node of some trees, whether the references of it and of all below it agree. The nearest label is
 // handed down; whether those of all trees agree is handed up.
+#[cycle(adding)]
 fn add_below(
     alloc: Global,
     list: &mut Vec<bool>,
@@ -296,7 +305,7 @@ fn add_below(
         let place = list.len();
         let here = row_same(alloc, pages, memory, label, branch.row)?;
         list.push(here)?;
-        let inner = add_below(
+        let inner = add_kids(
             alloc,
             list,
             pages,
@@ -309,6 +318,29 @@ fn add_below(
         rest = branch.after;
     }
     Ok(all)
+}
+
+// The same of the trees below a node, of which a leaf has none.
+#[cycle(adding)]
+#[inline(always)]
+fn add_kids(
+    alloc: Global,
+    list: &mut Vec<bool>,
+    pages: &Pages<'_>,
+    memory: &mut Memory,
+    label: Option<NodeId>,
+    trees: Branches<'_>,
+) -> Result<bool, OutOfMemory>
+    requires compared { AreCompared pages.now }
+    requires memory { IsMemory (seen pages.now.old.now.trees) (seen pages.now.new.now.trees) memory.old }
+    ensures list { OnOk result (list.new.items ≡ list.old.items ++ below_same (seen pages.now.old.now.trees) (seen pages.now.new.now.trees) label (seen trees.entry)) }
+    ensures all { IfOk result (λ all. all ≡ rows_same (seen pages.now.old.now.trees) (seen pages.now.new.now.trees) label (seen trees.entry)) }
+    ensures memory { OnOk result (IsMemory (seen pages.now.old.now.trees) (seen pages.now.new.now.trees) memory.new) }
+{
+    if trees.is_empty() {
+        return Ok(true);
+    }
+    add_below(alloc, list, pages, memory, label, trees)
 }
 
 /// Of each node of the old page, whether the references of it and of all below it agree.

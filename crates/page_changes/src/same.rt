@@ -19,6 +19,7 @@ use acc_tree::{Above, Attribute, attr, role_at};
 use aria_tables::{AriaAttr, Role};
 use snap_tree::{Body, Branches, Facts, Row, Text};
 
+#[inline(always)]
 fn same_text(a: Option<&Text>, b: Option<&Text>) -> bool
     ensures { result ≡ option_eq bytes_eq (option_copied a.entry) (option_copied b.entry) }
 {
@@ -35,6 +36,7 @@ fn same_value(a: &Row, b: &Row, name: Attribute) -> bool
     same_text(attr(a, name), attr(b, name))
 }
 
+#[inline(always)]
 fn same_space(a: &Row, b: &Row) -> bool
     ensures { result ≡ option_eq (sameb space.the_type) (space_in (seen_row a.now).body) (space_in (seen_row b.now).body) }
 {
@@ -45,6 +47,7 @@ fn same_space(a: &Row, b: &Row) -> bool
     }
 }
 
+#[inline(always)]
 fn same_tag(a: &Row, b: &Row) -> bool
     ensures { result ≡ option_eq bytes_eq (tag_in (seen_row a.now).body) (tag_in (seen_row b.now).body) }
 {
@@ -57,6 +60,7 @@ fn same_tag(a: &Row, b: &Row) -> bool
     }
 }
 
+#[inline(always)]
 fn same_words(a: &Row, b: &Row) -> bool
     ensures { result ≡ option_eq bytes_eq (text_in a.now.body) (text_in b.now.body) }
 {
@@ -67,6 +71,7 @@ fn same_words(a: &Row, b: &Row) -> bool
     }
 }
 
+#[inline(always)]
 fn same_facts(a: Facts, b: Facts) -> bool
     ensures { result ≡ same_facts a b }
 {
@@ -75,6 +80,7 @@ fn same_facts(a: Facts, b: Facts) -> bool
 }
 
 /// Whether two rows have one parent, name space and tag.
+#[inline(always)]
 pub(crate) fn same_shape(a: &Row, b: &Row) -> bool
     ensures { result ≡ (option_eq same_node a.now.parent b.now.parent && (option_eq (sameb space.the_type) (space_in (seen_row a.now).body) (space_in (seen_row b.now).body) && option_eq bytes_eq (tag_in (seen_row a.now).body) (tag_in (seen_row b.now).body))) }
 {
@@ -107,6 +113,7 @@ fn same_roles(above: &Above<'_>, row: &Row, other_above: &Above<'_>, other: &Row
 }
 
 /// Whether two rows have one frame, each under what is above it.
+#[inline(never)]
 pub(crate) fn same_frames(
     above: &Above<'_>,
     row: &Row,
@@ -119,6 +126,7 @@ pub(crate) fn same_frames(
 }
 
 /// Whether two rows have the same of their own.
+#[inline(always)]
 pub(crate) fn same_owns(a: &Row, b: &Row) -> bool
     ensures { result ≡ same_own (own (seen_row a.now)) (own (seen_row b.now)) }
 {
@@ -146,6 +154,7 @@ fn same_rest(a: Branches<'_>, b: Branches<'_>) -> bool
 }
 
 /// Whether trees have the same roots.
+#[inline(always)]
 pub(crate) fn same_roots(a: &Branches<'_>, b: &Branches<'_>) -> bool
     ensures { result ≡ pointwise same_node (root_numbers (seen a.now)) (root_numbers (seen b.now)) }
 {

@@ -9,7 +9,7 @@ ghost use Rattle.keys.specs.Nodes.{tree_keys};
 ghost use Rattle.keys.specs.Classes.{titles, metas};
 ghost use Rattle.page_changes.specs.References.{AreCompared};
 
-use crate::by_number::marks_at;
+use crate::by_number::agreed_at;
 use crate::pages::Pages;
 use crate::references::same_numbers;
 use snap_tree::{List, NodeId, OutOfMemory, Text, Tree};
@@ -30,7 +30,7 @@ fn trees_same(pages: &Pages<'_>, nodes: &[NodeId]) -> bool
 {
     let mut rest = nodes;
     while let Some((node, later)) = rest.split_first() {
-        if !marks_at(pages.old, pages.new, pages.by_number, *node).tree {
+        if !agreed_at(pages.old, pages.new, pages.by_number, *node).tree {
             return false;
         }
         rest = later;
@@ -45,7 +45,7 @@ fn owns_same(pages: &Pages<'_>, nodes: &[NodeId]) -> bool
 {
     let mut rest = nodes;
     while let Some((node, later)) = rest.split_first() {
-        if !marks_at(pages.old, pages.new, pages.by_number, *node).own {
+        if !agreed_at(pages.old, pages.new, pages.by_number, *node).own {
             return false;
         }
         rest = later;
@@ -59,7 +59,7 @@ pub(crate) fn table_same(pages: &Pages<'_>, table: Option<NodeId>) -> bool
     ensures { result ≡ all_same (seen pages.now.old.now.trees) (seen pages.now.new.now.trees) (option_map_or (tree_keys (seen pages.now.old.now.trees)) table []) }
 {
     match table {
-        Some(table) => marks_at(pages.old, pages.new, pages.by_number, table).tree,
+        Some(table) => agreed_at(pages.old, pages.new, pages.by_number, table).tree,
         None => true,
     }
 }

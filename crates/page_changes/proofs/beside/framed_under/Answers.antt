@@ -1,4 +1,4 @@
-use Rattle.std.proofs.Common.{◌≡◌, ◌∷◌, sym, ◌∙◌, ap, subst}
+use Rattle.std.proofs.Common.{◌≡◌, ◌∷◌, ◌∙◌, subst}
 use Rattle.std.specs.Option.{option_copied}
 use Rattle.acc_tree.specs.Frames.{frame, under, above_of}
 use Rattle.acc_tree.specs.Seen.{seen_row, seen}

@@ -1,14 +1,17 @@
-use Rattle.std.proofs.Common.{◌≡◌, ◌++◌, ◌&&◌, ◌≤◌}
+use Rattle.std.proofs.Common.{◌≡◌, ◌+◌, ◌*◌, ◌++◌, ◌&&◌, ◌≤◌}
 use Rattle.snap_tree.specs.Trees.{count}
 use Rattle.acc_tree.specs.Seen.{seen}
 use Rattle.page_changes.specs.References.{IsMemory, rows_same, below_same}
-use Rattle.page_changes.proofs.references.+add_below.Given as goal
+use Rattle.page_changes.proofs.references.+adding.Given as goal
 
 abbrev pub decreases-add_below : goal.decreases-add_below
-decreases-add_below l = count l.trees
+decreases-add_below l = 2 * count l.trees
 
-abbrev pub invariant-loop-branch : goal.invariant-loop-branch
-invariant-loop-branch l =
+abbrev pub decreases-add_kids : goal.decreases-add_kids
+decreases-add_kids l = 2 * count l.trees + 1
+
+abbrev pub invariant-add_below-loop-branch : goal.invariant-add_below-loop-branch
+invariant-add_below-loop-branch l =
     let old = seen l.pages.old.now.trees in
     let new = seen l.pages.new.now.trees in
     record {
@@ -18,5 +21,5 @@ invariant-loop-branch l =
       memory : IsMemory old new l.memory;
     }
 
-abbrev pub decreases-loop-branch : goal.decreases-loop-branch
-decreases-loop-branch l = count l.rest
+abbrev pub decreases-add_below-loop-branch : goal.decreases-add_below-loop-branch
+decreases-add_below-loop-branch l = count l.rest

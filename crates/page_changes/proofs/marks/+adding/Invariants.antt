@@ -1,4 +1,4 @@
-use Rattle.std.proofs.Common.{◌≡◌, ◌++◌, ◌&&◌, ◌≤◌, List, vec_len}
+use Rattle.std.proofs.Common.{◌≡◌, ◌+◌, ◌*◌, ◌++◌, ◌&&◌, ◌≤◌, List, vec_len}
 use Rattle.std.specs.Option.{option_copied}
 use Rattle.snap_tree.specs.declared.row.Row.{Row}
 use Rattle.snap_tree.specs.Trees.{count}
@@ -7,13 +7,16 @@ use Rattle.acc_tree.specs.Seen.{seen}
 use Rattle.keys.specs.Classes.{table_in}
 use Rattle.page_changes.specs.Beside.{AreBeside, ahead_of}
 use Rattle.page_changes.specs.Here.{tree_here, marks_here}
-use Rattle.page_changes.proofs.marks.+add_marks.Given as goal
+use Rattle.page_changes.proofs.marks.+adding.Given as goal
 
 abbrev pub decreases-add_marks : goal.decreases-add_marks
-decreases-add_marks l = count l.trees
+decreases-add_marks l = 2 * count l.trees
 
-abbrev pub invariant-loop-branch : goal.invariant-loop-branch
-invariant-loop-branch l =
+abbrev pub decreases-add_below : goal.decreases-add_below
+decreases-add_below l = 2 * count l.trees + 1
+
+abbrev pub invariant-add_marks-loop-branch : goal.invariant-add_marks-loop-branch
+invariant-add_marks-loop-branch l =
     let old = seen l.old.trees in
     let new = seen l.new.trees in
     record {
@@ -27,5 +30,5 @@ invariant-loop-branch l =
           → (l.all && tree_here new (above_of ups) (seen l.rest)) ≡ tree_here new (above_of ups) (seen l.fn.trees);
     }
 
-abbrev pub decreases-loop-branch : goal.decreases-loop-branch
-decreases-loop-branch l = count l.rest
+abbrev pub decreases-add_marks-loop-branch : goal.decreases-add_marks-loop-branch
+decreases-add_marks-loop-branch l = count l.rest

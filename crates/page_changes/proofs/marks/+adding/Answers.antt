@@ -1,19 +1,17 @@
-use Rattle.std.proofs.Common.{◌≡◌, ◌&&◌, not, List, ◌++◌, ◌∷◌, ◌∙◌, sym, ap, subst, arith}
+use Rattle.std.proofs.Common.{◌≡◌, ◌&&◌, not, ◌++◌, ◌∷◌, ◌∙◌, sym, ap, subst, append-nil, arith}
 use Rattle.std.proofs.lemmas.Grind.{common_steps}
 use Rattle.std.specs.Option.{is_some, option_copied}
-use Rattle.snap_tree.specs.declared.row.Row.{Row}
-use Rattle.snap_tree.specs.Trees.{tree, count}
+use Rattle.snap_tree.specs.Trees.{empty, tree, count}
 use Rattle.acc_tree.specs.Seen.{seen_row, seen}
 use Rattle.acc_tree.specs.Frames.{above_of}
-use Rattle.keys.specs.Classes.{table_in}
 use Rattle.keys.specs.Standing.{Stand}
 use Rattle.page_changes.specs.Beside.{IsPair, AreBeside, ahead_of}
-use Rattle.page_changes.specs.Here.{frame_here, own_here, kids_here, tree_here, marks_at, marks_here}
-use Rattle.page_changes.proofs.Stepping.{filled, regroup}
-use Rattle.page_changes.proofs.marks.+add_marks.Goals as goal
+use Rattle.page_changes.specs.Here.{frame_here, tree_here, marks_at, marks_here}
+use Rattle.page_changes.proofs.Stepping.{leaf, filled, regroup}
+use Rattle.page_changes.proofs.marks.+adding.Goals as goal
 
-pub loop-branch-preserved : goal.loop-branch-preserved
-loop-branch-preserved t c =
+pub add_marks-loop-branch-preserved : goal.add_marks-loop-branch-preserved
+add_marks-loop-branch-preserved t c =
     let old = seen c.args.old.now.trees in
     let new = seen c.args.new.now.trees in
     let pair = option_copied c.args.pair in
@@ -43,12 +41,12 @@ loop-branch-preserved t c =
           record { whole = now.whole; here = stands.1.0; there = m.below; above = subst (λ o. IsPair o (above_of (row ∷ ups)) (above_of m.beneath)) (sym c.as_ref.ensures.value) m.pair } in
           let under = above_of (row ∷ ups) in
           let t = c.table_under.ensures above h in
-          let added : c.add_marks.new.list.items ≡ c.push.new.self.items ++ marks_here new under (frame_here new above row && same) kids =
+          let added : c.add_below.new.list.items ≡ c.push.new.self.items ++ marks_here new under (frame_here new above row && same) kids =
           c.in_ok-inner.ensures.list (row ∷ ups) m.beneath inside t ∙ (λ i. c.push.new.self.items ++ marks_here new under (m.frame i && same) kids) in
           let all : c.in_ok-inner.inner ≡ tree_here new under kids = c.in_ok-inner.ensures.all (row ∷ ups) m.beneath inside t in
           let last : record { node = c.in-Some.branch.row.now.id; root = c.is_none.result; meta = c.is_html.result; table = c.args.table; itself = met.frame && (met.own && same); own = met.own; tree = met.frame && (met.own && (met.kids && c.in_ok-inner.inner)) } ≡ marks_at new above same row kids =
           λ i. record { node = row.id; root = root i; meta = c.is_html.ensures i; table = h i; itself = m.frame i && (m.own i && same); own = m.own i; tree = m.frame i && (m.own i && (m.roots i && all i)) } in
-          let step = filled c.loop-branch.list.items (marks_here new under (frame_here new above row && same) kids) (marks_here new above same after) c.push.new.self.items c.add_marks.new.list.items c.put.new.list.items _ _ c.len-place.result
+          let step = filled c.loop-branch.list.items (marks_here new under (frame_here new above row && same) kids) (marks_here new above same after) c.push.new.self.items c.add_below.new.list.items c.put.new.list.items _ _ c.len-place.result
           (omega arith) c.in_ok-push.ensures.items added c.put.ensures.items in
           step ∙ ap (λ x. c.loop-branch.list.items ++ (x ∷ marks_here new under (frame_here new above row && same) kids ++ marks_here new above same after)) last
           ∙ ap (λ t. c.loop-branch.list.items ++ marks_here new above same t) (sym rest) ∙ c.loop-branch.invariant.list ups others b h;
@@ -65,3 +63,16 @@ loop-branch-preserved t c =
           ∙ (λ i. c.loop-branch.all && (m.frame i && (m.own i && (m.roots i && (all i && tree_here new above after)))))
           ∙ ap (λ t. c.loop-branch.all && tree_here new above t) (sym rest) ∙ c.loop-branch.invariant.all ups others b h;
     }
+
+pub add_below-returns-then-is_empty-clause-list : goal.add_below-returns-then-is_empty-clause-list
+add_below-returns-then-is_empty-clause-list t c =
+    λ ups others b h.
+    let none : seen c.args.trees ≡ empty = leaf c.args.trees (sym c.is_empty.ensures ∙ c.if-is_empty.true) in
+    sym (append-nil c.args.list.now.items)
+    ∙ ap (λ t. c.args.list.now.items ++ marks_here (seen c.args.new.now.trees) (above_of ups) c.args.above_same t) (sym none)
+
+pub add_below-returns-then-is_empty-clause-all : goal.add_below-returns-then-is_empty-clause-all
+add_below-returns-then-is_empty-clause-all t c =
+    λ ups others b h.
+    let none : seen c.args.trees ≡ empty = leaf c.args.trees (sym c.is_empty.ensures ∙ c.if-is_empty.true) in
+    ap (tree_here (seen c.args.new.now.trees) (above_of ups)) (sym none)
