@@ -1,4 +1,4 @@
-/** The rules, their criteria and what their reasons mean: docs/rules.json. */
+/** The rules, their criteria and what their reasons mean: silvervole/data/rules.json. */
 
 export const OUTCOMES = ['failed', 'cantTell', 'passed'];
 export const HEADINGS = { failed: 'Failed', cantTell: 'For a person to judge', passed: 'Passed' };

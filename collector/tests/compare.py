@@ -10,7 +10,7 @@ import tempfile
 import xml.etree.ElementTree as ET
 from typing import NamedTuple
 
-from collecting.ends import End
+from silvervole.collect.ends import End
 
 from .support import COLLECTOR, DESK, ROOT, SITE, expect, refused, run, same
 
@@ -143,7 +143,7 @@ def test_compare_numbers() -> None:
         lines = out.decode("utf-8").splitlines()
         same("places without snapshots", (code, changed(out), err), (NEW_FAILURE, ["new failed node 5", "stays failed node 3"], ""))
         same("the last line", lines[-1], "new failed 1, new to judge 0, mended 0, stay 1")
-        rule = next(rule for rule in json.loads((ROOT / "docs" / "rules.json").read_text(encoding="utf-8"))["rules"] if rule["id"] == RULE)
+        rule = next(rule for rule in json.loads((ROOT / "silvervole" / "data" / "rules.json").read_text(encoding="utf-8"))["rules"] if rule["id"] == RULE)
         advice = next(one for one in rule["reasons"] if one["reason"] == "no-name")
         same("what is said of a new finding", lines[2:4], [advice["means"], advice["mends"]])
 

@@ -4,7 +4,7 @@ from __future__ import annotations
 import json
 from typing import Any
 
-from collecting.ends import End
+from silvervole.collect.ends import End
 
 from .support import SOURCE, collect_here, expect, open_file, page, refused_here, run, same, well_formed
 

@@ -6,8 +6,8 @@ import os
 import pathlib
 import tempfile
 
-from collecting.ends import End
-from collecting.places import name_of
+from silvervole.collect.ends import End
+from silvervole.collect.places import name_of
 
 from .server import HTML, Answer, html, serve
 from .support import expect, page, run, same, well_formed

@@ -6,7 +6,7 @@ import os
 import tempfile
 from typing import Any
 
-from collecting.ends import End
+from silvervole.collect.ends import End
 
 from .support import collect_here, expect, page, refused, refused_here, same
 

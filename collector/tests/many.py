@@ -5,8 +5,8 @@ import os
 import pathlib
 import tempfile
 
-from collecting.ends import End
-from collecting.places import name_of
+from silvervole.collect.ends import End
+from silvervole.collect.places import name_of
 
 from .support import PAGES, SITE, expect, refused, run, same
 

@@ -9,8 +9,8 @@ import tempfile
 from dataclasses import dataclass, field
 from typing import Any
 
-from collecting.ends import End, Stop
-from viewing.outcomes import read_outcomes
+from silvervole.collect.ends import End, Stop
+from silvervole.view.outcomes import read_outcomes
 
 from .support import ROOT, VIEW, expect, refused, run, same
 from .view import accessible, axe, contrast, opened, self_audit
@@ -265,7 +265,7 @@ def test_outcome_texts() -> None:
 
 
 def test_unknown_outcomes() -> None:
-    """Rules that docs/rules.json doesn't know are shown by their ids, with what the reply says of them."""
+    """Rules that silvervole/data/rules.json doesn't know are shown by their ids, with what the reply says of them."""
     view = View(reply([row("zz9998", 3, "cantTell", "see-for-yourself", "x", "passed", "ann"), row("zz9999", 3, "failed", "never-heard-of", "y")],
                       ("yy8888",)))
     same("their headings", view.words("h3"), ["Rule zz9999 1 finding", "Rule zz9998 1 finding"])

@@ -7,11 +7,11 @@ import re
 import tempfile
 from typing import Any
 
-from collecting.ends import End
-from viewing.document import findings_document
-from viewing.page import read_page
-from viewing.paths import css_path
-from viewing.rules import read_rules
+from silvervole.collect.ends import End
+from silvervole.view.document import findings_document
+from silvervole.view.page import read_page
+from silvervole.view.paths import css_path
+from silvervole.view.rules import read_rules
 
 from .site import meant_defects
 from .support import COLLECTOR, PAGES, ROOT, SITE, VIEW, expect, open_file, page, refused, run, same, take_rows
@@ -34,7 +34,7 @@ def test_rules() -> None:
     """The data file has a word on all that the desk reports, and docs/findings.md is made from it."""
     table = read_rules()
     same("the number of rules", len(table.rules), 30)
-    expect("docs/findings.md is made from docs/rules.json", FINDINGS.read_text(encoding="utf-8") == findings_document(table))
+    expect("docs/findings.md is made from silvervole/data/rules.json", FINDINGS.read_text(encoding="utf-8") == findings_document(table))
     lines, _ = meant_defects()
     for line in sorted({line for page_lines in lines.values() for line in page_lines}):
         rule, _, _, outcome, reason = line.split()

@@ -9,7 +9,7 @@ import subprocess
 import time
 from typing import Any
 
-from collecting.taking import Wanted, take
+from silvervole.collect.taking import Wanted, take
 
 from .support import COLLECTOR, DESK, SOURCE, expect, form, open_file, page, same
 

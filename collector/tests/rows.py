@@ -5,8 +5,8 @@ import json
 import os
 from typing import Any
 
-from collecting.ends import End, Stop
-from collecting.taking import take
+from silvervole.collect.ends import End, Stop
+from silvervole.collect.taking import take
 
 from .letters import letters_by_name
 from .support import SOURCE, collect_here, expect, open_file, page, refused_here, same, take_rows, well_formed

@@ -4,10 +4,10 @@ from __future__ import annotations
 import json
 from typing import Any
 
-from collecting.ends import End
-from collecting.taking import Wanted, take
-from viewing.page import read_page, start_tag
-from viewing.paths import css_path
+from silvervole.collect.ends import End
+from silvervole.collect.taking import Wanted, take
+from silvervole.view.page import read_page, start_tag
+from silvervole.view.paths import css_path
 
 from .letters import letters_by_name, press_tab
 from .support import COLLECTOR, SOURCE, collect_here, expect, form, open_file, page, refused_here, run, same

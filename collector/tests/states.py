@@ -8,11 +8,11 @@ import pathlib
 import tempfile
 from typing import Any
 
-from collecting.ends import End, Stop
-from collecting.options import read_words
-from collecting.pages import Visit
-from collecting.places import place_of
-from collecting.states import read_steps
+from silvervole.collect.ends import End, Stop
+from silvervole.collect.options import read_words
+from silvervole.collect.pages import Visit
+from silvervole.collect.places import place_of
+from silvervole.collect.states import read_steps
 
 from .letters import letters_by_name
 from .server import Answer, serve

@@ -8,12 +8,12 @@ import tempfile
 from types import TracebackType
 from typing import Any
 
-import check_form as form
-from collecting.ends import End, Stop
-from collecting.options import read_words
-from collecting.pages import Collected, collect_in
-from collecting.places import place_of
-from collecting.taking import SNAPSHOT, take
+from silvervole import check_form as form
+from silvervole.collect.ends import End, Stop
+from silvervole.collect.options import read_words
+from silvervole.collect.pages import Collected, collect_in
+from silvervole.collect.places import place_of
+from silvervole.collect.taking import SNAPSHOT, take
 
 HERE = pathlib.Path(__file__).resolve().parent
 COLLECTOR = HERE.parent

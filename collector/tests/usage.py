@@ -10,7 +10,7 @@ import tempfile
 import time
 from typing import Any
 
-from collecting.ends import End
+from silvervole.collect.ends import End
 
 from .support import COLLECT, COLLECTOR, PAGES, SITE, expect, refused, refused_here, run, same
 

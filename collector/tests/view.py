@@ -12,7 +12,7 @@ import subprocess
 import tempfile
 from typing import Any
 
-from collecting.taking import Wanted, take
+from silvervole.collect.taking import Wanted, take
 
 from .support import DESK, DOCS, PAGES, ROOT, SITE, VIEW, collect_here, expect, open_file, page, run, same, well_formed
 

@@ -6,7 +6,7 @@ import pty
 import subprocess
 from typing import Any
 
-from collecting.ends import End
+from silvervole.collect.ends import End
 
 from .support import COLLECT, collect_here, expect, refused, refused_here, run
 

@@ -10,9 +10,9 @@ import tempfile
 import time
 from typing import Any
 
-from collecting.browser import start_browser
+from silvervole.collect.browser import start_browser
 
-from collecting.states import read_steps
+from silvervole.collect.states import read_steps
 
 from .support import DOCS, PAGES, ROOT, SITE, SOURCE, expect, same
 

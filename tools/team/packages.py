@@ -5,7 +5,7 @@ import importlib.util
 import os
 import shutil
 
-from collecting.browser import CHROMIUM_NAMES, DRIVER_NAMES
+from silvervole.collect.browser import CHROMIUM_NAMES, DRIVER_NAMES
 
 # Debian keeps servers in folders that not everybody's path has.
 os.environ["PATH"] += ":/usr/sbin:/sbin"

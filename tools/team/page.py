@@ -5,7 +5,7 @@ import json
 import pathlib
 from typing import Any, Callable
 
-from collecting.browser import start_browser
+from silvervole.collect.browser import start_browser
 from serving import ROOT, Serving
 from tests.support import SITE, expect, same
 
@@ -74,7 +74,7 @@ def reads_findings(reader: Reader) -> None:
     reader.open("?site=library&page=home")
     final = [one["outcome"] for one in outcomes(reader.proxy)]
     same("all findings are shown", reader.browser.execute_script("return document.querySelectorAll('.target').length"), len(final))
-    advice = next(rule for rule in json.loads(pathlib.Path(ROOT, "docs", "rules.json").read_text(encoding="utf-8"))["rules"] if rule["id"] == "97a4e1")
+    advice = next(rule for rule in json.loads(pathlib.Path(ROOT, "silvervole", "data", "rules.json").read_text(encoding="utf-8"))["rules"] if rule["id"] == "97a4e1")
     expect("what mends a finding is said", next(one for one in advice["reasons"] if one["reason"] == "no-name")["mends"] in reader.text("main"))
     checked(reader, "a page", "page")
     reader.tab_to("the outcomes", "at.id === 'outcome'")

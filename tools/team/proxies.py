@@ -16,8 +16,7 @@ from serving import HOST, ROOT, free_port
 EXAMPLES = pathlib.Path(ROOT, "deploy", "nginx")
 INSTALLED = "/usr/share/silvervole"
 # Where a file of the package stands in the repository.
-PLACES = ((f"{INSTALLED}/web", f"{ROOT}/web"), (f"{INSTALLED}/docs/", f"{ROOT}/docs/"),
-          (f"{INSTALLED}/collector/", f"{ROOT}/collector/"))
+PLACES = ((f"{INSTALLED}/web", f"{ROOT}/web"), (f"{INSTALLED}/silvervole/", f"{ROOT}/silvervole/"))
 USERS = ("ann", "bob", "rea", "eve")
 PASSWORD = "only for tests"
 RATE = "rate=50r/s"

@@ -8,7 +8,7 @@ import subprocess
 import time
 from typing import Any
 
-from collecting.taking import take
+from silvervole.collect.taking import take
 from serving import HOST, PROGRAM, ROOT
 from tests.support import same
 from tests.view import CONTRAST

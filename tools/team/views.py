@@ -7,7 +7,7 @@ import tempfile
 import time
 from typing import Any
 
-from collecting.browser import start_browser
+from silvervole.collect.browser import start_browser
 from serving import Serving
 from tests.support import expect, same
 

@@ -3,7 +3,7 @@ from __future__ import annotations
 
 import re
 
-import check_form
+from silvervole import check_form
 
 from .page import Node, Page
 

@@ -5,7 +5,7 @@ import re
 from collections import Counter
 from dataclasses import dataclass, replace
 
-from collecting.ends import End, Stop
+from silvervole.collect.ends import End, Stop
 
 from .page import Page, Quote, start_tag
 from .paths import css_path

@@ -5,9 +5,9 @@ import argparse
 import os
 from typing import Sequence
 
-from collecting.ends import End, run_command, write_file, write_out
-from viewing.command import Parser
-from viewing.rules import read_rules
+from silvervole.collect.ends import End, run_command, write_file, write_out
+from silvervole.view.command import Parser
+from silvervole.view.rules import read_rules
 
 from .changes import PageChanges, compare, compare_folders
 from .reading import read_audit, read_folder

@@ -22,7 +22,7 @@ LANGUAGE = "en-GB"
 # shown, as by a user who dismisses it, however many there are.
 CLOSED_DIALOGS = "window.alert = () => undefined; window.confirm = () => false; window.prompt = () => null;"
 # What has to run before a page's own scripts.
-INTERNALS = pathlib.Path(__file__).resolve().parent.parent / "internals.js"
+INTERNALS = pathlib.Path(__file__).resolve().parent / "internals.js"
 
 
 class Tools(NamedTuple):
@@ -39,13 +39,15 @@ def find_tools() -> Tools:
         from selenium import webdriver
     except ImportError:
         raise Stop(End.BROWSER, f"Python's selenium isn't there ({INSTALL})") from None
-    found = []
-    for what, names in (("Chromium", CHROMIUM_NAMES), ("Chromium's driver", DRIVER_NAMES)):
-        path = next(filter(None, map(shutil.which, names)), None)
-        if path is None:
-            raise Stop(End.BROWSER, f"{what} isn't there ({INSTALL})")
-        found.append(path)
-    return Tools(webdriver, *found)
+    return Tools(webdriver, find_program("Chromium", CHROMIUM_NAMES), find_program("Chromium's driver", DRIVER_NAMES))
+
+
+def find_program(what: str, names: Sequence[str]) -> str:
+    """The path of the first of these programs that is there."""
+    for name in names:
+        if (path := shutil.which(name)) is not None:
+            return path
+    raise Stop(End.BROWSER, f"{what} isn't there ({INSTALL})")
 
 
 def chromium_options(tools: Tools, viewport: tuple[int, int], arguments: Sequence[str]) -> Any:

@@ -1,4 +1,4 @@
-"""The page docs/findings.md, told from docs/rules.json."""
+"""The page docs/findings.md, told from silvervole/data/rules.json."""
 from __future__ import annotations
 
 from .rules import Rule, RuleTable
@@ -9,7 +9,7 @@ For each rule its published page, the success criteria of WCAG 2.2 that it count
 reason that a report may give what it means and what usually mends it. `ok` stands for a target that meets
 no other reason. What exactly a rule asks stands in [rules.md](rules.md).
 
-This page is made from [rules.json](rules.json) by `collector/test --keep`; `collector/view` shows the same
+This page is made from `silvervole/data/rules.json` by `collector/test --keep`; `collector/view` shows the same
 words beside each finding ([collecting.md](collecting.md#the-view)). Mend the words there.
 """
 

@@ -1,11 +1,11 @@
-"""The rules' names, pages, criteria, and what their reasons mean: docs/rules.json."""
+"""The rules' names, pages, criteria, and what their reasons mean: silvervole/data/rules.json."""
 from __future__ import annotations
 
 import json
 import pathlib
 from dataclasses import dataclass
 
-DATA = pathlib.Path(__file__).resolve().parent.parent.parent / "docs" / "rules.json"
+DATA = pathlib.Path(__file__).resolve().parent.parent / "data" / "rules.json"
 
 
 @dataclass(frozen=True)

@@ -4,8 +4,8 @@ from __future__ import annotations
 import xml.etree.ElementTree as ET
 from typing import Sequence
 
-from collecting.ends import one_line
-from viewing.rules import Rule, RuleTable
+from silvervole.collect.ends import one_line
+from silvervole.view.rules import Rule, RuleTable
 
 from .changes import Change, Kind, PageChanges
 

@@ -7,8 +7,8 @@ from dataclasses import dataclass, field
 from functools import cached_property
 from typing import Any, Iterator, NamedTuple
 
-import check_form
-from collecting.ends import End, Stop
+from silvervole import check_form
+from silvervole.collect.ends import End, Stop
 
 from .languages import known_language
 
@@ -195,7 +195,7 @@ def snapshot_in(top: dict[str, Any]) -> tuple[dict[str, Any], int | None]:
 def tree_of(given: dict[str, object]) -> int:
     """The number of the shadow tree that the collector wrote of a row."""
     tree = given.get("in", 0)
-    return tree if check_form.is_number(tree) else 0
+    return tree if isinstance(tree, int) and check_form.is_number(tree) else 0
 
 
 def places_of(given: dict[str, object]) -> tuple[int, ...]:

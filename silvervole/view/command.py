@@ -5,7 +5,7 @@ import argparse
 import sys
 from typing import NoReturn, Sequence
 
-from collecting.ends import End, Stop, run_command, write_out
+from silvervole.collect.ends import End, Stop, run_command, write_out
 
 from .findings import bring_together
 from .outcomes import is_object, read_outcomes

@@ -4,7 +4,7 @@ from __future__ import annotations
 import pathlib
 import re
 
-from collecting.ends import End, Stop
+from silvervole.collect.ends import End, Stop
 
 from .findings import Findings
 from .page import shortened

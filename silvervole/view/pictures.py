@@ -5,8 +5,9 @@ import base64
 import hashlib
 import json
 from dataclasses import dataclass
+from typing import Iterable
 
-from collecting.ends import End, Stop
+from silvervole.collect.ends import End, Stop
 
 from .page import Node
 
@@ -74,6 +75,12 @@ def percent(part: int, whole: int) -> str:
     return f"{100 * part / whole:.4f}%" if whole else "0%"
 
 
+def read_box(given: Iterable[float]) -> Box:
+    """The box of a node; a ValueError where it isn't one of four numbers."""
+    left, top, width, height = map(int, given)
+    return left, top, width, height
+
+
 def read_picture(path: str, snapshot: bytes) -> Picture:
     """The picture that the collector wrote for this snapshot, with its boxes, or a Stop."""
     def refuse(why: str) -> Stop:
@@ -84,7 +91,7 @@ def read_picture(path: str, snapshot: bytes) -> Picture:
             image = file.read()
         with open(f"{path}.json", "rb") as file:
             told = json.loads(file.read())
-        boxes = {int(number): tuple(map(int, box)) for number, box in told["boxes"].items()}
+        boxes = {int(number): read_box(box) for number, box in told["boxes"].items()}
         width, height, digest = int(told["width"]), int(told["height"]), told["snapshot"]
     except OSError as error:
         raise refuse(f"{error.filename} can't be read: {error.strerror}") from None
@@ -94,6 +101,6 @@ def read_picture(path: str, snapshot: bytes) -> Picture:
         raise refuse("it isn't in PNG")
     if digest != hashlib.sha256(snapshot).hexdigest():
         raise refuse("it was made with another snapshot")
-    if width < 1 or height < 1 or any(len(box) != 4 for box in boxes.values()):
+    if width < 1 or height < 1:
         raise refuse(f"{path}.json isn't as --shot writes it")
     return Picture(base64.b64encode(image).decode("ascii"), width, height, boxes)

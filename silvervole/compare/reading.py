@@ -4,10 +4,10 @@ from __future__ import annotations
 import pathlib
 from dataclasses import dataclass
 
-from collecting.ends import End, Stop
-from viewing.command import read, read_findings
-from viewing.page import Page, read_page
-from viewing.report import Finding
+from silvervole.collect.ends import End, Stop
+from silvervole.view.command import read, read_findings
+from silvervole.view.page import Page, read_page
+from silvervole.view.report import Finding
 
 
 @dataclass(frozen=True)

@@ -7,7 +7,7 @@ from typing import Any, NamedTuple
 
 from .ends import End, Stop, first_line
 
-HERE = pathlib.Path(__file__).resolve().parent.parent
+HERE = pathlib.Path(__file__).resolve().parent
 SNAPSHOT = HERE / "snapshot.js"
 BOXES = HERE / "boxes.js"
 

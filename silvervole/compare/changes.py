@@ -6,7 +6,7 @@ from collections import defaultdict, deque
 from dataclasses import dataclass
 from typing import Iterable, Sequence
 
-from viewing.report import OUTCOMES, Finding
+from silvervole.view.report import OUTCOMES, Finding
 
 from .places import WAYS, WITHOUT_PAGE, Place, Places, Way
 from .reading import Audit

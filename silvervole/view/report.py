@@ -5,7 +5,7 @@ import re
 from collections import Counter
 from dataclasses import dataclass
 
-from collecting.ends import End, Stop
+from silvervole.collect.ends import End, Stop
 
 OUTCOMES = ("failed", "cantTell", "passed")
 FINDING = re.compile(r"([0-9a-z]{6}) node ([1-9][0-9]{0,9}) (passed|failed|cantTell) (?:judged by (.+)|([a-z][a-z0-9-]*))", re.DOTALL)

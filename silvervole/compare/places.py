@@ -5,9 +5,9 @@ from dataclasses import dataclass
 from functools import cached_property
 from typing import Callable, Hashable
 
-import check_form
-from viewing.page import Node, Page, text_of, tidy
-from viewing.paths import css_path
+from silvervole import check_form
+from silvervole.view.page import Node, Page, text_of, tidy
+from silvervole.view.paths import css_path
 
 # A way down to an element: tags, each with its number among the parent's elements of that tag, or an id to begin at.
 Steps = tuple[tuple[str, object], ...]

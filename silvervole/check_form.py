@@ -1,7 +1,6 @@
-#!/usr/bin/python3
 """Says whether a snapshot is well formed: its JSON, its rows and its tree.
 
-    collector/check_form.py FILE..
+    python3 silvervole/check_form.py FILE..
 
 It shares no code with the collector or with the desk, so that each can be held
 against it. Only the address is looked at less closely than the desk does.

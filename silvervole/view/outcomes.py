@@ -6,8 +6,8 @@ import json
 import re
 from typing import Any, Callable, Mapping
 
-from check_form import is_number, is_text
-from collecting.ends import End, Stop
+from silvervole.check_form import is_number, is_text
+from silvervole.collect.ends import End, Stop
 
 from .report import OUTCOMES, Finding, Report
 

@@ -1,0 +1,1 @@
+"""Silvervole's commands around the desk: pages are collected, audited, compared, and their findings told to people."""
