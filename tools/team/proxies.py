@@ -17,6 +17,8 @@ EXAMPLES = pathlib.Path(ROOT, "deploy", "nginx")
 INSTALLED = "/usr/share/silvervole"
 # Where a file of the package stands in the repository.
 PLACES = ((f"{INSTALLED}/web", f"{ROOT}/web"), (f"{INSTALLED}/silvervole/", f"{ROOT}/silvervole/"))
+# The folder with the folder of pictures.
+SHOTS = "/var/lib/silvervole"
 USERS = ("ann", "bob", "rea", "eve")
 PASSWORD = "only for tests"
 RATE = "rate=50r/s"
@@ -105,7 +107,7 @@ class Proxy:
         texts = {path.name: path.read_text(encoding="utf-8") for path in EXAMPLES.glob("*.conf")}
         texts["example.conf"] = self.replaced()
         for name, text in texts.items():
-            for installed, here in ((f"{INSTALLED}/nginx/", f"{self.folder}/"), *PLACES):
+            for installed, here in ((f"{INSTALLED}/nginx/", f"{self.folder}/"), (SHOTS, str(self.shots)), *PLACES):
                 text = text.replace(installed, here)
             pathlib.Path(self.folder, name).write_text(text, encoding="utf-8")
 
@@ -124,6 +126,18 @@ class Proxy:
         self.nginx.terminate()
         self.nginx.wait()
         shutil.rmtree(self.folder)
+
+    @property
+    def shots(self) -> pathlib.Path:
+        """The folder in which the folder of pictures stands, once it is made."""
+        return pathlib.Path(self.folder, "silvervole")
+
+    def make_shots(self) -> pathlib.Path:
+        """Makes the folder of pictures, which nginx's workers may write, and gives it."""
+        made = self.shots / "shots"
+        made.mkdir(parents=True)
+        made.chmod(0o777)
+        return made
 
     @property
     def certificate(self) -> str:
