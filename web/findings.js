@@ -45,7 +45,17 @@ function rulePart(app, page, id, outcomes) {
   const reasons = grouped(outcomes, (one) => `${one.reason} ${one.automatic}`);
   return el('div', { class: `rule ${outcomes[0].outcome}` }, el('h3', {}, app.rules.rule(id).name, ' ', el('small', {}, counted(outcomes.length, 'finding', 'findings'))),
     ruleMeta(app.rules, id), [...reasons.values()].map((alike) => el('div', { class: 'reason' }, adviceOf(app.rules, alike[0]),
-      el('ul', { class: 'targets' }, alike.map((one) => target(app, page, one))))));
+      el('ul', { class: 'targets' }, alike.map((one) => target(app, page, one))))), mergedPart(app, page, id));
+}
+
+/** Beneath a composite the findings that it merges, which count through it alone; null of another rule. */
+function mergedPart(app, page, id) {
+  const inputs = app.rules.rule(id).inputs ?? [];
+  const merged = page.outcomes.filter((one) => inputs.includes(one.rule));
+  if (!merged.length) return null;
+  return [el('p', { class: 'means' }, 'It merges these, which count through it alone:'), merged.map((one) => el('div', { class: `merged ${one.outcome}` },
+    el('p', {}, el('strong', {}, `${HEADINGS[one.outcome]}: ${app.rules.rule(one.rule).name}`)), ruleMeta(app.rules, one.rule), adviceOf(app.rules, one),
+    el('ul', { class: 'targets' }, target(app, page, one))))].flat();
 }
 
 function section(app, page, outcome, outcomes) {
@@ -75,11 +85,12 @@ function waysOn(app, site, name, outcomes) {
 export async function showPage(app, site, name, current) {
   const page = await loadPage(site, name);
   if (!current()) return;
-  const shown = page.outcomes.filter(isShown(app, app.words));
+  const { counting } = app.rules.counting(page.outcomes);
+  const shown = counting.filter(isShown(app, app.words));
   const sections = OUTCOMES.map((outcome) => [outcome, shown.filter((one) => one.outcome === outcome)]).filter(([, some]) => some.length);
   app.put(`Page ${name} of ${site}`,
     el('p', { class: 'address' }, el('a', { href: page.address, rel: 'noreferrer' }, page.address), ` revision ${page.rev}`),
-    waysOn(app, site, name, page.outcomes), filters(app, page.outcomes), nodePart(app, page),
+    waysOn(app, site, name, page.outcomes), filters(app, counting), nodePart(app, page),
     sections.length ? sections.map(([outcome, some]) => section(app, page, outcome, some)) : el('p', {}, 'Nothing here is as you chose.'),
     el('p', { class: 'quiet' }, `${counted(page.inapplicable.length, 'rule', 'rules')} found nothing on this page to judge.`));
 }

@@ -58,7 +58,7 @@ export async function showNames(app, site, page, current) {
   if (!current()) return;
   const { role } = app.words;
   const shown = names.filter((one) => !role || one.role === role);
-  const byNode = grouped(outcomes, (one) => one.node);
+  const byNode = grouped(app.rules.counting(outcomes).counting, (one) => one.node);
   const nameless = shown.filter((one) => !one.name).length;
   app.put(`Names on page ${page} of ${site}`,
     el('p', { class: 'address' }, el('a', { href: address, rel: 'noreferrer' }, address), ` revision ${rev}`),

@@ -21,6 +21,13 @@ class Rules {
   /** The rule of an id; one that isn't known has its id alone. */
   rule(id) { return this.byId.get(id) ?? { id, name: `Rule ${id}`, criteria: [], reasons: [] }; }
 
+  /** The outcomes that count by themselves, and those that count through the composite that merges them on their node. */
+  counting(outcomes) {
+    const composites = new Set(outcomes.flatMap((one) => (this.rule(one.rule).inputs ?? []).map((input) => `${input}-${one.node}`)));
+    const isMerged = (one) => composites.has(`${one.rule}-${one.node}`);
+    return { counting: outcomes.filter((one) => !isMerged(one)), merged: outcomes.filter(isMerged) };
+  }
+
   link(id) { return this.data.rule_page.replace('{id}', id); }
 
   criterionLink(criterion) { return this.data.criterion_page.replace('{anchor}', criterion.anchor); }

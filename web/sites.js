@@ -35,6 +35,7 @@ function pagesPart(app, site, pages) {
   return el('section', { 'aria-labelledby': 'pages' }, el('h2', { id: 'pages' }, 'Pages'),
     pages.length ? table('Pages with their outcomes', ['Page', 'Revision', 'Failed', 'To judge', 'Passed', 'Rules without a target'], pages.map((page) => pageRow(app, site, page)))
       : el('p', {}, 'This site has no page.'),
+    el('p', { class: 'quiet' }, 'These are the report\'s sums, which count each rule. A page\'s findings count what a composite rule merges through it alone.'),
     nameForm('page', 'Page by name', 'Show the page', (page) => app.go({ site, page })));
 }
 

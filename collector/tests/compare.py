@@ -209,7 +209,7 @@ def test_pipeline_files() -> None:
 
 
 def test_pipeline() -> None:
-    """The script of docs/pipeline.md on two pages: without a baseline, with one, and after a page got worse."""
+    """The script of docs/pipeline.md on two pages: without a baseline, with one, after a page got worse, and where one isn't there."""
     if not DESK.is_file():
         print(f"collector/test: the desk isn't built ({DESK.relative_to(ROOT)}): the script of docs/pipeline.md isn't run")
         return
@@ -236,3 +236,7 @@ def test_pipeline() -> None:
         pathlib.Path(folder, "home.html").write_text(worse, encoding="utf-8")
         code, last = audited()
         expect("the script where a link has no name", code == NEW_FAILURE and last.startswith("new failed 1, "), last)
+        os.unlink(f"{folder}/home.html")
+        code, last = audited()
+        expect("the script where a page isn't there", code not in (0, NEW_FAILURE) and last.startswith("2 pages, 1 collected, 1 failed"), (code, last))
+        expect("it leaves no JUnit file of an earlier run", not os.path.exists(f"{folder}/junit.xml"))

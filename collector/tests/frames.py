@@ -65,6 +65,7 @@ def frames_of_a_list(folder: str, base: str, other: str) -> None:
         data = pathlib.Path(f"{front}.frame-{number}.json").read_bytes()
         rows = well_formed(f"frame {number} is well formed", data)
         same(f"frame {number}: its address", json.loads(data)["url"], address.replace("OTHER", other) if "OTHER" in address else base + address)
+        same(f"frame {number}: its number", json.loads(data).get("frame"), number)
         expect(f"frame {number}: what is in it", text in [row["text"] for row in rows], rows)
         if number == 5:
             expect("components of another origin", ["role", "button"] in [pair for row in rows for pair in row["attrs"]] and "deep" in str(rows), rows)
@@ -73,7 +74,7 @@ def frames_of_a_list(folder: str, base: str, other: str) -> None:
     same("frames: lines of what can't be looked into", [line.partition("(node ")[2].partition(", ")[2] for line in lines[1:]], list(REFUSED.values()))
     expect("frames: each has its number", all(f"frame {number} (node " in line for number, line in zip(REFUSED, lines[1:])), lines)
     text = pathlib.Path(files[0]).read_text(encoding="utf-8")
-    expect("frames: the page itself holds none of them", "cd_frame_id_" not in text and "elsewhere" not in text)
+    expect("frames: the page itself holds none of them", "cd_frame_id_" not in text and "elsewhere" not in text and '"frame"' not in text)
 
 
 def frames_that_hang(folder: str, base: str) -> None:

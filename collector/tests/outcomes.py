@@ -71,8 +71,9 @@ cf77f2 node 1 passed merged
 73f2c2 inapplicable
 passed 3 failed 5 cantTell 2 inapplicable 1
 """
-SECTIONS = ["failed-2779a5", "failed-b49b2e", "failed-b40fd1", "failed-ye5d6e", "failed-3e12e1", "cantTell-b49b2e",
-            "passed-c487ae", "passed-047fe0", "passed-cf77f2"]
+SECTIONS = ["failed-2779a5", "failed-b49b2e", "cantTell-b49b2e", "passed-c487ae", "passed-cf77f2"]
+# What stands beneath the composite, and counts through it alone.
+MERGED = ["passed-047fe0", "failed-b40fd1", "failed-ye5d6e", "failed-3e12e1"]
 
 
 @dataclass
@@ -150,7 +151,7 @@ class View:
         start = self.elements.index(self.find(identity))
         found = []
         for element in self.elements[start + 1:]:
-            if element.tag == "section" or "data-rule" in element.attrs:
+            if element.tag == "section" or "data-rule" in element.attrs or element.attrs.get("id") in MERGED:
                 break
             if element.tag == tag and kind in (element.attrs.get("class") or ""):
                 found.append(element)
@@ -178,6 +179,7 @@ def test_outcomes() -> None:
     """Who judged what: an automatic, a judged and a composite row, one that is left open, and one that nobody judged."""
     view = View(REPLY)
     same("the rules, by final outcome", view.ids("rule"), SECTIONS)
+    same("what the composite merges", view.ids("merged"), MERGED)
     for identity, verdicts, evidence, says in (
             ("failed-2779a5", ["Final outcome: failed. By the rule alone: failed, for the reason no-title."], ["none"], "The page has no title element"),
             ("failed-b49b2e", ["Final outcome: failed, judged by bob. By the rule alone: to judge, for the reason judge-heading."],
@@ -195,7 +197,7 @@ def test_outcomes() -> None:
         expect(f"the advice of {identity}", says in view.find(identity).words, view.find(identity).words)
     same("what is said of a target", view.find("failed-b49b2e-5").words,
          "h1 node 5 Start tag <h1> CSS path html > body > h1 Text Opening hours Heading above none Evidence heading Opening hours")
-    same("the title", view.words("title"), ["5 failed, 2 to judge: findings on https://example.org/"])
+    same("the title", view.words("title"), ["2 failed, 2 to judge: findings on https://example.org/"])
     same("the address and the revision", [element.words for element in view.elements if element.attrs.get("class") == "address"],
          ["https://example.org/", "Revision 7 of the page in the desk"])
     same("the counts by criterion", [words.split(" none: ")[0] for words in view.words("tr")[1:4]], [
@@ -227,7 +229,7 @@ def test_documented_outcomes() -> None:
 def test_outcomes_and_report() -> None:
     """A text report and the reply give the same rows, whatever the files are called; only the reply has the rest."""
     by_report, by_reply = View(REPORT, name="home.json.outcomes"), View(REPLY, name="home.txt")
-    for what, got in (("rules", lambda view: view.ids("rule")), ("targets", lambda view: view.ids("target")),
+    for what, got in (("rules", lambda view: view.ids("rule")), ("merged rules", lambda view: view.ids("merged")), ("targets", lambda view: view.ids("target")),
                       ("headings", lambda view: [view.words(tag) for tag in ("h1", "h2", "h3", "h4")]),
                       ("counts", lambda view: view.words("tr")), ("title", lambda view: view.words("title")),
                       ("rules without a target", lambda view: view.words("details")[-2])):
@@ -353,7 +355,7 @@ def test_outcomes_page(browser: Any) -> None:
         with opened(browser, page, REPLY) as path:
             said = accessible(browser)
             same("the headings", [name for role, name in said if role == "heading"][:7], [
-                "Findings on a page without a title", "Show", "By criterion", "Failed 5 findings", "HTML page has non-empty title 1 finding",
+                "Findings on a page without a title", "Show", "By criterion", "Failed 2 findings", "HTML page has non-empty title 1 finding",
                 "The page as a whole node 1", "Heading is descriptive 1 finding"])
             levels = browser.execute_script("return [...document.querySelectorAll('h1,h2,h3,h4')].map((heading) => Number(heading.localName[1]))")
             expect("no level of headings is left out", levels[0] == 1 and all(b <= a + 1 for a, b in zip(levels, levels[1:])), levels)

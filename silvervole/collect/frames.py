@@ -106,9 +106,8 @@ class Frames:
     def taken(self, source: str, number: int, depth: int) -> Taken:
         """The snapshot of the frame's document that the browser was sent into, or a Stop."""
         there = self.ready(source, depth)
-        if not there["address"].startswith(("http:", "https:")):
-            return take(self.browser, f"{self.address}#frame-{number}", self.wanted)
-        return take(self.browser, None, self.wanted)
+        address = None if there["address"].startswith(("http:", "https:")) else f"{self.address}#frame-{number}"
+        return take(self.browser, address, self.wanted._replace(frame=number))
 
     def ready(self, source: str, depth: int) -> dict[str, Any]:
         """What is told of the frame's document, once it has loaded."""

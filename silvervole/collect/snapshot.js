@@ -19,6 +19,7 @@
  *           attributes what scripts say in ElementInternals, of which
  *           internals.js took note. Otherwise shadow trees are left out.
  *   state   a name for the state the page is in, written beside its address.
+ *   frame   the number of the frame that the document stands in, written too.
  *   unheard is called with each field whose change event the page won't hear
  *           any more, since the focus left an edit that wasn't committed.
  *   nodes   is called with a list that has, for each row, its node and its
@@ -705,7 +706,8 @@ function silvervoleSnapshot(address, options) {
   // One row a line: the row of node n stands on line n + 1.
   const state = given.state === undefined || given.state === null ? ''
     : `,"state":${quote(bounded(String(given.state), () => 'the name of the state'))}`;
-  const whole = () => `{"url":${quote(url)}${state},"nodes":[\n${records.map(line).join(',\n')}\n]}\n`;
+  const frame = given.frame === undefined || given.frame === null ? '' : `,"frame":${Number(given.frame)}`;
+  const whole = () => `{"url":${quote(url)}${state}${frame},"nodes":[\n${records.map(line).join(',\n')}\n]}\n`;
   const text = whole();
   const bytes = utf8Length(text);
   if (given.unheard) unheard.forEach((field) => given.unheard(field));

@@ -29,13 +29,14 @@ FAULTS = {"SnapshotLimit": (End.LIMIT, "a limit is passed"), "SnapshotAddress": 
 
 
 class Wanted(NamedTuple):
-    """How a snapshot is taken: refused where else something is cut; with shadow trees, boxes, the page's frames; of which state."""
+    """How a snapshot is taken: refused where else something is cut; with shadow trees, boxes, the page's frames; of which state and frame."""
 
     exact: bool = False
     shadow: bool = False
     boxes: bool = False
     frames: bool = False
     state: str | None = None
+    frame: int | None = None
 
 
 @dataclass

@@ -6,7 +6,10 @@ from collections import defaultdict, deque
 from dataclasses import dataclass
 from typing import Iterable, Sequence
 
+from silvervole.view.counting import FRAME, Counted, counted, of_frame
+from silvervole.view.page import Page
 from silvervole.view.report import OUTCOMES, Finding
+from silvervole.view.rules import RuleTable
 
 from .places import WAYS, WITHOUT_PAGE, Place, Places, Way
 from .reading import Audit
@@ -30,11 +33,12 @@ class Located:
 
 @dataclass(frozen=True)
 class Change:
-    """A finding that is in one of two audits or, at the same place, in both."""
+    """A finding that is in one of two audits or, at the same place, in both; and what it merges in the new one."""
 
     kind: Kind
     old: Located | None
     new: Located | None
+    merged: tuple[Finding, ...] = ()
 
     @property
     def shown(self) -> Located:
@@ -51,11 +55,12 @@ class Change:
 
 @dataclass(frozen=True)
 class PageChanges:
-    """The changes on one page; of a page that only one audit has, that is said."""
+    """The changes on one page; of a page that only one audit has, or that stands in a frame, that is said."""
 
     name: str
     note: str
     changes: tuple[Change, ...]
+    frame: str = ""
 
     def count(self, kind: Kind, outcome: str | None = None) -> int:
         """How many changes are of this kind, and of this outcome where one is given."""
@@ -65,30 +70,46 @@ class PageChanges:
 NOTHING = Audit("", (), None)
 
 
-def compare_folders(old: dict[str, Audit], new: dict[str, Audit]) -> list[PageChanges]:
+def compare_folders(old: dict[str, Audit], new: dict[str, Audit], table: RuleTable) -> list[PageChanges]:
     """The changes of each page, by the names of the files; what only OLD has comes last."""
-    pages = [compare(old.get(name, NOTHING), audit, "" if name in old else "a new page") for name, audit in new.items()]
+    pages = [compare(old.get(name, NOTHING), audit, table, "" if name in old else "a new page") for name, audit in new.items()]
     return pages + [PageChanges(audit.name, "gone: NEW has no such page", ()) for name, audit in old.items() if name not in new]
 
 
-def compare(old: Audit, new: Audit, note: str = "") -> PageChanges:
+def compare(old: Audit, new: Audit, table: RuleTable, note: str = "") -> PageChanges:
     """The changes from one audit of a page to another, in the order of the new audit."""
+    in_frame = any(audit.page is not None and audit.page.in_frame for audit in (old, new))
+    counts = [counting(audit, table, in_frame) for audit in (old, new)]
     with_pages = new.page is not None and (old.page is not None or old is NOTHING)
     ways = WAYS if with_pages else WITHOUT_PAGE
-    olds, news = located(old, with_pages), located(new, with_pages)
-    changes = [Change(kind, before, after) for before, after in paired(olds, news, ways) if (kind := kind_of(before, after))]
+    olds, news = (located(count.findings, audit.page if with_pages else None) for count, audit in zip(counts, (old, new)))
+    changes = [Change(kind, before, after, merged(after, counts[1]))
+               for before, after in paired(olds, news, ways) if (kind := kind_of(before, after))]
     order = {one: place for place, one in enumerate([*olds, *news])}
     changes.sort(key=lambda change: (list(Kind).index(change.kind), OUTCOMES.index(change.shown.finding.outcome), order[change.shown]))
-    return PageChanges(new.name, note, tuple(changes))
+    return PageChanges(new.name, note, tuple(changes), FRAME if in_frame else "")
 
 
-def located(audit: Audit, with_page: bool) -> list[Located]:
-    """The findings of an audit with their places."""
-    if not with_page or audit.page is None:
-        return [Located(finding, Place(finding.node)) for finding in audit.findings]
-    places = Places(audit.page)
-    made = {number: places.place(number) for number in {finding.node for finding in audit.findings}}
-    return [Located(finding, made[finding.node]) for finding in audit.findings]
+def counting(audit: Audit, table: RuleTable, in_frame: bool) -> Counted:
+    """The findings of an audit that count."""
+    return counted(of_frame(audit.findings, table) if in_frame else audit.findings, table)
+
+
+def merged(located: Located | None, count: Counted) -> tuple[Finding, ...]:
+    """What a finding merges, where it is one of a composite."""
+    return count.beneath.get((located.finding.rule, located.finding.node), ()) if located else ()
+
+
+def located(findings: Iterable[Finding], page: Page | None) -> list[Located]:
+    """Findings with their places; without the page the places are numbers."""
+    places = Places(page) if page is not None else None
+    made: dict[int, Place] = {}
+    found = []
+    for finding in findings:
+        if finding.node not in made:
+            made[finding.node] = places.place(finding.node) if places else Place(finding.node)
+        found.append(Located(finding, made[finding.node]))
+    return found
 
 
 def kind_of(old: Located | None, new: Located | None) -> Kind | None:

@@ -7,7 +7,7 @@ from typing import Sequence
 
 from silvervole.collect.ends import End, run_command, write_file, write_out
 from silvervole.view.command import Parser
-from silvervole.view.rules import read_rules
+from silvervole.view.rules import RuleTable, read_rules
 
 from .changes import PageChanges, compare, compare_folders
 from .reading import read_audit, read_folder
@@ -38,17 +38,17 @@ def read_words(words: Sequence[str]) -> argparse.Namespace:
     return given
 
 
-def changes_of(given: argparse.Namespace) -> list[PageChanges]:
+def changes_of(given: argparse.Namespace, table: RuleTable) -> list[PageChanges]:
     """The changes of the files or folders that the words name."""
     if given.folders:
-        return compare_folders(read_folder(given.old), read_folder(given.new))
-    return [compare(read_audit(given.old, given.old_snapshot), read_audit(given.new, given.new_snapshot))]
+        return compare_folders(read_folder(given.old), read_folder(given.new), table)
+    return [compare(read_audit(given.old, given.old_snapshot), read_audit(given.new, given.new_snapshot), table)]
 
 
 def work(words: Sequence[str]) -> int:
     """Writes the changes that the words ask for."""
-    given = read_words(words)
-    pages, table = changes_of(given), read_rules()
+    given, table = read_words(words), read_rules()
+    pages = changes_of(given, table)
     if given.junit is not None:
         write_file(given.junit, junit_of(pages, table))
     write_out(text_of(pages, table).encode("utf-8"))

@@ -7,6 +7,7 @@ from dataclasses import dataclass, replace
 
 from silvervole.collect.ends import End, Stop
 
+from .counting import Counted, counted, of_frame
 from .page import Page, Quote, start_tag
 from .paths import css_path
 from .pictures import Crop, Picture
@@ -50,11 +51,12 @@ class ReasonPart:
 
 @dataclass(frozen=True)
 class RulePart:
-    """The findings of one rule with one outcome."""
+    """The findings of one rule with one outcome, and beneath a composite those of the rules that it merges."""
 
     rule: Rule
     outcome: str
     parts: tuple[ReasonPart, ...]
+    merged: tuple[RulePart, ...] = ()
 
     @property
     def count(self) -> int:
@@ -86,24 +88,29 @@ class Findings:
     inapplicable: tuple[Rule, ...]
     rules: tuple[tuple[Rule, dict[str, int]], ...]
     has_picture: bool
+    in_frame: bool
 
 
 def bring_together(report: Report, page: Page, table: RuleTable, picture: Picture | None) -> Findings:
     """The findings of a report on this page; a Stop with the status INPUT where it is of another page."""
     check_page(report, page)
+    if page.in_frame:
+        report = replace(report, findings=of_frame(report.findings, table),
+                         inapplicable=tuple(identity for identity in report.inapplicable if not table.rule(identity).not_in_frames))
     makers = TargetMaker(page, picture)
-    sections = {outcome: parts_of(report.findings, outcome, table, makers) for outcome in OUTCOMES}
+    count = counted(report.findings, table)
+    sections = {outcome: with_merged(parts_of(count.findings, outcome, table, makers), count, table, makers) for outcome in OUTCOMES}
     by_rule: dict[str, dict[str, int]] = {}
-    for finding in report.findings:
+    for finding in count.findings:
         counts = by_rule.setdefault(finding.rule, dict.fromkeys(OUTCOMES, 0))
         counts[finding.outcome] += 1
-    lines, quiet = criterion_lines(sections, table)
-    totals = Counter(finding.outcome for finding in report.findings)
+    lines, quiet = criterion_lines(sections, table, [rule for rule in table.rules.values() if not (page.in_frame and rule.not_in_frames)])
+    totals = Counter(finding.outcome for finding in count.findings)
     return Findings(
         report.address or page.address, report.revision, page.title, page.state, len(page.nodes),
         {outcome: totals[outcome] for outcome in OUTCOMES}, sections, lines, quiet,
         tuple(table.rule(identity) for identity in report.inapplicable),
-        tuple((table.rule(identity), counts) for identity, counts in by_rule.items()), picture is not None)
+        tuple((table.rule(identity), counts) for identity, counts in by_rule.items()), picture is not None, page.in_frame)
 
 
 def check_page(report: Report, page: Page) -> None:
@@ -166,13 +173,30 @@ def parts_of(findings: tuple[Finding, ...], outcome: str, table: RuleTable, make
     return tuple(parts)
 
 
+def with_merged(parts: tuple[RulePart, ...], count: Counted, table: RuleTable, makers: TargetMaker) -> tuple[RulePart, ...]:
+    """The rules, beneath each composite the findings of its inputs on its targets, in their order and with any outcome."""
+    made = []
+    for part in parts:
+        beneath = findings_beneath(part, count)
+        merged = [one for outcome in OUTCOMES for one in parts_of(beneath, outcome, table, makers)]
+        made.append(replace(part, merged=tuple(sorted(merged, key=lambda one: part.rule.inputs.index(one.rule.id)))))
+    return tuple(made)
+
+
+def findings_beneath(part: RulePart, count: Counted) -> tuple[Finding, ...]:
+    """What a composite merges on its targets."""
+    numbers = (target.number for reason in part.parts for target in reason.targets)
+    return tuple(finding for number in numbers for finding in count.beneath.get((part.rule.id, number), ()))
+
+
 def advice_on(rule: Rule, reason: str, outcome: str, automatic: str) -> Advice | None:
     """What is said of a reason with its final outcome, or else with the rule's own, which a person judged; None where nothing is."""
     return rule.advice_for(reason, outcome) or rule.advice_for(reason, automatic)
 
 
-def criterion_lines(sections: dict[str, tuple[RulePart, ...]], table: RuleTable) -> tuple[tuple[CriterionLine, ...], tuple[Criterion, ...]]:
-    """A line for each criterion with findings, last one for rules under none; and the criteria without any."""
+def criterion_lines(sections: dict[str, tuple[RulePart, ...]], table: RuleTable,
+                    rules: list[Rule]) -> tuple[tuple[CriterionLine, ...], tuple[Criterion, ...]]:
+    """A line for each criterion with findings, last one for rules under none; and the criteria of these rules without any."""
     lines, quiet = [], []
     for criterion in (*table.criteria, None):
         parts = [part for outcome in OUTCOMES for part in sections[outcome]
@@ -180,6 +204,6 @@ def criterion_lines(sections: dict[str, tuple[RulePart, ...]], table: RuleTable)
         if parts:
             counts = {outcome: sum(part.count for part in parts if part.outcome == outcome) for outcome in OUTCOMES}
             lines.append(CriterionLine(criterion, counts, tuple(parts)))
-        elif criterion:
+        elif any(criterion in rule.criteria for rule in rules):
             quiet.append(criterion)
     return tuple(lines), tuple(quiet)

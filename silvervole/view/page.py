@@ -114,12 +114,13 @@ class Quote(NamedTuple):
 
 @dataclass(frozen=True)
 class Page:
-    """An address and nodes by their numbers, in document order; the revision where the desk sent the page."""
+    """An address and nodes by their numbers, in document order; the revision where the desk sent the page, and whether it stands in a frame."""
 
     address: str
     nodes: dict[int, Node]
     state: str = ""
     revision: int | None = None
+    in_frame: bool = False
 
     @cached_property
     def root(self) -> Node:
@@ -181,7 +182,7 @@ def read_page(data: bytes, path: str) -> Page:
         if parent is not None:
             parent.kids.append(node)
     state = top.get("state")
-    return Page(address, nodes, state if isinstance(state, str) else "", revision)
+    return Page(address, nodes, state if isinstance(state, str) else "", revision, check_form.is_number(top.get("frame")))
 
 
 def snapshot_in(top: dict[str, Any]) -> tuple[dict[str, Any], int | None]:

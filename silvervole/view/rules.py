@@ -4,6 +4,7 @@ from __future__ import annotations
 import json
 import pathlib
 from dataclasses import dataclass
+from functools import cached_property
 
 DATA = pathlib.Path(__file__).resolve().parent.parent / "data" / "rules.json"
 
@@ -35,6 +36,9 @@ class Rule:
     link: str
     criteria: tuple[Criterion, ...]
     advice: dict[tuple[str, str], Advice]
+    # Of a composite the rules that it merges; and whether the rule is on whole pages alone.
+    inputs: tuple[str, ...] = ()
+    not_in_frames: bool = False
 
     @property
     def is_known(self) -> bool:
@@ -52,6 +56,11 @@ class RuleTable:
     rules: dict[str, Rule]
     criteria: tuple[Criterion, ...]
 
+    @cached_property
+    def composites(self) -> dict[str, str]:
+        """The composite of each rule that is merged."""
+        return {identity: rule.id for rule in self.rules.values() for identity in rule.inputs}
+
     def rule(self, identity: str) -> Rule:
         """The rule of an id."""
         return self.rules.get(identity) or Rule(identity, "", "", (), {})
@@ -67,5 +76,6 @@ def read_rules(path: pathlib.Path = DATA) -> RuleTable:
     for given in data["rules"]:
         advice = {(one["reason"], one["outcome"]): Advice(one["means"], one["mends"]) for one in given["reasons"]}
         rules[given["id"]] = Rule(given["id"], given["name"], data["rule_page"].format(id=given["id"]),
-                                  tuple(criteria[number] for number in given["criteria"]), advice)
+                                  tuple(criteria[number] for number in given["criteria"]), advice,
+                                  tuple(given.get("inputs", ())), given.get("not_in_frames", False))
     return RuleTable(rules, tuple(criteria.values()))

@@ -6,6 +6,7 @@ import re
 
 from silvervole.collect.ends import End, Stop
 
+from .counting import FRAME
 from .findings import Findings
 from .page import shortened
 from .pictures import Picture
@@ -41,5 +42,5 @@ def write_view(findings: Findings, picture: Picture | None) -> str:
     template = environment.get_template("findings.html")
     # Base64 holds nothing to escape, and may be long.
     data = Markup(picture.data) if picture else ""
-    return template.render(page=findings, picture=data, outcomes=OUTCOMES, headings=HEADINGS, words=WORDS,
+    return template.render(page=findings, picture=data, outcomes=OUTCOMES, headings=HEADINGS, words=WORDS, frame=FRAME,
                            shortened=shortened) + "\n"
