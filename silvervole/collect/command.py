@@ -5,7 +5,7 @@ from typing import Sequence
 
 from .ends import End, run_command, say, write_file, write_out
 from .many import collect_list
-from .options import Command, read_words
+from .options import Command, parser, read_words
 from .pages import Collected, collect_page
 from .places import ended
 
@@ -28,10 +28,10 @@ def collect_one(command: Command) -> End:
     return End.WRITTEN
 
 
-def main(words: Sequence[str]) -> int:
+def main(words: Sequence[str], program: str = "collect", example: str = "") -> int:
     """The status of a run."""
     def work() -> int:
-        command = read_words(words)
+        command = read_words(words, parser(program, example))
         return collect_one(command) if command.list is None else collect_list(command)
 
-    return run_command("collect", work)
+    return run_command(program, work)

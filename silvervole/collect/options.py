@@ -4,13 +4,14 @@ from __future__ import annotations
 import argparse
 import re
 from dataclasses import dataclass
-from typing import Callable, NoReturn, Sequence
+from typing import Callable, Sequence
+
+from silvervole.words import Parser
 
 from .browser import VIEWPORT
-from .ends import End, Stop, write_out
 from .places import check_written
 
-USAGE = "collect URL-OR-FILE [--url ADDRESS] [--out FILE] [OPTIONS], or collect --list FILE --out FOLDER [OPTIONS]"
+USAGE = "{0} URL-OR-FILE [--url ADDRESS] [--out FILE] [OPTIONS], or {0} --list FILE --out FOLDER [OPTIONS]"
 LONGEST_TIMEOUT = 3600
 LONGEST_SETTLE = 600_000
 GREATEST_SIDE = 10_000
@@ -46,17 +47,6 @@ class Command:
     jobs: int
     shots: bool
     options: Options
-
-
-class Parser(argparse.ArgumentParser):
-    """A parser whose refusal is a Stop of one line."""
-
-    def error(self, message: str) -> NoReturn:
-        raise Stop(End.USAGE, f"{message}; usage: {USAGE}")
-
-    def print_help(self, file: object = None) -> None:
-        """Writes the help on standard output, or is a Stop where that can't be written."""
-        write_out(self.format_help().encode("utf-8"))
 
 
 def seconds(word: str) -> float:
@@ -101,9 +91,9 @@ def header(word: str) -> tuple[str, str]:
     return name, value.strip()
 
 
-def parser() -> Parser:
+def parser(program: str = "collect", example: str = "") -> Parser:
     """All words of the command."""
-    made = Parser(prog="collect", allow_abbrev=False, usage=USAGE,
+    made = Parser(prog=program, usage=USAGE.format(program), example=example,
                   description="Writes pages as snapshots, as headless Chromium has them. docs/collecting.md says more.")
     made.add_argument("page", metavar="URL-OR-FILE", nargs="?",
                       help="an http, https or file address, or a file's path")
@@ -114,6 +104,19 @@ def parser() -> Parser:
                       help="the file that a page's snapshot is written to, or the folder for those of a list (standard output)")
     made.add_argument("--jobs", metavar="N", type=whole(1, MOST_JOBS), default=None,
                       help="how many browsers work beside each other on a list (1)")
+    add_opening(made)
+    made.add_argument("--frames", action="store_true",
+                      help="writes what is in each frame too, to FILE's name with .frame-2 and so on; needs --out")
+    made.add_argument("--states", metavar="FILE",
+                      help="does the steps of a file, and writes a snapshot after each, to the name of --out with .state-1-NAME and so on")
+    made.add_argument("--no-shadow", action="store_true", help="leaves shadow trees out")
+    made.add_argument("--shot", metavar="FILE", help="writes a picture of the page, and FILE.json with each node's box")
+    made.add_argument("--shots", action="store_true", help="the same for each page of a list, in the folder pictures of --out")
+    return made
+
+
+def add_opening(made: argparse.ArgumentParser) -> None:
+    """The words on how pages are opened and waited for."""
     made.add_argument("--wait", metavar="load|network-idle|SELECTOR", default="load",
                       help="what to wait for: the load event; a quiet network; an element that the CSS selector matches (load)")
     made.add_argument("--timeout", metavar="SECONDS", type=seconds, default=60.0,
@@ -129,19 +132,11 @@ def parser() -> Parser:
     made.add_argument("--exact", action="store_true",
                       help="refuses a page that passes a limit, where else what no rule looks at is cut")
     made.add_argument("--follow", action="store_true", help="with --url, takes a page that moved on to another address")
-    made.add_argument("--frames", action="store_true",
-                      help="writes what is in each frame too, to FILE's name with .frame-2 and so on; needs --out")
-    made.add_argument("--states", metavar="FILE",
-                      help="does the steps of a file, and writes a snapshot after each, to the name of --out with .state-1-NAME and so on")
-    made.add_argument("--no-shadow", action="store_true", help="leaves shadow trees out")
-    made.add_argument("--shot", metavar="FILE", help="writes a picture of the page, and FILE.json with each node's box")
-    made.add_argument("--shots", action="store_true", help="the same for each page of a list, in the folder pictures of --out")
-    return made
 
 
-def read_words(words: Sequence[str]) -> Command:
+def read_words(words: Sequence[str], asked: Parser | None = None) -> Command:
     """The command that the words ask for."""
-    asked = parser()
+    asked = asked or parser()
     given = asked.parse_args(words)
     if (given.page is None) == (given.list is None):
         asked.error("either a page or --list is needed")

@@ -6,20 +6,20 @@ import os
 from typing import Sequence
 
 from silvervole.collect.ends import End, run_command, write_file, write_out
-from silvervole.view.command import Parser
 from silvervole.view.rules import RuleTable, read_rules
+from silvervole.words import Parser
 
 from .changes import PageChanges, compare, compare_folders
 from .reading import read_audit, read_folder
 from .writing import junit_of, text_of
 
-USAGE = "compare OLD NEW [--old-snapshot FILE --new-snapshot FILE] [--junit FILE]"
+USAGE = "{0} OLD NEW [--old-snapshot FILE --new-snapshot FILE] [--junit FILE]"
 NEW_FAILURE = 1
 
 
-def read_words(words: Sequence[str]) -> argparse.Namespace:
+def parser(program: str = "compare", example: str = "") -> Parser:
     """The words of the command."""
-    made = Parser(prog="compare", allow_abbrev=False, usage=USAGE,
+    made = Parser(prog=program, usage=USAGE.format(program), example=example,
                   description="Says what is new, what is mended and what stays between two audits, and ends with 1 where something "
                               "new failed. docs/pipeline.md says more.")
     made.add_argument("old", metavar="OLD", help="the earlier report or reply to outcomes, or a folder of reports")
@@ -27,6 +27,11 @@ def read_words(words: Sequence[str]) -> argparse.Namespace:
     made.add_argument("--old-snapshot", metavar="FILE", help="the earlier snapshot, of which OLD speaks")
     made.add_argument("--new-snapshot", metavar="FILE", help="the later one, of which NEW speaks")
     made.add_argument("--junit", metavar="FILE", help="writes the same as JUnit XML")
+    return made
+
+
+def read_words(words: Sequence[str], made: Parser) -> argparse.Namespace:
+    """What the words ask for."""
     given = made.parse_args(words)
     if (given.old_snapshot is None) != (given.new_snapshot is None):
         made.error("--old-snapshot and --new-snapshot go together")
@@ -45,9 +50,9 @@ def changes_of(given: argparse.Namespace, table: RuleTable) -> list[PageChanges]
     return [compare(read_audit(given.old, given.old_snapshot), read_audit(given.new, given.new_snapshot), table)]
 
 
-def work(words: Sequence[str]) -> int:
+def work(words: Sequence[str], asked: Parser) -> int:
     """Writes the changes that the words ask for."""
-    given, table = read_words(words), read_rules()
+    given, table = read_words(words, asked), read_rules()
     pages = changes_of(given, table)
     if given.junit is not None:
         write_file(given.junit, junit_of(pages, table))
@@ -55,6 +60,6 @@ def work(words: Sequence[str]) -> int:
     return NEW_FAILURE if any(change.fails for page in pages for change in page.changes) else End.WRITTEN
 
 
-def main(words: Sequence[str]) -> int:
+def main(words: Sequence[str], program: str = "compare", example: str = "") -> int:
     """The status of a run."""
-    return run_command("compare", lambda: work(words))
+    return run_command(program, lambda: work(words, parser(program, example)))

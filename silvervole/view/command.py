@@ -1,11 +1,11 @@
 """The command collector/view."""
 from __future__ import annotations
 
-import argparse
 import sys
-from typing import NoReturn, Sequence
+from typing import Sequence
 
 from silvervole.collect.ends import End, Stop, run_command, write_out
+from silvervole.words import Parser
 
 from .findings import bring_together
 from .outcomes import is_object, read_outcomes
@@ -14,29 +14,18 @@ from .pictures import read_picture
 from .report import Report, read_report
 from .rules import read_rules
 
-USAGE = "view SNAPSHOT REPORT [--shot PICTURE]"
+USAGE = "{0} SNAPSHOT REPORT [--shot PICTURE]"
 
 
-class Parser(argparse.ArgumentParser):
-    """A parser whose refusal is a Stop of one line."""
-
-    def error(self, message: str) -> NoReturn:
-        raise Stop(End.USAGE, f"{message}; usage: {self.usage}")
-
-    def print_help(self, file: object = None) -> None:
-        """Writes the help on standard output, or is a Stop where that can't be written."""
-        write_out(self.format_help().encode("utf-8"))
-
-
-def read_words(words: Sequence[str]) -> argparse.Namespace:
+def parser(program: str = "view", example: str = "") -> Parser:
     """The words of the command."""
-    made = Parser(prog="view", allow_abbrev=False, usage=USAGE,
+    made = Parser(prog=program, usage=USAGE.format(program), example=example,
                   description="Writes the findings of a report, or of a reply to outcomes, as one HTML file. "
                               "docs/collecting.md says more.")
     made.add_argument("snapshot", metavar="SNAPSHOT", help="the page's snapshot, or the desk's reply to the page")
     made.add_argument("report", metavar="REPORT", help="the desk's text report of it, or its reply to outcomes; - is standard input")
     made.add_argument("--shot", metavar="PICTURE", help="the picture that collect --shot wrote with the snapshot")
-    return made.parse_args(words)
+    return made
 
 
 def read(path: str) -> bytes:
@@ -61,9 +50,9 @@ def read_findings(path: str) -> Report:
     return read_outcomes(data, path) if is_object(data) else read_report(data, path)
 
 
-def write(words: Sequence[str]) -> int:
+def write(words: Sequence[str], asked: Parser) -> int:
     """Writes the view that the words ask for."""
-    given = read_words(words)
+    given = asked.parse_args(words)
     snapshot = read(given.snapshot)
     page = read_page(snapshot, given.snapshot)
     report = read_findings(given.report)
@@ -74,6 +63,6 @@ def write(words: Sequence[str]) -> int:
     return End.WRITTEN
 
 
-def main(words: Sequence[str]) -> int:
+def main(words: Sequence[str], program: str = "view", example: str = "") -> int:
     """The status of a run."""
-    return run_command("view", lambda: write(words))
+    return run_command(program, lambda: write(words, parser(program, example)))
