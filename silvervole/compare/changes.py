@@ -2,16 +2,16 @@
 from __future__ import annotations
 
 import enum
-from collections import defaultdict, deque
 from dataclasses import dataclass
 from typing import Iterable, Sequence
 
+from silvervole.pairing.finding import pair_pages
 from silvervole.view.counting import FRAME, Counted, counted, of_frame
 from silvervole.view.page import Page
 from silvervole.view.report import OUTCOMES, Finding
 from silvervole.view.rules import RuleTable
 
-from .places import WAYS, WITHOUT_PAGE, Place, Places, Way
+from .places import Place, Places
 from .reading import Audit
 
 
@@ -76,18 +76,27 @@ def compare_folders(old: dict[str, Audit], new: dict[str, Audit], table: RuleTab
     return pages + [PageChanges(audit.name, "gone: NEW has no such page", ()) for name, audit in old.items() if name not in new]
 
 
-def compare(old: Audit, new: Audit, table: RuleTable, note: str = "") -> PageChanges:
-    """The changes from one audit of a page to another, in the order of the new audit."""
+def compare(old: Audit, new: Audit, table: RuleTable, note: str = "", pairs: dict[int, int] | None = None) -> PageChanges:
+    """The changes from one audit of a page to another, in the order of the new audit.
+
+    `pairs` has the old node for the new ones that have one; where none are given, they are found.
+    """
     in_frame = any(audit.page is not None and audit.page.in_frame for audit in (old, new))
     counts = [counting(audit, table, in_frame) for audit in (old, new)]
     with_pages = new.page is not None and (old.page is not None or old is NOTHING)
-    ways = WAYS if with_pages else WITHOUT_PAGE
     olds, news = (located(count.findings, audit.page if with_pages else None) for count, audit in zip(counts, (old, new)))
     changes = [Change(kind, before, after, merged(after, counts[1]))
-               for before, after in paired(olds, news, ways) if (kind := kind_of(before, after))]
+               for before, after in paired(olds, news, pairs_of(old, new) if pairs is None else pairs) if (kind := kind_of(before, after))]
     order = {one: place for place, one in enumerate([*olds, *news])}
     changes.sort(key=lambda change: (list(Kind).index(change.kind), OUTCOMES.index(change.shown.finding.outcome), order[change.shown]))
     return PageChanges(new.name, note, tuple(changes), FRAME if in_frame else "")
+
+
+def pairs_of(old: Audit, new: Audit) -> dict[int, int]:
+    """The old node for the new ones that have one; without the pages a number stands for one node in both."""
+    if old.page is not None and new.page is not None:
+        return pair_pages(old.page, new.page)
+    return {finding.node: finding.node for finding in new.findings}
 
 
 def counting(audit: Audit, table: RuleTable, in_frame: bool) -> Counted:
@@ -121,28 +130,10 @@ def kind_of(old: Located | None, new: Located | None) -> Kind | None:
     return Kind.STAYS if before == after else Kind.NEW
 
 
-def paired(olds: Sequence[Located], news: Sequence[Located], ways: Sequence[Way]) -> list[tuple[Located | None, Located | None]]:
-    """Each old finding with at most one new finding of its rule at the same place: first those of one outcome."""
-    pairs: list[tuple[Located | None, Located | None]] = []
-    left_old, left_new = set(olds), set(news)
-    for outcome in (*OUTCOMES, None):
-        for way in ways:
-            found = matches((one for one in olds if one in left_old and outcome in (None, one.finding.outcome)),
-                            (one for one in news if one in left_new and outcome in (None, one.finding.outcome)), way)
-            pairs += found
-            left_old.difference_update(old for old, _ in found)
-            left_new.difference_update(new for _, new in found)
-    return [*pairs, *((None, new) for new in news if new in left_new), *((old, None) for old in olds if old in left_old)]
-
-
-def matches(olds: Iterable[Located], news: Iterable[Located], way: Way) -> list[tuple[Located, Located]]:
-    """The pairs, one to one and in order, that a way finds."""
-    waiting: defaultdict[object, deque[Located]] = defaultdict(deque)
-    for old in olds:
-        waiting[old.finding.rule, way(old.place)].append(old)
-    found = []
+def paired(olds: Sequence[Located], news: Sequence[Located], pairs: dict[int, int]) -> list[tuple[Located | None, Located | None]]:
+    """Each finding with the one of its rule on its node's partner, where there is one."""
+    left = {(old.finding.rule, old.finding.node): old for old in olds}
+    found: list[tuple[Located | None, Located | None]] = []
     for new in news:
-        key = new.finding.rule, way(new.place)
-        if key[1] is not None and waiting[key]:
-            found.append((waiting[key].popleft(), new))
-    return found
+        found.append((left.pop((new.finding.rule, pairs.get(new.finding.node, 0)), None), new))
+    return [*found, *((old, None) for old in left.values())]
