@@ -5,15 +5,17 @@ import argparse
 import os
 from typing import Sequence
 
-from silvervole.collect.ends import End, run_command, write_file, write_out
-from silvervole.view.rules import RuleTable, read_rules
+from silvervole.collect.ends import End, run_command, write_out
+from silvervole.formats.gathering import compared
+from silvervole.formats.options import accept, add_format_options, any_format, write_formats
+from silvervole.view.rules import read_rules
 from silvervole.words import Parser
 
-from .changes import PageChanges, compare, compare_folders
-from .reading import read_audit, read_folder
-from .writing import junit_of, text_of
+from .changes import compare_folders
+from .reading import Audit, read_audit, read_folder
+from .writing import text_of
 
-USAGE = "{0} OLD NEW [--old-snapshot FILE --new-snapshot FILE] [--junit FILE]"
+USAGE = "{0} OLD NEW [--old-snapshot FILE --new-snapshot FILE] [--accepted FILE] [--FORMAT FILE ..]"
 NEW_FAILURE = 1
 
 
@@ -26,7 +28,7 @@ def parser(program: str = "compare", example: str = "") -> Parser:
     made.add_argument("new", metavar="NEW", help="the later one")
     made.add_argument("--old-snapshot", metavar="FILE", help="the earlier snapshot, of which OLD speaks")
     made.add_argument("--new-snapshot", metavar="FILE", help="the later one, of which NEW speaks")
-    made.add_argument("--junit", metavar="FILE", help="writes the same as JUnit XML")
+    add_format_options(made)
     return made
 
 
@@ -43,21 +45,25 @@ def read_words(words: Sequence[str], made: Parser) -> argparse.Namespace:
     return given
 
 
-def changes_of(given: argparse.Namespace, table: RuleTable) -> list[PageChanges]:
-    """The changes of the files or folders that the words name."""
+def audits_of(given: argparse.Namespace) -> tuple[dict[str, Audit], dict[str, Audit]]:
+    """The audits of the files or folders that the words name, by the names of their pages in folders."""
     if given.folders:
-        return compare_folders(read_folder(given.old), read_folder(given.new), table)
-    return [compare(read_audit(given.old, given.old_snapshot), read_audit(given.new, given.new_snapshot), table)]
+        return read_folder(given.old), read_folder(given.new)
+    return {"": read_audit(given.old, given.old_snapshot)}, {"": read_audit(given.new, given.new_snapshot)}
 
 
 def work(words: Sequence[str], asked: Parser) -> int:
     """Writes the changes that the words ask for."""
     given, table = read_words(words, asked), read_rules()
-    pages = changes_of(given, table)
-    if given.junit is not None:
-        write_file(given.junit, junit_of(pages, table))
-    write_out(text_of(pages, table).encode("utf-8"))
-    return NEW_FAILURE if any(change.fails for page in pages for change in page.changes) else End.WRITTEN
+    olds, news = audits_of(given)
+    pages = compare_folders(olds, news, table)
+    listing = None
+    if any_format(given):
+        listing = accept(compared(pages, olds, news, table), given, table, asked.prog)
+        write_formats(listing, given)
+    write_out(text_of(pages, table, listing).encode("utf-8"))
+    fails = listing.fails if listing is not None else any(change.fails for page in pages for change in page.changes)
+    return NEW_FAILURE if fails else End.WRITTEN
 
 
 def main(words: Sequence[str], program: str = "compare", example: str = "") -> int:

@@ -7,16 +7,18 @@ from dataclasses import dataclass
 from silvervole.collect.ends import End, Stop
 from silvervole.view.command import read, read_findings
 from silvervole.view.page import Page, read_page
-from silvervole.view.report import Finding
+from silvervole.view.report import Finding, Report
 
 
 @dataclass(frozen=True)
 class Audit:
-    """What was found on a page, and the page itself where its snapshot is given."""
+    """What was found on a page, and the page itself where its snapshot is given; the report, and the snapshot's file."""
 
     name: str
     findings: tuple[Finding, ...]
     page: Page | None
+    report: Report | None = None
+    snapshot: str = ""
 
 
 def read_audit(path: str, snapshot: str | None) -> Audit:
@@ -28,7 +30,7 @@ def read_audit(path: str, snapshot: str | None) -> Audit:
         strange = next((finding for finding in report.findings if finding.node not in page.nodes), None)
         if strange is not None:
             raise Stop(End.INPUT, f"{path} speaks of node {strange.node}, which {snapshot} doesn't hold: it is of another page")
-    return Audit(name, report.findings, page)
+    return Audit(name, report.findings, page, report, snapshot or "")
 
 
 def read_folder(path: str) -> dict[str, Audit]:

@@ -3,7 +3,8 @@ from __future__ import annotations
 
 import re
 from collections import Counter
-from dataclasses import dataclass, replace
+from dataclasses import dataclass, field, replace
+from typing import Mapping
 
 from silvervole.collect.ends import End, Stop
 
@@ -74,7 +75,11 @@ class CriterionLine:
 
 @dataclass(frozen=True)
 class Findings:
-    """All that the view shows."""
+    """All that the view shows.
+
+    Where a team accepts findings, those stand apart. `notes` has what else is said of a finding, by its rule and node, and
+    `unmatched` a line for each acceptance that matches nothing.
+    """
 
     address: str
     revision: int | None
@@ -89,6 +94,9 @@ class Findings:
     rules: tuple[tuple[Rule, dict[str, int]], ...]
     has_picture: bool
     in_frame: bool
+    accepted: tuple[RulePart, ...] = ()
+    notes: Mapping[tuple[str, int], tuple[str, ...]] = field(default_factory=dict)
+    unmatched: tuple[str, ...] = ()
 
 
 def bring_together(report: Report, page: Page, table: RuleTable, picture: Picture | None) -> Findings:
@@ -204,6 +212,6 @@ def criterion_lines(sections: dict[str, tuple[RulePart, ...]], table: RuleTable,
         if parts:
             counts = {outcome: sum(part.count for part in parts if part.outcome == outcome) for outcome in OUTCOMES}
             lines.append(CriterionLine(criterion, counts, tuple(parts)))
-        elif any(criterion in rule.criteria for rule in rules):
+        elif criterion and any(criterion in rule.criteria for rule in rules):
             quiet.append(criterion)
     return tuple(lines), tuple(quiet)

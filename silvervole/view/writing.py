@@ -3,6 +3,7 @@ from __future__ import annotations
 
 import pathlib
 import re
+from typing import Sequence
 
 from silvervole.collect.ends import End, Stop
 
@@ -14,7 +15,7 @@ from .report import OUTCOMES
 
 HERE = pathlib.Path(__file__).resolve().parent
 HEADINGS = {"failed": "Failed", "cantTell": "For a person to judge", "passed": "Passed"}
-WORDS = {"failed": "failed", "cantTell": "to judge", "passed": "passed"}
+WORDS = {"failed": "failed", "cantTell": "to judge", "passed": "passed", "accepted": "accepted"}
 
 
 # Marks that turn the direction of what follows, and characters that show nothing.
@@ -31,6 +32,16 @@ def visible(text: str) -> str:
 
 def write_view(findings: Findings, picture: Picture | None) -> str:
     """The HTML file's text."""
+    return rendered("findings.html", picture.data if picture else "", page=findings, headings=HEADINGS, frame=FRAME)
+
+
+def write_list(views: Sequence[tuple[str, Findings]], unmatched: Sequence[str]) -> str:
+    """The text of the HTML file that leads to the views of many pages, each by the name of its file."""
+    return rendered("list.html", "", views=views, unmatched=unmatched)
+
+
+def rendered(name: str, picture: str, **values: object) -> str:
+    """The text of a template, with a picture in Base64; a Stop with the status BROWSER where Jinja2 isn't there."""
     try:
         import jinja2
         from markupsafe import Markup
@@ -39,8 +50,6 @@ def write_view(findings: Findings, picture: Picture | None) -> str:
     environment = jinja2.Environment(
         loader=jinja2.FileSystemLoader(HERE), autoescape=True, undefined=jinja2.StrictUndefined,
         trim_blocks=True, lstrip_blocks=True, finalize=lambda value: visible(value) if type(value) is str else value)
-    template = environment.get_template("findings.html")
     # Base64 holds nothing to escape, and may be long.
-    data = Markup(picture.data) if picture else ""
-    return template.render(page=findings, picture=data, outcomes=OUTCOMES, headings=HEADINGS, words=WORDS, frame=FRAME,
-                           shortened=shortened) + "\n"
+    return environment.get_template(name).render(
+        picture=Markup(picture), outcomes=OUTCOMES, words=WORDS, shortened=shortened, **values) + "\n"

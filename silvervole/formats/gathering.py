@@ -1,0 +1,109 @@
+"""Makes the list of findings: of an audited page, and of two audits that were compared."""
+from __future__ import annotations
+
+from dataclasses import replace
+from typing import Iterable, Mapping, Sequence
+
+from silvervole.compare.changes import Change, PageChanges
+from silvervole.compare.places import Place, Places
+from silvervole.compare.reading import Audit
+from silvervole.view.counting import counted, of_frame
+from silvervole.view.findings import NOTHING, Target, TargetMaker, advice_on, bring_together
+from silvervole.view.page import Page
+from silvervole.view.pictures import Picture
+from silvervole.view.report import Finding, Report
+from silvervole.view.rules import RuleTable
+
+from .fingerprints import Key, fingerprints, kept
+from .listing import MENDED, AboutPage, Entry, ListedPage, Listing, worst_first
+from .source import Lines
+
+
+class EntryMaker:
+    """Makes the entries of one audit of a page; without its snapshot they have no path and no start tag."""
+
+    def __init__(self, about: AboutPage, audit: Audit, table: RuleTable, picture: Picture | None = None) -> None:
+        self.about = about
+        self.table = table
+        self.targets = TargetMaker(audit.page, picture) if audit.page is not None else None
+        self.places = places_of(audit)
+        self.marks: Mapping[Key, str] = fingerprints(about.address, audit.page, audit.findings, self.places)
+        self.lines = Lines(audit.page, about.address, about.file, about.snapshot)
+
+    def entry(self, finding: Finding, beneath: Iterable[Finding] = (), change: str = "") -> Entry:
+        """The entry of a finding, and beneath it those of what it merges."""
+        rule = self.table.rule(finding.rule)
+        return Entry(
+            self.about, rule, finding.outcome, finding.reason, finding.judge, finding.automatic,
+            advice_on(rule, finding.reason, finding.outcome, finding.automatic), self.target(finding),
+            self.places[finding.node], self.marks[finding.rule, finding.node], self.lines.path, self.lines.line(finding.node),
+            change, tuple(self.entry(merged, change=change) for merged in beneath))
+
+    def target(self, finding: Finding) -> Target:
+        """What is said of the finding's node."""
+        if self.targets is not None:
+            return self.targets.found(finding)
+        return Target(finding.node, "", False, "", "", NOTHING, NOTHING, "", None)
+
+
+def places_of(audit: Audit) -> dict[int, Place]:
+    """The places of an audit's findings, by the numbers of their nodes."""
+    numbers = {finding.node for finding in audit.findings}
+    if audit.page is None:
+        return {number: Place(number) for number in numbers}
+    places = Places(audit.page)
+    return {number: places.place(number) for number in numbers}
+
+
+def about_page(page: Page, report: Report, name: str = "", file: str = "", snapshot: str = "", seconds: float | None = None) -> AboutPage:
+    """What is said of a page as a whole."""
+    address = report.address or page.address
+    return AboutPage(name or address, address, page.title, page.state, report.revision, len(page.nodes), file, snapshot, seconds)
+
+
+def listed_page(about: AboutPage, page: Page, report: Report, table: RuleTable, picture: Picture | None = None) -> ListedPage:
+    """The findings of a report on a page; a Stop with the status INPUT where the report is of another page."""
+    view = bring_together(report, page, table, picture)
+    findings = of_frame(report.findings, table) if page.in_frame else report.findings
+    count = counted(findings, table)
+    maker = EntryMaker(about, Audit(about.name, findings, page), table, picture)
+    entries = [maker.entry(finding, count.beneath.get((finding.rule, finding.node), ())) for finding in count.findings]
+    return ListedPage(about, tuple(worst_first(entries)), view.inapplicable, view, picture)
+
+
+def compared_page(changes: PageChanges, old: Audit | None, new: Audit | None, table: RuleTable) -> ListedPage:
+    """What became of the findings on a page of which there are two audits, or one."""
+    olds = EntryMaker(about_audit(changes, old), old, table) if old is not None else None
+    news = EntryMaker(about_audit(changes, new), new, table) if new is not None else None
+    if olds is not None and news is not None:
+        news.marks = kept(olds.marks, news.marks, pairs_of(changes.changes))
+    about = news.about if news is not None else olds.about if olds is not None else AboutPage(changes.name, changes.name)
+    entries = [replace(entry, page=about) for change in changes.changes if (entry := entry_of(change, olds, news)) is not None]
+    view = bring_together(new.report, new.page, table, None) if new is not None and new.page is not None and new.report is not None else None
+    return ListedPage(about, tuple(worst_first(entries)), (), view)
+
+
+def entry_of(change: Change, olds: EntryMaker | None, news: EntryMaker | None) -> Entry | None:
+    """The entry of a change, made from the audit that has what is spoken of."""
+    maker = olds if change.kind.value == MENDED else news
+    return maker.entry(change.shown.finding, change.merged, change.kind.value) if maker is not None else None
+
+
+def about_audit(changes: PageChanges, audit: Audit) -> AboutPage:
+    """What is said of the page of an audit."""
+    page = audit.page
+    if page is None:
+        return AboutPage(changes.name, audit.name, note=changes.note)
+    return AboutPage(changes.name, page.address, page.title, page.state, page.revision, len(page.nodes), "", audit.snapshot, None, changes.note)
+
+
+def compared(changes: Sequence[PageChanges], olds: Mapping[str, Audit], news: Mapping[str, Audit], table: RuleTable) -> Listing:
+    """What became of the findings of all pages, by the names under which the audits have them."""
+    names = [*news, *(name for name in olds if name not in news)]
+    return Listing(tuple(compared_page(change, olds.get(name), news.get(name), table) for name, change in zip(names, changes)), compared=True)
+
+
+def pairs_of(changes: Iterable[Change]) -> list[tuple[Key, Key]]:
+    """The findings that are in both audits, each by its rule and its nodes."""
+    return [((change.old.finding.rule, change.old.finding.node), (change.new.finding.rule, change.new.finding.node))
+            for change in changes if change.old is not None and change.new is not None]
