@@ -52,15 +52,21 @@ class App {
     this.say('');
   }
 
-  /** Goes on to other words of the address. */
-  async go(words) {
+  /** Goes on to other words of the address; where the page's outcomes were just asked for, with those. */
+  async go(words, loaded) {
     history.pushState(null, '', this.address(words));
-    await this.show();
+    await this.show(loaded);
     byId('title').focus();
   }
 
+  /** Says who is signed in. */
+  tellCaller() {
+    const { caller } = desk.session;
+    byId('caller').textContent = caller ? `Signed in as ${caller}` : 'Not signed in';
+  }
+
   /** Shows what the address names. */
-  async show() {
+  async show(loaded) {
     this.shown += 1;
     const mine = this.shown;
     const { site, page, judge, show } = this.words;
@@ -70,13 +76,14 @@ class App {
       const current = () => mine === this.shown;
       if (!site) showStart(this);
       else if (!page) await showSite(this, site, current);
-      else if (judge) await showJudging(this, site, page, judge, current);
+      else if (judge) await showJudging(this, site, page, judge, current, loaded);
       else if (show === 'names') await showNames(this, site, page, current);
-      else await showPage(this, site, page, current);
+      else await showPage(this, site, page, current, loaded);
       if (current()) this.say('');
     } catch (error) {
       if (mine === this.shown) this.refuse(error);
     }
+    this.tellCaller();
   }
 
   /** The way from the desk to what is shown. */
@@ -104,9 +111,7 @@ function followLinks(app) {
 }
 
 try {
-  const { table, caller } = await loadRules();
-  byId('caller').textContent = caller ? `Signed in as ${caller}` : 'Not signed in';
-  const app = new App(table);
+  const app = new App(await loadRules());
   followLinks(app);
   await app.show();
 } catch (error) {

@@ -1,6 +1,9 @@
 /** Asks the desk, and says what it refused. */
 
 const PATIENCE = 300_000;
+// How often a request is sent where the proxy takes no more for now, and how many seconds go by between where it doesn't say.
+const TRIES = 6;
+const PAUSE = 2;
 
 /** Why a request wasn't done: the desk's refusal, the proxy's, or that nobody answered. */
 export class Refusal extends Error {
@@ -20,10 +23,29 @@ const readable = (text) => {
 /** What a promise gives; where it fails, the refusal that the desk is away. */
 const reached = (promise) => promise.catch(() => { throw new Refusal(0, { refused: 'DeskAway' }); });
 
+/** Who is signed in, as the proxy said with its last reply; empty where it named nobody. */
+export const session = { caller: '' };
+
+/** Keeps the name that a reply of the proxy brings. */
+export function noteCaller(reply) {
+  session.caller = reply.headers.get('x-caller') ?? session.caller;
+}
+
+const pause = (seconds) => new Promise((done) => { setTimeout(done, seconds * 1000); });
+
+/** The reply to a request. Where the proxy takes no more for now, it hasn't asked the desk: it is asked again a little later. */
+async function replyTo(path, given) {
+  for (let tries = 1; ; tries += 1) {
+    const reply = await reached(fetch(path, { ...given, cache: 'no-store', redirect: 'error', signal: AbortSignal.timeout(PATIENCE) }));
+    if (reply.status !== 429 || tries === TRIES) return reply;
+    await pause(Number(reply.headers.get('retry-after')) || PAUSE);
+  }
+}
+
 /** An accepted reply, whose body is yet to be read; a Refusal otherwise. */
 async function accepted(method, path, body) {
-  const sent = body === undefined ? {} : { body: JSON.stringify(body) };
-  const reply = await reached(fetch(path, { method, ...sent, cache: 'no-store', redirect: 'error', signal: AbortSignal.timeout(PATIENCE) }));
+  const reply = await replyTo(path, { method, ...(body === undefined ? {} : { body: JSON.stringify(body) }) });
+  noteCaller(reply);
   if (reply.ok) return reply;
   const refused = readable(await reached(reply.text()));
   throw new Refusal(reply.status, refused.refused ? refused : { refused: reply.status === 401 ? 'NoCaller' : 'DeskAway' });
@@ -63,10 +85,13 @@ export async function siteFile(site, form, came) {
 
 const ROLES = { judge: 'a judge', reader: 'a reader', editor: 'an editor', owner: 'an owner' };
 
+/** What is needed, as a person would say it. */
+export const roleNamed = (needed) => ROLES[needed] ?? needed;
+
 const SENTENCES = {
   EvidenceMoved: () => 'The page has changed since you opened it: what the rule looks at is not what you saw.',
   SameHand: () => 'You sent this revision of the page yourself, so somebody else has to judge it.',
-  NotAllowed: ({ needed }) => `You are not allowed to do this on this site: it takes ${ROLES[needed] ?? needed}.`,
+  NotAllowed: ({ needed }) => `You are not allowed to do this on this site: it takes ${roleNamed(needed)}.`,
   NoCaller: () => 'You are not signed in, or under a name that the desk does not take. Sign in again, in another tab, and try once more.',
   NoRoute: () => 'The desk does not know what was asked: a name is not of the form that it takes, or the desk is older than this page.',
   NoSite: () => 'There is no such site.',

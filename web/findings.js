@@ -3,20 +3,12 @@
 import { choices, filter } from './choosing.js';
 import * as desk from './desk.js';
 import { counted, el, grouped } from './dom.js';
-import { Nodes } from './nodes.js';
+import * as kept from './kept.js';
+import { loadPage } from './pages.js';
+import { pager, partOf } from './paging.js';
+import { openQuestions, sizes } from './questions.js';
 import { HEADINGS, OUTCOMES } from './rules.js';
-import { adviceOf, facts, isForPeople, isOpen, placeOf, ruleMeta } from './targets.js';
-
-/** The outcomes of a page, and its nodes at the same revision. */
-export async function loadPage(site, page) {
-  for (let tries = 0; tries < 3; tries += 1) {
-    const [reply, shown] = await Promise.all([desk.outcomes(site, page), desk.snapshot(site, page)]);
-    if (reply.rev === shown.rev) {
-      return { outcomes: reply.outcomes, inapplicable: reply.inapplicable, rev: reply.rev, nodes: new Nodes(shown.snapshot), address: shown.snapshot.url };
-    }
-  }
-  throw new desk.Refusal(409, { refused: 'EvidenceMoved' });
-}
+import { adviceOf, facts, isForPeople, isMerged, placeOf, ruleMeta } from './targets.js';
 
 /** The choices among the outcomes, criteria and rules of a page. */
 function filters(app, outcomes) {
@@ -32,37 +24,65 @@ function filters(app, outcomes) {
 const isShown = (app, { outcome, criterion, rule, node }) => (one) => (!outcome || one.outcome === outcome) && (!node || String(one.node) === node)
   && (!criterion || app.rules.rule(one.rule).criteria.includes(criterion)) && (!rule || one.rule === rule);
 
-function target(app, page, outcome) {
+/** A link to judge an outcome, or to look closer where this person may not judge; null where nobody judges it. */
+function judgeLink(app, page, outcome, about) {
+  if (!isForPeople(outcome)) return null;
   const { site, page: name } = app.words;
-  const about = `${page.nodes.kind(outcome.node)}, node ${outcome.node}`;
-  const judge = { site, page: name, judge: placeOf(outcome) };
-  return el('li', { class: 'target' }, el('div', { class: 'facts' }, el('h4', {}, about), facts(page.nodes, outcome),
-    isForPeople(outcome) ? el('p', {}, app.link(judge, `${outcome.by ? 'Judge again' : 'Judge'}: ${about}`)) : null));
+  const others = page.sizes(outcome) - 1;
+  const judging = outcome.by ? 'Judge again' : 'Judge';
+  return el('p', {}, app.link({ site, page: name, judge: placeOf(outcome) }, `${page.needed ? 'Look closer' : judging}: ${about}`),
+    others ? ` One question with ${counted(others, 'other finding', 'other findings')}.` : '');
 }
 
-/** The findings of one rule with one outcome; targets with one reason stand together. */
-function rulePart(app, page, id, outcomes) {
-  const reasons = grouped(outcomes, (one) => `${one.reason} ${one.automatic}`);
-  return el('div', { class: `rule ${outcomes[0].outcome}` }, el('h3', {}, app.rules.rule(id).name, ' ', el('small', {}, counted(outcomes.length, 'finding', 'findings'))),
+function target(app, page, outcome) {
+  const about = `${page.nodes.kind(outcome.node)}, node ${outcome.node}`;
+  return el('li', { class: 'target' }, el('div', { class: 'facts' }, el('h4', {}, about), facts(page, outcome), judgeLink(app, page, outcome, about)));
+}
+
+/** The findings of one rule with one outcome, of which some are shown; targets with one reason stand together. */
+function rulePart(app, page, id, some, all) {
+  const reasons = grouped(some, (one) => `${one.reason} ${one.automatic}`);
+  const many = counted(all.length, 'finding', 'findings') + (some.length < all.length ? `, ${some.length} of them here` : '');
+  return el('div', { class: `rule ${some[0].outcome}` },
+    el('h3', {}, app.rules.rule(id).name, ' ', el('small', {}, isForNobody(some[0]) ? 'follows from others' : many)),
     ruleMeta(app.rules, id), [...reasons.values()].map((alike) => el('div', { class: 'reason' }, adviceOf(app.rules, alike[0]),
       el('ul', { class: 'targets' }, alike.map((one) => target(app, page, one))))), mergedPart(app, page, id));
 }
+
+/** Whether it is undecided and no person judges it. */
+const isForNobody = (outcome) => outcome.outcome === 'cantTell' && isMerged(outcome);
 
 /** Beneath a composite the findings that it merges, which count through it alone; null of another rule. */
 function mergedPart(app, page, id) {
   const inputs = app.rules.rule(id).inputs ?? [];
   const merged = page.outcomes.filter((one) => inputs.includes(one.rule));
   if (!merged.length) return null;
-  return [el('p', { class: 'means' }, 'It merges these, which count through it alone:'), merged.map((one) => el('div', { class: `merged ${one.outcome}` },
+  const isOpen = page.outcomes.some((one) => one.rule === id && isForNobody(one));
+  return [el('p', { class: 'means' }, `${isOpen ? 'Nobody judges it: it follows from these' : 'It merges these'}, which count through it alone:`), merged.map((one) => el('div', { class: `merged ${one.outcome}` },
     el('p', {}, el('strong', {}, `${HEADINGS[one.outcome]}: ${app.rules.rule(one.rule).name}`)), ruleMeta(app.rules, one.rule), adviceOf(app.rules, one),
     el('ul', { class: 'targets' }, target(app, page, one))))].flat();
 }
 
-function section(app, page, outcome, outcomes) {
-  const byRule = grouped(outcomes, (one) => one.rule);
+/** The findings that a person judges: those of the list, and of a composite what it merges in its place. */
+function judgedOf(app, page, outcomes) {
+  const inputs = outcomes.filter(isForNobody).flatMap((one) => page.outcomes.filter(({ rule, node }) => node === one.node && (app.rules.rule(one.rule).inputs ?? []).includes(rule)));
+  return [...outcomes, ...inputs].filter((one) => one.outcome === 'cantTell' && isForPeople(one));
+}
+
+/** How many findings have an outcome; of those to judge, how many somebody left open. */
+function countOf(app, page, outcome, outcomes) {
+  if (outcome !== 'cantTell') return counted(outcomes.length, 'finding', 'findings');
+  const judged = judgedOf(app, page, outcomes);
+  const left = judged.filter((one) => one.by).length;
+  return counted(judged.length, 'finding', 'findings') + (left ? `, ${left} left open by who judged` : '');
+}
+
+/** The findings with one outcome, of which some are shown. */
+function section(app, page, outcome, some, all) {
+  const byRule = grouped(some, (one) => one.rule);
   return el('section', { class: `outcome ${outcome}`, 'aria-labelledby': outcome },
-    el('h2', { id: outcome }, HEADINGS[outcome], ' ', el('small', {}, counted(outcomes.length, 'finding', 'findings'))),
-    [...byRule].map(([id, some]) => rulePart(app, page, id, some)));
+    el('h2', { id: outcome }, HEADINGS[outcome], ' ', el('small', {}, countOf(app, page, outcome, all))),
+    [...byRule].map(([id, ofRule]) => rulePart(app, page, id, ofRule, all.filter((one) => one.rule === id))));
 }
 
 /** Says that one node's findings alone are shown; null where no node is chosen. */
@@ -74,23 +94,35 @@ function nodePart(app, page) {
 }
 
 /** Links to judge what is open, and to the names of the page. */
-function waysOn(app, site, name, outcomes) {
-  const open = outcomes.filter(isOpen);
-  return el('p', { class: 'buttons' },
-    open.length ? app.link({ site, page: name, judge: placeOf(open[0]) }, `Judge ${counted(open.length, 'finding', 'findings')}, one after another`, { class: 'button' }) : null,
-    app.link({ site, page: name, show: 'names' }, 'Names as a screen reader says them', { class: 'button second' }));
+function waysOn(app, site, name, page) {
+  const open = openQuestions(page.outcomes);
+  const findings = open.flat().length;
+  const many = counted(open.length, 'question', 'questions') + (findings > open.length ? ` on ${findings} findings` : '');
+  return [page.needed && open.length ? el('p', {}, `${many} to judge, which on ${site} takes ${desk.roleNamed(page.needed)}.`) : null,
+    el('p', { class: 'buttons' },
+      open.length && !page.needed ? app.link({ site, page: name, judge: placeOf(open[0][0]) }, `Judge ${many}, one after another`, { class: 'button' }) : null,
+      app.link({ site, page: name, show: 'names' }, 'Names as a screen reader says them', { class: 'button second' }))];
+}
+
+/** The findings of a page that are as the address says, a part of them. */
+function listed(app, page, outcomes) {
+  const shown = OUTCOMES.map((outcome) => outcomes.filter((one) => one.outcome === outcome));
+  const all = shown.flat();
+  const { start, part } = partOf(app, all);
+  if (!all.length) return el('p', {}, 'Nothing here is as you chose.');
+  return [pager(app, start, all.length, 'above'),
+    OUTCOMES.map((outcome, place) => [outcome, part.filter((one) => one.outcome === outcome), shown[place]]).filter(([, some]) => some.length)
+      .map(([outcome, some, ofOutcome]) => section(app, page, outcome, some, ofOutcome)), pager(app, start, all.length, 'below')].flat();
 }
 
 /** Shows a page's findings. */
-export async function showPage(app, site, name, current) {
-  const page = await loadPage(site, name);
+export async function showPage(app, site, name, current, loaded) {
+  const page = loaded ?? await loadPage(site, name);
   if (!current()) return;
+  Object.assign(page, { sizes: sizes(page.outcomes), needed: kept.neededRole({ caller: desk.session.caller, site }) });
   const { counting } = app.rules.counting(page.outcomes);
-  const shown = counting.filter(isShown(app, app.words));
-  const sections = OUTCOMES.map((outcome) => [outcome, shown.filter((one) => one.outcome === outcome)]).filter(([, some]) => some.length);
   app.put(`Page ${name} of ${site}`,
     el('p', { class: 'address' }, el('a', { href: page.address, rel: 'noreferrer' }, page.address), ` revision ${page.rev}`),
-    waysOn(app, site, name, page.outcomes), filters(app, counting), nodePart(app, page),
-    sections.length ? sections.map(([outcome, some]) => section(app, page, outcome, some)) : el('p', {}, 'Nothing here is as you chose.'),
+    waysOn(app, site, name, page), filters(app, counting), nodePart(app, page), listed(app, page, counting.filter(isShown(app, app.words))),
     el('p', { class: 'quiet' }, `${counted(page.inapplicable.length, 'rule', 'rules')} found nothing on this page to judge.`));
 }

@@ -1,24 +1,30 @@
-/** What this browser keeps: notes that were typed and not yet taken by the desk. */
+/** What this browser keeps for each person: notes that the desk hasn't taken yet, and on which sites it refused their role. */
 
 const memory = new Map();
 
 /** The value under a key; what can't be kept by the browser is kept as long as this page is open. */
-function read(key) {
+function read(key, store) {
   if (memory.has(key)) return memory.get(key);
-  try { return localStorage.getItem(key); } catch { return null; }
+  try { return window[store].getItem(key); } catch { return null; }
 }
 
-function write(key, value) {
+function write(key, store, value) {
   memory.set(key, value);
   try {
-    if (value === null) localStorage.removeItem(key);
-    else localStorage.setItem(key, value);
+    if (value === null) window[store].removeItem(key);
+    else window[store].setItem(key, value);
   } catch { /* it is kept in memory */ }
 }
 
-const draftKey = (place) => `draft:${place.site}/${place.page}/${place.rule}/${place.node}`;
+// Names have no slash. Notes outlive the browser's window; a refused role is forgotten with it.
+const draftKey = ({ caller, site, page, rule, node }) => `draft:${[caller, site, page, rule, node].join('/')}`;
+const roleKey = ({ caller, site }) => `role:${[caller, site].join('/')}`;
 
-/** The note and verdict that were begun for an outcome. */
-export const draft = (place) => JSON.parse(read(draftKey(place)) ?? '{"note":"","verdict":""}');
-export const keepDraft = (place, begun) => write(draftKey(place), JSON.stringify(begun));
-export const dropDraft = (place) => write(draftKey(place), null);
+/** The note and verdict that a person began for an outcome. */
+export const draft = (place) => JSON.parse(read(draftKey(place), 'localStorage') ?? '{"note":"","verdict":""}');
+export const keepDraft = (place, begun) => write(draftKey(place), 'localStorage', JSON.stringify(begun));
+export const dropDraft = (place) => write(draftKey(place), 'localStorage', null);
+
+/** The role that a person lacks on a site, as the desk said; null where it didn't. */
+export const neededRole = (place) => read(roleKey(place), 'sessionStorage');
+export const keepNeededRole = (place, needed) => write(roleKey(place), 'sessionStorage', needed);

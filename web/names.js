@@ -3,8 +3,8 @@
 import { choices, filter } from './choosing.js';
 import * as desk from './desk.js';
 import { counted, el, grouped } from './dom.js';
-
-const TRIES = 3;
+import { Nodes } from './nodes.js';
+import { atOneRevision } from './pages.js';
 
 /** Where a name comes from, in words, by the word of the desk. */
 const SOURCES = {
@@ -14,23 +14,27 @@ const SOURCES = {
   HostText: 'from its alt, value, legend, caption or the like',
   Content: 'from its content',
   Title: 'from its title attribute',
+  DocumentTitle: 'from the title element',
   Placeholder: 'from its placeholder',
 };
 
 /** The names of a page, and its outcomes at the same revision: the names come without one, so they are asked for in between. */
-async function loadNames(app, site, page, current) {
+function loadNames(app, site, page, current) {
   const step = (what, done) => { if (current()) app.progress(`Asking for the ${what} of ${page}, ${done + 1} of 3`, done, 3); };
-  for (let tries = 0; tries < TRIES; tries += 1) {
+  return atOneRevision(async () => {
     step('findings', 0);
     const { outcomes, rev } = await desk.outcomes(site, page);
     step('names', 1);
     const names = await desk.names(site, page);
     step('page', 2);
     const shown = await desk.snapshot(site, page);
-    if (shown.rev === rev) return { names, outcomes, rev, address: shown.snapshot.url };
-  }
-  throw new desk.Refusal(409, { refused: 'EvidenceMoved' });
+    return shown.rev === rev ? { names: withTitle(names, new Nodes(shown.snapshot)), outcomes, rev, address: shown.snapshot.url } : null;
+  });
 }
+
+/** The names, that of the document being its title, as a screen reader says it. */
+const withTitle = (names, nodes) => names.map((one) => (one.node === nodes.root && one.role === 'document' && !one.name && nodes.title
+  ? { ...one, name: nodes.title, source: 'DocumentTitle' } : one));
 
 /** A link to the findings of a node. */
 function found(app, { site, page }, node, outcomes) {

@@ -1,21 +1,38 @@
-/** What is said of a node to a person who looks for it: from a page's snapshot. */
+/** What is said of a node to a person who looks for it: from a page's snapshot, whose rows stand in the order of the page. */
 
 import { grouped } from './dom.js';
 
 const MOST = 240;
+const AROUND = 160;
+// What is read along with the words around it; all else begins and ends words.
+const INLINE = new Set(['a', 'abbr', 'b', 'bdi', 'bdo', 'cite', 'code', 'data', 'del', 'dfn', 'em', 'font', 'i', 'ins', 'kbd', 'mark', 'q', 's',
+  'samp', 'small', 'span', 'strong', 'sub', 'sup', 'time', 'tt', 'u', 'var', 'wbr']);
+const HEADING = /^h[1-6]$/;
+// What the collector adds to the ids of shadow trees, and the ids that it makes: the page itself hasn't those.
+const MADE = /@(shadow|made)-/;
+
+const tidy = (text) => text.replace(/\s+/g, ' ').trim();
 const shortened = (text, most) => (text.length <= most ? text : `${text.slice(0, most - 1).trimEnd()}…`);
+/** The end of a text where it is long. */
+const lastOf = (text, most) => (text.length <= most ? text : `…${text.slice(1 - most).trimStart()}`);
+const isText = (row) => row.text !== undefined;
+const isDrawn = (row) => row.f.includes('v');
+const tagOf = (row) => row.tag.toLowerCase();
+const attribute = (row, name) => row.attrs.find(([given]) => given.toLowerCase() === name)?.[1];
 
 export class Nodes {
   constructor(snapshot) {
-    this.rows = new Map(snapshot.nodes.map((row) => [row.n, row]));
-    this.kids = grouped(snapshot.nodes, (row) => row.p);
-    this.root = snapshot.nodes[0].n;
+    this.list = snapshot.nodes;
+    this.rows = new Map(this.list.map((row) => [row.n, row]));
+    this.places = new Map(this.list.map((row, place) => [row.n, place]));
+    this.kids = grouped(this.list, (row) => row.p);
+    this.root = this.list[0].n;
   }
 
   /** The element of a node: itself, or the one that a text stands in. */
   element(number) {
     const row = this.rows.get(number);
-    return row && row.text !== undefined ? this.rows.get(row.p) : row;
+    return row && isText(row) ? this.rows.get(row.p) : row;
   }
 
   /** The element's start tag as HTML would write it, long values shortened. */
@@ -25,15 +42,126 @@ export class Nodes {
     return `<${[row.tag, ...attrs].join(' ')}>`;
   }
 
-  /** The texts in a node, the front of them where they are long. */
+  /** Where in the list the row behind a node and all that is in it stands. */
+  end(number) {
+    let last = this.rows.get(number);
+    for (let kids = this.kids.get(last.n); kids; kids = this.kids.get(last.n)) last = kids[kids.length - 1];
+    return this.places.get(last.n) + 1;
+  }
+
+  /** The element around a row that begins and ends words. */
+  block(row) {
+    let up = this.rows.get(row.p);
+    while (up && INLINE.has(tagOf(up))) up = this.rows.get(up.p);
+    return up;
+  }
+
+  /** What a row gives its readers, with the block that it stands in; null where that is nothing. What isn't drawn counts where the whole is wanted. */
+  piece(row, isWhole) {
+    if (isText(row)) return isWhole || isDrawn(row) ? { text: row.text, block: this.block(row) } : null;
+    const alt = tagOf(row) === 'img' ? attribute(row, 'alt') ?? '' : null;
+    return alt === null && tagOf(row) !== 'br' ? null : { text: ` ${alt ?? ''} `, block: this.block(row) };
+  }
+
+  /** Pieces as one text, with a space where another block begins. */
+  joined(pieces) {
+    return tidy(pieces.map(({ text, block }, place) => (place > 0 && pieces[place - 1].block !== block ? ` ${text}` : text)).join(''));
+  }
+
+  /** The pieces of the rows from one place on, in steps of 1 or -1, until they are long enough or the end is reached. */
+  pieces(from, end, most, step = 1, isWhole = false) {
+    const found = [];
+    let size = 0;
+    for (let place = from; place !== end && size <= most; place += step) {
+      const piece = this.piece(this.list[place], isWhole);
+      if (piece) found.push(piece);
+      size += piece ? piece.text.trim().length : 0;
+    }
+    return step === 1 ? found : found.reverse();
+  }
+
+  /** The texts in a node that are drawn, and the alternatives of its images; all its texts where it isn't drawn. Of a long text it is the front. */
   text(number) {
-    const parts = [];
-    const add = (row) => {
-      if (row.text !== undefined) parts.push(row.text);
-      for (const kid of this.kids.get(row.n) ?? []) add(kid);
-    };
-    add(this.rows.get(number));
-    return shortened(parts.join('').replace(/\s+/g, ' ').trim(), MOST);
+    const row = this.rows.get(number);
+    return shortened(this.joined(this.pieces(this.places.get(number), this.end(number), 4 * MOST, 1, !isDrawn(row))), MOST);
+  }
+
+  /** What is drawn just before an element and just after it. */
+  around(number) {
+    const row = this.element(number);
+    const before = this.joined(this.pieces(this.places.get(row.n) - 1, -1, AROUND, -1));
+    const after = this.joined(this.pieces(this.end(row.n), this.list.length, AROUND));
+    return { before: lastOf(before, AROUND), after: shortened(after, AROUND) };
+  }
+
+  /** The last heading with a text that is drawn before a node; null where there is none. */
+  headingAbove(number) {
+    for (let place = this.places.get(number) - 1; place >= 0; place -= 1) {
+      const row = this.list[place];
+      if (this.isHeading(row) && this.text(row.n)) return { tag: row.tag, text: this.text(row.n) };
+    }
+    return null;
+  }
+
+  isHeading(row) {
+    if (isText(row) || !isDrawn(row)) return false;
+    const role = (attribute(row, 'role') ?? '').trim().toLowerCase();
+    return role === 'heading' || (role === '' && row.ns === 'html' && HEADING.test(tagOf(row)));
+  }
+
+  /** The text of the first title element; empty where there is none. */
+  get title() {
+    const title = this.list.find((row) => !isText(row) && row.ns === 'html' && tagOf(row) === 'title');
+    return title ? tidy((this.kids.get(title.n) ?? []).map((kid) => kid.text ?? '').join('')) : '';
+  }
+
+  /** The images in an element, itself among them: the alternative text, null where there is none, and the address as the page has it. */
+  images(number) {
+    const row = this.element(number);
+    return this.list.slice(this.places.get(row.n), this.end(row.n)).filter((one) => !isText(one))
+      .filter((one) => tagOf(one) === 'img' || (tagOf(one) === 'input' && attribute(one, 'type')?.toLowerCase() === 'image'))
+      .map((one) => ({ alt: attribute(one, 'alt') ?? null, address: attribute(one, 'src') ?? '' }));
+  }
+
+  /** How often each id occurs that the page itself gave. */
+  get ids() {
+    this.counts ??= grouped(this.list.filter((row) => !isText(row) && this.idOf(row)), (row) => this.idOf(row));
+    return this.counts;
+  }
+
+  idOf(row) {
+    const id = attribute(row, 'id') ?? '';
+    return MADE.test(id) ? '' : id;
+  }
+
+  /** The id of the nearest element from a node upwards that has one of its own; empty where none has. */
+  nearestId(number) {
+    for (let at = this.element(number); at; at = this.rows.get(at.p)) {
+      const id = this.idOf(at);
+      if (id && this.ids.get(id).length === 1) return id;
+    }
+    return '';
+  }
+
+  /** The CSS path of a node's element: steps from the nearest element with an id of its own, or from the root. */
+  path(number) {
+    const steps = [];
+    for (let at = this.element(number); at; at = this.rows.get(at.p)) {
+      const id = this.idOf(at);
+      if (id && this.ids.get(id).length === 1) return [`#${CSS.escape(id)}`, ...steps].join(' > ');
+      steps.unshift(this.step(at));
+    }
+    return steps.join(' > ');
+  }
+
+  /** The selector of an element among the children of its parent. A selector's tag is folded for elements of HTML, and exact for others. */
+  step(row) {
+    const siblings = (this.kids.get(row.p) ?? []).filter((one) => !isText(one));
+    const alike = siblings.filter((one) => tagOf(one) === tagOf(row));
+    if (row.ns === 'html' && row.tag !== tagOf(row)) return `*:nth-child(${siblings.indexOf(row) + 1})`;
+    if (alike.length === 1) return CSS.escape(row.tag);
+    if (alike.every((one) => one.tag === row.tag && one.ns === row.ns)) return `${CSS.escape(row.tag)}:nth-of-type(${alike.indexOf(row) + 1})`;
+    return `*:nth-child(${siblings.indexOf(row) + 1})`;
   }
 
   /** How a target is called: the page as a whole, or its tag. */

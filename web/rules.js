@@ -1,13 +1,16 @@
 /** The rules, their criteria and what their reasons mean: silvervole/data/rules.json. */
 
+import { noteCaller } from './desk.js';
+
 export const OUTCOMES = ['failed', 'cantTell', 'passed'];
 export const HEADINGS = { failed: 'Failed', cantTell: 'For a person to judge', passed: 'Passed' };
 
-/** The table of rules, and the name of who signed in, which the proxy says beside it. */
+/** The table of rules; with it the proxy says who signed in. */
 export async function loadRules() {
   const reply = await fetch('rules.json');
   if (!reply.ok) throw new Error(`rules.json: ${reply.status}`);
-  return { table: new Rules(await reply.json()), caller: reply.headers.get('x-caller') ?? '' };
+  noteCaller(reply);
+  return new Rules(await reply.json());
 }
 
 class Rules {

@@ -5,6 +5,7 @@ import { counted, el, table } from './dom.js';
 import { filesPart } from './files.js';
 import { readReport, RESULTS } from './report.js';
 
+const NARROW = '(max-width: 30rem)';
 const NAME = '[a-z0-9._\\-]{1,64}';
 
 /** A form with one name, and what is done with it. */
@@ -24,18 +25,39 @@ export function showStart(app) {
 /** A count, which leads to the findings of this outcome where there are some. */
 const counting = (app, site, page, outcome, count, text) => (count ? app.link({ site, page, outcome }, text) : '0');
 
+/** What is said of a page, by the table's columns. */
 const pageRow = (app, site, { name, rev, counts }) => [
   app.link({ site, page: name }, name), String(rev),
   counting(app, site, name, 'failed', counts.failed, `${counts.failed} failed on ${name}`),
-  counting(app, site, name, 'cantTell', counts.cantTell, `${counts.cantTell} to judge on ${name}`),
+  counting(app, site, name, 'cantTell', counts.cantTell, `${counts.cantTell} undecided on ${name}`),
   String(counts.passed), String(counts.inapplicable)];
+
+const COLUMNS = ['Page', 'Revision', 'Failed', 'Undecided', 'Passed', 'Rules without a target'];
+
+/** A page as an entry of a list, as on a narrow screen. */
+function pageEntry(app, site, page) {
+  const [name, ...rest] = pageRow(app, site, page);
+  return el('li', { class: 'card' }, el('h3', {}, name), el('dl', { class: 'counts' },
+    rest.map((value, place) => el('div', {}, el('dt', {}, COLUMNS[place + 1]), el('dd', {}, value)))));
+}
+
+/** The site's pages with their counts: a table, and on a narrow screen a list. */
+function pagesList(app, site, pages) {
+  const narrow = matchMedia(NARROW);
+  const part = el('div');
+  const show = () => part.replaceChildren(narrow.matches ? el('ul', { class: 'pages' }, pages.map((page) => pageEntry(app, site, page)))
+    : table('Pages with their outcomes', COLUMNS, pages.map((page) => pageRow(app, site, page))));
+  narrow.addEventListener('change', () => { if (part.isConnected) show(); });
+  show();
+  return part;
+}
 
 /** The site's pages, each with its counts and links to its findings. */
 function pagesPart(app, site, pages) {
   return el('section', { 'aria-labelledby': 'pages' }, el('h2', { id: 'pages' }, 'Pages'),
-    pages.length ? table('Pages with their outcomes', ['Page', 'Revision', 'Failed', 'To judge', 'Passed', 'Rules without a target'], pages.map((page) => pageRow(app, site, page)))
-      : el('p', {}, 'This site has no page.'),
-    el('p', { class: 'quiet' }, 'These are the report\'s sums, which count each rule. A page\'s findings count what a composite rule merges through it alone.'),
+    pages.length ? pagesList(app, site, pages) : el('p', {}, 'This site has no page.'),
+    el('p', { class: 'quiet' }, 'These are the report\'s sums, which count each rule. Undecided is what waits for a person to judge, and a composite rule that follows from it, which nobody judges. '
+      + 'A page\'s findings count what a composite merges through it alone.'),
     nameForm('page', 'Page by name', 'Show the page', (page) => app.go({ site, page })));
 }
 
@@ -61,6 +83,6 @@ export async function showSite(app, site, current) {
   const { pages, criteria, total } = readReport(await desk.siteReport(site));
   if (!current()) return;
   app.put(`Site ${site}`,
-    el('p', {}, `${counted(pages.length, 'page', 'pages')}. Findings: ${total.failed} failed, ${total.cantTell} to judge, ${total.passed} passed.`),
+    el('p', {}, `${counted(pages.length, 'page', 'pages')}. Findings: ${total.failed} failed, ${total.cantTell} undecided, ${total.passed} passed.`),
     pages.length ? criteriaPart(app, criteria) : null, pagesPart(app, site, pages), filesPart(site));
 }

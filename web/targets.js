@@ -5,24 +5,83 @@ import { el } from './dom.js';
 /** The outcome's place among those of a page, as a word of the address. */
 export const placeOf = (outcome) => `${outcome.rule}-${outcome.node}`;
 
+/** Whether it is a composite's, which follows from those of other rules. */
+export const isMerged = (outcome) => outcome.reason === 'merged';
+
 /** Whether a person may judge it: the rule itself can't tell, and it is no merge of others. */
-export const isForPeople = (outcome) => outcome.automatic === 'cantTell' && outcome.reason !== 'merged';
+export const isForPeople = (outcome) => outcome.automatic === 'cantTell' && !isMerged(outcome);
 
 /** Whether it waits for a person. */
 export const isOpen = (outcome) => isForPeople(outcome) && outcome.by === '';
 
-const fact = (name, value) => el('div', {}, el('dt', {}, name), el('dd', {}, value));
-const none = () => el('span', { class: 'quiet' }, 'none');
-export const code = (text) => el('code', {}, text);
+const fact = (name, ...value) => el('div', {}, el('dt', {}, name), el('dd', {}, ...value));
+const quiet = (text) => el('span', { class: 'quiet' }, text);
+const code = (text) => el('code', {}, text);
+const quote = (text) => (text ? el('bdi', {}, text) : quiet('none'));
+const outside = (href, text) => el('a', { href, rel: 'noreferrer' }, text);
+
+/** An address as a link where it is one of the web, by the page's own; else as it stands. */
+function addressLink(address, base) {
+  const full = URL.canParse(address, base) ? new URL(address, base) : null;
+  return full && /^https?:$/.test(full.protocol) ? outside(full.href, address) : code(address || 'none');
+}
+
+/** An image's alternative text, or that it has none. */
+function altOf(alt) {
+  if (alt) return el('bdi', {}, `“${alt}”`);
+  return quiet(alt === null ? 'no alternative text' : 'an empty alternative text');
+}
+
+/** Each image's alternative text beside its address; of many the first few. */
+function imageFacts({ nodes, address }, number, most) {
+  const images = nodes.images(number);
+  const rows = images.slice(0, most).map((image) => fact('Image', altOf(image.alt), ' ', addressLink(image.address, address)));
+  return images.length > most && most > 0 ? [...rows, fact('Images', `${images.length - most} more`)] : rows;
+}
+
+function headingFact(nodes, number) {
+  const heading = nodes.headingAbove(number);
+  return fact('Heading above', heading ? [quote(heading.text), ' ', quiet(heading.tag)] : quiet('none'));
+}
 
 /** The element and the evidence of an outcome. */
-export function facts(nodes, outcome) {
-  const text = nodes.text(outcome.node);
-  const rows = [fact('Start tag', code(nodes.startTag(outcome.node)))];
-  if (outcome.node !== nodes.root) rows.push(fact('Text', text ? el('bdi', {}, text) : none()));
-  rows.push(fact('Evidence', outcome.evidence ? el('pre', {}, outcome.evidence) : none()));
-  if (outcome.by) rows.push(fact('Judged by', el('bdi', {}, outcome.by)));
-  return el('dl', {}, rows);
+export function facts(page, outcome) {
+  const { nodes } = page;
+  const isPage = outcome.node === nodes.root;
+  const isImage = !isPage && /^(img|input)$/i.test(nodes.element(outcome.node).tag);
+  return el('dl', {}, isPage ? [] : headingFact(nodes, outcome.node), fact('Start tag', code(nodes.startTag(outcome.node))),
+    isPage ? [] : fact('Text', quote(nodes.text(outcome.node))), isImage ? imageFacts(page, outcome.node, 1) : [], evidenceFacts(outcome),
+    isPage ? [] : fact('CSS path', code(nodes.path(outcome.node))));
+}
+
+const evidenceFacts = (outcome) => [fact('Evidence', outcome.evidence ? el('pre', {}, outcome.evidence) : quiet('none')),
+  ...(outcome.by ? [fact('Judged by', el('bdi', {}, outcome.by))] : [])];
+
+/** What stands before and after an element, with its own text between them. */
+function inPlace(nodes, number) {
+  const { before, after } = nodes.around(number);
+  const text = nodes.text(number);
+  return fact('In its place', before ? [el('bdi', {}, before), ' '] : [], text ? el('mark', {}, text) : el('mark', {}, code(nodes.startTag(number))), after ? [' ', el('bdi', {}, after)] : []);
+}
+
+/** A link to the page, to the place of the node where an id leads near it. */
+function pageLink({ nodes, address }, number) {
+  const to = new URL(address);
+  const id = nodes.nearestId(number);
+  if (id) to.hash = id;
+  return outside(to.href, id ? `The page, near this place (#${id})` : 'The page');
+}
+
+const MOST_IMAGES = 3;
+
+/** All that a person who judges sees of an outcome: its place in the page beside the element and the evidence. */
+export function closeFacts(page, outcome) {
+  const { nodes } = page;
+  const { node } = outcome;
+  const isPage = node === nodes.root;
+  return el('dl', {}, isPage ? [] : [headingFact(nodes, node), inPlace(nodes, node)],
+    evidenceFacts(outcome), fact('Start tag', code(nodes.startTag(node))),
+    isPage ? [] : [...imageFacts(page, node, MOST_IMAGES), fact('CSS path', code(nodes.path(node)))], fact('Link', pageLink(page, node)));
 }
 
 /** What a reason means, and what to do. */
@@ -38,6 +97,6 @@ export function adviceOf(rules, outcome) {
 export function ruleMeta(rules, id) {
   const rule = rules.rule(id);
   const criteria = rules.criteria.filter(({ number }) => rule.criteria.includes(number));
-  return el('p', { class: 'meta' }, el('a', { href: rules.link(id), rel: 'noreferrer' }, `ACT rule ${id}`),
+  return el('p', { class: 'meta' }, outside(rules.link(id), `ACT rule ${id}`),
     criteria.map((one) => el('a', { class: 'criterion', href: rules.criterionLink(one), rel: 'noreferrer' }, `WCAG 2.2, ${one.number} ${one.name} (level ${one.level})`)));
 }

@@ -55,7 +55,7 @@ def looks_around(reader: Reader) -> None:
     rows = reader.browser.execute_script("return [...document.querySelectorAll('section[aria-labelledby=pages] tbody tr')].map((row) => [...row.cells].map((cell) => cell.innerText))")
     same("a site's pages", [row[0] for row in rows], sorted(PAGES))
     final = [one["outcome"] for one in outcomes(reader.proxy)]
-    same("a page's counts", rows[0][:5], ["home", "1", f"{final.count('failed')} failed on home", f"{final.count('cantTell')} to judge on home", str(final.count("passed"))])
+    same("a page's counts", rows[0][:5], ["home", "1", f"{final.count('failed')} failed on home", f"{final.count('cantTell')} undecided on home", str(final.count("passed"))])
     same("a criterion's result", reader.browser.execute_script("""return [...document.querySelectorAll('section[aria-labelledby=criteria] tbody tr')]
         .map((row) => row.innerText.split('\\t')).find(([name]) => name.startsWith('4.1.2'))[2]"""), "Failed")
     checked(reader, "a site", "site")
@@ -182,7 +182,7 @@ def not_allowed(reader: Reader, place: str) -> None:
 
 def is_no_more(reader: Reader) -> None:
     """A finding that is no more, on which a note was begun."""
-    reader.browser.execute_async_script(KEEP, {"site": "library", "page": "home", "rule": "c4a8a4", "node": "9999"}, NOTE)
+    reader.browser.execute_async_script(KEEP, {"caller": "cid", "site": "library", "page": "home", "rule": "c4a8a4", "node": "9999"}, NOTE)
     reader.open("?site=library&page=home&judge=c4a8a4-9999")
     expect("a finding that is no more", reader.title() == "Nothing to judge here" and NOTE in reader.text("main"), reader.text("main"))
     checked(reader, "a finding that is no more")

@@ -41,7 +41,7 @@ CRITERIA = [
     ["2.4.2 Page Titled", "A", "Failed"], ["2.4.4 Link Purpose (In Context)", "A", "No failure found"],
     ["2.4.6 Headings and Labels", "AA", "For a person to judge"], ["3.1.1 Language of Page", "A", "No failure found"],
     ["3.1.2 Language of Parts", "AA", "Nothing to look at"], ["4.1.2 Name, Role, Value", "A", "Failed"]]
-PAGES = [["ask", "2", "1 failed on ask", "2 to judge on ask", "13", "18"], ["home", "1", "1 failed on home", "0", "4", "25"]]
+PAGES = [["ask", "2", "1 failed on ask", "2 undecided on ask", "13", "18"], ["home", "1", "1 failed on home", "0", "4", "25"]]
 CSV = """site,page,rev,node,rule,outcome,automatic,reason,judge
 town,ask,2,1,2779a5,passed,passed,ok,
 town,ask,2,1,c4a8a4,cantTell,cantTell,judge-title,
@@ -69,7 +69,7 @@ town,home,1,3,b49b2e,passed,cantTell,judge-heading,bob
 ASSERTIONS = 21 + 18 + 25
 # What the page says of each element: role and name, where it comes from, and its findings.
 NAMES = [
-    ["document no name", "node 1", "4 findings on node 1"],
+    ["document “Ask us”", "node 1, from the title element", "4 findings on node 1"],
     ["heading “Ask us”", "node 6, from its content", "2 findings on node 6"],
     ["textbox “Question”", "node 10, from its label", "1 finding on node 10"],
     ["button no name", "node 11", "1 finding on node 11, 1 failed"],
@@ -133,12 +133,12 @@ def shows_criteria(reader: Reader) -> None:
     reader.open("?site=town")
     same("the criteria", reader.browser.execute_script(ROWS, "criteria"), CRITERIA)
     same("the pages", reader.browser.execute_script(ROWS, "pages"), PAGES)
-    expect("the sums", "2 pages. Findings: 2 failed, 2 to judge, 17 passed." in reader.text("main"), reader.text("main"))
+    expect("the sums", "2 pages. Findings: 2 failed, 2 undecided, 17 passed." in reader.text("main"), reader.text("main"))
     checked(reader, "a site's criteria")
     follow(reader, "1 failed on home", "Page home of town")
     same("what failed on home", reader.browser.execute_script(TARGETS), ["The page as a whole, node 1"])
     follow(reader, "town", "Site town")
-    follow(reader, "2 to judge on ask", "Page ask of town")
+    follow(reader, "2 undecided on ask", "Page ask of town")
     same("what is to judge on ask", reader.browser.execute_script(TARGETS), ["The page as a whole, node 1", "h1, node 6"])
     follow(reader, "town", "Site town")
     follow(reader, "home", "Page home of town")
@@ -243,7 +243,7 @@ def shows_names(reader: Reader) -> None:
     follow(reader, "Names as a screen reader says them", "Names on page ask of town")
     expect("progress is said", "Asking for the names of ask, 2 of 3" in reader.browser.execute_script("return window.said"))
     same("the names", reader.browser.execute_script(SAID), NAMES)
-    expect("their number", "9 elements, 2 without a name" in reader.text("#said"), reader.text("#said"))
+    expect("their number", "9 elements, 1 without a name" in reader.text("#said"), reader.text("#said"))
     checked(reader, "names", "names")
     same("the roles", reader.browser.execute_script("return [...document.getElementById('role').options].map((one) => one.innerText)"),
          ["All roles", "button (2)", "document (1)", "heading (1)", "img (1)", "link (1)", "navigation (1)", "textbox (2)"])

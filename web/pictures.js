@@ -1,0 +1,83 @@
+/** The picture of a page that somebody sent beside it, and the part of it around an element. */
+
+import { el } from './dom.js';
+
+const PATIENCE = 30_000;
+const MARGIN = 40;
+const LEAST_WIDTH = 360;
+const LEAST_HEIGHT = 120;
+const GREATEST_HEIGHT = 640;
+
+const path = (site, page, ending) => `shots/${encodeURIComponent(site)}/${encodeURIComponent(page)}.${ending}`;
+const isBox = (box) => Array.isArray(box) && box.length === 4 && box.every(Number.isFinite);
+const percent = (part, whole) => `${(100 * part) / whole}%`;
+
+/** The picture of a page: its image, its revision and the boxes of its nodes; null where there is none, or none that can be read. */
+export async function loadPicture(site, page) {
+  try {
+    const reply = await fetch(path(site, page, 'json'), { signal: AbortSignal.timeout(PATIENCE) });
+    if (!reply.ok) return null;
+    const { rev, boxes } = await reply.json();
+    const image = new Image();
+    image.src = path(site, page, 'png');
+    await image.decode();
+    return Number.isInteger(rev) && boxes && image.naturalWidth ? { image, rev, boxes, address: image.src } : null;
+  } catch {
+    return null;
+  }
+}
+
+/** Where a part begins and how long it is, in one direction: a box and a margin, within the picture. */
+function span(start, length, whole, least, most) {
+  const wanted = Math.min(Math.max(length + 2 * MARGIN, least), most, whole);
+  const spare = Math.max(wanted - length, 2 * MARGIN);
+  return [Math.max(0, Math.min(start - Math.floor(spare / 2), whole - wanted)), wanted];
+}
+
+/** The nearest element from a node upwards that lies in the picture, with its box; null for the page as a whole. */
+function drawn({ image, boxes }, nodes, number) {
+  for (let at = nodes.element(number); at && at.n !== nodes.root && at.tag.toLowerCase() !== 'body'; at = nodes.rows.get(at.p)) {
+    const box = boxes[at.n];
+    if (isBox(box) && box[0] < image.naturalWidth && box[1] < image.naturalHeight && box[0] + box[2] > 0 && box[1] + box[3] > 0) return { row: at, box };
+  }
+  return null;
+}
+
+/** Gives an element its place in percent, which the page's content policy allows to scripts alone. */
+function placed(element, left, top, width, height) {
+  Object.assign(element.style, { left, top, width, height });
+  return element;
+}
+
+/** A part of the picture, with a frame around the box in it. */
+function crop(image, alt, left, top, width, height, box) {
+  image.alt = alt;
+  const { naturalWidth, naturalHeight } = image;
+  placed(image, percent(-left, width), percent(-top, height), percent(naturalWidth, width), percent(naturalHeight, height));
+  const mark = box ? placed(el('div', { class: 'mark' }), percent(box[0] - left, width), percent(box[1] - top, height), percent(box[2], width), percent(box[3], height)) : null;
+  const made = el('div', { class: 'crop' }, image, mark);
+  Object.assign(made.style, { width: `${width}px`, aspectRatio: `${width} / ${height}` });
+  return made;
+}
+
+/** What a person has to know of a picture: whose frame it shows, and whether it is of another revision. */
+function caption(picture, row, own, rev) {
+  const said = [];
+  if (!row) said.push('The upper part of the page.');
+  else if (row.n !== own.n) said.push(`The element itself is not drawn: the frame is around the ${row.tag} that it stands in.`);
+  else said.push('The frame is around the element.');
+  if (picture.rev !== rev) said.push(`This picture is of ${picture.rev < rev ? 'an older' : 'a newer'} revision, ${picture.rev}: what you judge, of revision ${rev}, may look different.`);
+  return said.join(' ');
+}
+
+/** The part of a picture around a node, or its upper part for the page as a whole. */
+export function pictureOf(picture, nodes, number, rev) {
+  const { image } = picture;
+  const own = nodes.element(number);
+  const { row, box } = drawn(picture, nodes, number) ?? {};
+  const [left, width] = box ? span(box[0], box[2], image.naturalWidth, LEAST_WIDTH, image.naturalWidth) : [0, image.naturalWidth];
+  const [top, height] = box ? span(box[1], box[3], image.naturalHeight, LEAST_HEIGHT, GREATEST_HEIGHT) : [0, Math.min(image.naturalHeight, GREATEST_HEIGHT)];
+  const alt = row ? `The page around ${row.tag}, node ${row.n}, as it looked` : 'The upper part of the page, as it looked';
+  return el('figure', { class: 'shot' }, crop(image, alt, left, top, width, height, box),
+    el('figcaption', { class: picture.rev === rev ? null : 'older' }, caption(picture, row, own, rev), ' ', el('a', { href: picture.address }, 'The whole picture')));
+}
