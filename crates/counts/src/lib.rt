@@ -17,6 +17,3 @@ pub fn next(count: u64) -> u64
 {
     count.saturating_add(1)
 }
-
-#[cfg(test)]
-mod tests;

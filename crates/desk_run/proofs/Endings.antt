@@ -5,27 +5,27 @@ use Rattle.counts.specs.Counts.{StoodStill}
 use Rattle.counts.proofs.CountLaws.{still_not_risen}
 use Rattle.snap_tree.specs.Trees.{Document}
 use Rattle.rule_core.specs.Books.{Book}
-use Rattle.desk_run.specs.declared.audit.TheConstants.{MOST_READ}
+use Rattle.audit_run.specs.declared.auditing.TheConstants.{MOST_READ}
 use Rattle.desk_words.specs.Words.{command_in}
 use Rattle.desk_words.specs.declared.command.Command.{Command}
 use Rattle.desk_words.specs.declared.command.Command.TheVariants.{Audit, Serve, Generate, Show}
 use Rattle.desk_words.specs.declared.command.Serving.{Serving}
 use Rattle.desk_words.specs.declared.command.Generating.{Generating}
 use Rattle.desk_words.specs.declared.command.Showing.{Showing}
-use Rattle.desk_run.specs.declared.status.Status.{Status}
-use Rattle.desk_run.specs.declared.status.Status.TheVariants.{Done, SomeFailed, UsageFault, ReadFault, WriteFault, SnapshotFault, StoreFault, ListenFault, NoMemory}
-use Rattle.desk_run.specs.Status.{status_number, OneOf}
+use Rattle.audit_run.specs.declared.status.Status.{Status}
+use Rattle.audit_run.specs.declared.status.Status.TheVariants.{Done, SomeFailed, UsageFault, ReadFault, WriteFault, SnapshotFault, StoreFault, ListenFault, NoMemory}
+use Rattle.audit_run.specs.Status.{status_number, OneOf}
 use Rattle.streams.specs.Told.{Outside}
 use Rattle.streams.specs.Streams.{ReadsAtMost, NoFaults, BrokeOff}
-use Rattle.desk_run.specs.Telling.{Writing, IsWritten, Tells}
-use Rattle.desk_run.specs.Audit.{Reports, AuditCause, AuditComplete, TellsPage, TellsFault, IsReported}
+use Rattle.audit_run.specs.Telling.{Writing, IsWritten, Tells}
+use Rattle.audit_run.specs.Audit.{Reports, AuditCause, AuditComplete, TellsPage, TellsFault, IsReported}
 use Rattle.desk_http.specs.Desk.{Desk}
 use Rattle.desk_run.specs.Serve.{IsDeaf, IsServed, ServeCause, ServeBound, ServeComplete}
 use Rattle.desk_run.specs.Generate.{GenerateCause}
 use Rattle.desk_run.specs.Show.{ShowCause}
 use Rattle.desk_run.specs.Commands.{CommandCause, CommandBound, CommandComplete}
 use Rattle.desk_run.specs.Run.{Cause, IsComplete, Runs}
-use Rattle.desk_run.proofs.Causes.{same_page, refused, of_no_snapshot}
+use Rattle.audit_run.proofs.Causes.{same_page, refused, of_no_snapshot}
 use Rattle.desk_run.proofs.Written.{no_break, all_written, ends_in}
 use Rattle.desk_run.proofs.Outputs.{generate_bound, generate_complete, show_bound, show_complete}
 

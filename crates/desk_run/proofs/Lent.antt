@@ -5,9 +5,9 @@ use Rattle.links.specs.Wires.{Wire}
 use Rattle.links.specs.Doors.{Doorway}
 use Rattle.rule_core.specs.Books.{Book}
 use Rattle.keep_core.specs.Tables.{Tables}
-use Rattle.desk_run.specs.declared.status.Status.{Status}
+use Rattle.audit_run.specs.declared.status.Status.{Status}
 use Rattle.streams.specs.Told.{Input}
-use Rattle.desk_run.specs.Telling.{Writing}
+use Rattle.audit_run.specs.Telling.{Writing}
 use Rattle.desk_http.specs.Desk.{Desk}
 use Rattle.desk_run.specs.Run.{Cause}
 

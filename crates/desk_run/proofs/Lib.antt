@@ -1,6 +1,5 @@
 pub mod Written
 pub mod Outputs
-pub mod Causes
 pub mod Served
 pub mod Spared
 pub mod Judged

@@ -7,12 +7,12 @@ use Rattle.rule_core.specs.Books.{Book}
 use Rattle.keep_core.specs.Tables.{Tables}
 use Rattle.desk_words.specs.declared.command.Generating.{Generating}
 use Rattle.desk_words.specs.declared.command.Showing.{Showing}
-use Rattle.desk_run.specs.declared.status.Status.{Status}
-use Rattle.desk_run.specs.declared.status.Status.TheVariants.{Done, SomeFailed, UsageFault, ReadFault, WriteFault, SnapshotFault, StoreFault, ListenFault, NoMemory}
-use Rattle.desk_run.specs.Status.{OneOf}
+use Rattle.audit_run.specs.declared.status.Status.{Status}
+use Rattle.audit_run.specs.declared.status.Status.TheVariants.{Done, SomeFailed, UsageFault, ReadFault, WriteFault, SnapshotFault, StoreFault, ListenFault, NoMemory}
+use Rattle.audit_run.specs.Status.{OneOf}
 use Rattle.streams.specs.Told.{Output, Outside}
 use Rattle.streams.specs.Streams.{Took}
-use Rattle.desk_run.specs.Telling.{Writing, IsWritten, IsDone}
+use Rattle.audit_run.specs.Telling.{Writing, IsWritten, IsDone}
 use Rattle.desk_run.specs.Generate.{line_of, GenerateCause, GenerateBound, GenerateComplete}
 use Rattle.desk_run.specs.Show.{shown_in, ShowCause, ShowBound, ShowsAll}
 

@@ -2,11 +2,11 @@
 use Rattle.std.proofs.Common.{◌≡◌, ℕ, ◌⊎◌, inl, inr, List, sym, subst}
 use Rattle.counts.specs.Counts.{StoodStill, Rose}
 use Rattle.counts.proofs.CountLaws.{next_rose, still_not_risen}
-use Rattle.desk_run.specs.declared.status.Status.{Status}
-use Rattle.desk_run.specs.declared.status.Status.TheVariants.{WriteFault}
+use Rattle.audit_run.specs.declared.status.Status.{Status}
+use Rattle.audit_run.specs.declared.status.Status.TheVariants.{WriteFault}
 use Rattle.streams.specs.Told.{Output, Outside}
 use Rattle.streams.specs.Streams.{NoFaults, BrokeOff}
-use Rattle.desk_run.specs.Telling.{Writing, IsWritten, Tells}
+use Rattle.audit_run.specs.Telling.{Writing, IsWritten, Tells}
 
 pub no_break : (old new : Output) (bytes : List ℕ) → StoodStill old.faults new.faults → BrokeOff old new bytes → ⊥
 no_break old new bytes still broke = still_not_risen old.faults new.faults still (subst (Rose old.faults) (sym broke.fault) (next_rose old.faults))

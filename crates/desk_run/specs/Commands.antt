@@ -4,13 +4,13 @@ use Rattle.counts.specs.Counts.{StoodStill}
 use Rattle.rule_core.specs.Books.{Book}
 use Rattle.desk_words.specs.declared.command.Command.{Command}
 use Rattle.desk_words.specs.declared.command.Command.TheVariants.{Audit, Serve, Generate, Show}
-use Rattle.desk_run.specs.declared.status.Status.{Status}
+use Rattle.audit_run.specs.declared.status.Status.{Status}
 use Rattle.streams.specs.Told.{Input, Outside}
 use Rattle.streams.specs.Streams.{NoFaults}
 use Rattle.desk_http.specs.Desk.{Desk}
 use Rattle.desk_run.specs.Desk.{OnlyJudged}
-use Rattle.desk_run.specs.Telling.{Writing}
-use Rattle.desk_run.specs.Audit.{AuditCause, AuditBound, AuditComplete}
+use Rattle.audit_run.specs.Telling.{Writing}
+use Rattle.audit_run.specs.Audit.{AuditCause, AuditBound, AuditComplete}
 use Rattle.desk_run.specs.Serve.{ServeCause, ServeBound, ServeComplete}
 use Rattle.desk_run.specs.Generate.{OnlyMade, GenerateCause, GenerateBound, GenerateComplete}
 use Rattle.desk_run.specs.Show.{OnlyRead, ShowCause, ShowBound, ShowComplete}

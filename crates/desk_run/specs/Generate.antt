@@ -4,12 +4,12 @@ use Rattle.rule_core.specs.Books.{Book}
 use Rattle.reaudit.specs.Pages.{pages_judgings}
 use Rattle.made_audit.specs.Line.{made_line, made_works}
 use Rattle.desk_words.specs.declared.command.Generating.{Generating}
-use Rattle.desk_run.specs.declared.status.Status.{Status}
-use Rattle.desk_run.specs.declared.status.Status.TheVariants.{Done, WriteFault, NoMemory}
-use Rattle.desk_run.specs.Status.{status_line, OneOf}
+use Rattle.audit_run.specs.declared.status.Status.{Status}
+use Rattle.audit_run.specs.declared.status.Status.TheVariants.{Done, WriteFault, NoMemory}
+use Rattle.audit_run.specs.Status.{status_line, OneOf}
 use Rattle.streams.specs.Told.{Outside}
 use Rattle.desk_http.specs.Desk.{Desk}
-use Rattle.desk_run.specs.Telling.{Writing, output_alone, line_alone, IsDone}
+use Rattle.audit_run.specs.Telling.{Writing, output_alone, line_alone, IsDone}
 
 -- the line of the pages that are made, and the judgings of all of them
 abbrev pub line_of : Book → Generating → List ℕ

@@ -1,7 +1,3 @@
-pub mod FaultLine
-pub mod Status
-pub mod Telling
-pub mod Audit
 pub mod Desk
 pub mod Serve
 pub mod Generate

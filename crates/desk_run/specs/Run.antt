@@ -1,15 +1,15 @@
 -- What a run does, whatever its words are.
 use Rattle.std.specs.Prelude.{◌≡◌, ℕ, ◌≤◌, List, [], ◌∷◌, length, ◌⊎◌, Some, None}
 use Rattle.rule_core.specs.Books.{Book}
-use Rattle.desk_run.specs.declared.audit.TheConstants.{MOST_READ}
+use Rattle.audit_run.specs.declared.auditing.TheConstants.{MOST_READ}
 use Rattle.desk_words.specs.Words.{command_in}
 use Rattle.desk_words.specs.declared.command.Command.{Command}
-use Rattle.desk_run.specs.declared.status.Status.{Status}
-use Rattle.desk_run.specs.declared.status.Status.TheVariants.{UsageFault, WriteFault, NoMemory}
-use Rattle.desk_run.specs.Status.{status_number, status_line, OneOf}
+use Rattle.audit_run.specs.declared.status.Status.{Status}
+use Rattle.audit_run.specs.declared.status.Status.TheVariants.{UsageFault, WriteFault, NoMemory}
+use Rattle.audit_run.specs.Status.{status_number, status_line, OneOf}
 use Rattle.streams.specs.Told.{Input, Outside}
 use Rattle.streams.specs.Streams.{ReadsAtMost, NoFaults}
-use Rattle.desk_run.specs.Telling.{Writing, line_alone, Tells}
+use Rattle.audit_run.specs.Telling.{Writing, line_alone, Tells}
 use Rattle.desk_http.specs.Desk.{Desk}
 use Rattle.desk_run.specs.Commands.{CommandCause, CommandBound, CommandComplete}
 

@@ -7,12 +7,12 @@ use Rattle.rule_core.specs.Books.{Book}
 use Rattle.desk_http.specs.Serving.{KeepsSound}
 use Rattle.desk_http.specs.Doors.{ServesDoor}
 use Rattle.desk_words.specs.declared.command.Serving.{Serving}
-use Rattle.desk_run.specs.declared.status.Status.{Status}
-use Rattle.desk_run.specs.declared.status.Status.TheVariants.{Done, UsageFault, WriteFault, ListenFault, NoMemory}
-use Rattle.desk_run.specs.Status.{status_line, OneOf}
+use Rattle.audit_run.specs.declared.status.Status.{Status}
+use Rattle.audit_run.specs.declared.status.Status.TheVariants.{Done, UsageFault, WriteFault, ListenFault, NoMemory}
+use Rattle.audit_run.specs.Status.{status_line, OneOf}
 use Rattle.desk_http.specs.Desk.{Desk}
 use Rattle.desk_run.specs.Desk.{with_first, Spares}
-use Rattle.desk_run.specs.Telling.{Writing, nothing, line_alone}
+use Rattle.audit_run.specs.Telling.{Writing, nothing, line_alone}
 
 -- what it listens at
 abbrev pub heard_of : Serving → Heard

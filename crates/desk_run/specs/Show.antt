@@ -13,12 +13,12 @@ use Rattle.reports.specs.Table.{csv_rows}
 use Rattle.desk_words.specs.declared.command.Showing.{Showing}
 use Rattle.desk_words.specs.declared.command.SiteForm.{SiteForm}
 use Rattle.desk_words.specs.declared.command.SiteForm.TheVariants as form
-use Rattle.desk_run.specs.declared.status.Status.{Status}
-use Rattle.desk_run.specs.declared.status.Status.TheVariants.{Done, UsageFault, WriteFault, StoreFault, NoMemory}
-use Rattle.desk_run.specs.Status.{status_line, OneOf}
+use Rattle.audit_run.specs.declared.status.Status.{Status}
+use Rattle.audit_run.specs.declared.status.Status.TheVariants.{Done, UsageFault, WriteFault, StoreFault, NoMemory}
+use Rattle.audit_run.specs.Status.{status_line, OneOf}
 use Rattle.streams.specs.Told.{Outside}
 use Rattle.desk_http.specs.Desk.{Desk}
-use Rattle.desk_run.specs.Telling.{Writing, line_alone, IsDone}
+use Rattle.audit_run.specs.Telling.{Writing, line_alone, IsDone}
 
 -- the pages of a site in a form
 abbrev pub form_bytes : SiteForm → List ℕ → List RuleInfo → List SitePage → List ℕ

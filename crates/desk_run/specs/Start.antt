@@ -2,8 +2,8 @@
 use Rattle.std.specs.Prelude.{◌≡◌, ℕ, ◌<◌, List, ◌∷◌, length, Result, Ok, Err}
 use Rattle.std.specs.declared.io.ErrorKind.{ErrorKind}
 use Rattle.std.specs.declared.io.ErrorKind.TheVariants.{OutOfMemory}
-use Rattle.desk_run.specs.declared.found.Found.{Found}
-use Rattle.desk_run.specs.declared.found.Found.TheVariants.{Usage, StoreFault, NoMemory}
+use Rattle.audit_run.specs.declared.found.Found.{Found}
+use Rattle.audit_run.specs.declared.found.Found.TheVariants.{Usage, StoreFault, NoMemory}
 
 -- what is found where the arguments can't be had: want of memory, or a word is no text
 abbrev pub found_by : ErrorKind → Found

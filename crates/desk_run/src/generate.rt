@@ -1,8 +1,8 @@
 ghost use Rattle.std.specs.Prelude.{◌<◌, ◌+◌, ◌≤◌, length, map, sum};
-ghost use Rattle.desk_run.specs.Telling.{status_of, writing_of};
+ghost use Rattle.audit_run.specs.Telling.{status_of, writing_of};
 ghost use Rattle.desk_run.specs.Generate.{GenerateCause, made_judgings};
 
-use crate::found::Found;
+use audit_run::Found;
 use desk_words::Generating;
 use made_audit::made_line;
 use rule_core::RuleBook;

@@ -3,20 +3,12 @@
 //! streams of the process, a keeper and a TCP door.
 #![tactic(auto)]
 
-mod audit;
-mod fault_lines;
-mod found;
 mod generate;
 mod running;
 mod serve;
 mod show;
 mod start;
-mod status;
-mod telling;
 
-pub use fault_lines::fault_line;
-pub use found::Found;
+pub use audit_run::{Found, Status, fault_line, status_of, tell};
 pub use running::run;
 pub use start::{made_books, words_in};
-pub use status::Status;
-pub use telling::{status_of, tell};

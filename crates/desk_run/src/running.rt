@@ -1,17 +1,15 @@
 ghost use Rattle.std.specs.Prelude.{◌≡◌, ◌<◌, ◌≤◌, None, map, length, vec_len};
-ghost use Rattle.desk_run.specs.declared.audit.TheConstants.{MOST_READ};
+ghost use Rattle.audit_run.specs.declared.auditing.TheConstants.{MOST_READ};
 ghost use Rattle.streams.specs.Streams.{ReadsAtMost};
-ghost use Rattle.desk_run.specs.Telling.{status_of, writing_of};
-ghost use Rattle.desk_run.specs.Audit.{AuditCause};
+ghost use Rattle.audit_run.specs.Telling.{status_of, writing_of};
+ghost use Rattle.audit_run.specs.Audit.{AuditCause};
 ghost use Rattle.desk_run.specs.Desk.{Spares};
 ghost use Rattle.desk_run.specs.Run.{Cause, Runs};
 
-use crate::audit::audit;
-use crate::found::Found;
 use crate::generate::generate;
 use crate::serve::serve;
 use crate::show::show;
-use crate::telling::tell;
+use audit_run::{Found, audit, tell};
 use desk_words::{Command, command_in};
 use keep_core::Keeper;
 use links::Door;

@@ -2,11 +2,11 @@ ghost use Rattle.std.specs.Prelude.{◌≡◌, ◌<◌, ◌≤◌, None, OnOk, m
 ghost use Rattle.streams.specs.Streams.{Counts};
 ghost use Rattle.desk_http.specs.Serving.{KeepsSound};
 ghost use Rattle.desk_http.specs.Doors.{ServesDoor};
-ghost use Rattle.desk_run.specs.Telling.{status_of, writing_of};
+ghost use Rattle.audit_run.specs.Telling.{status_of, writing_of};
 ghost use Rattle.desk_run.specs.Desk.{Spares};
 ghost use Rattle.desk_run.specs.Serve.{ServeCause};
 
-use crate::found::Found;
+use audit_run::Found;
 use desk_words::Serving;
 use keep_core::Keeper;
 use links::Door;

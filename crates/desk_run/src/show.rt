@@ -1,9 +1,9 @@
 ghost use Rattle.std.specs.Prelude.{◌≡◌, ◌≤◌, IfOk};
 ghost use Rattle.keep_core.specs.Keeping.{Stays, Reads, CountsFaults};
-ghost use Rattle.desk_run.specs.Telling.{status_of, writing_of};
+ghost use Rattle.audit_run.specs.Telling.{status_of, writing_of};
 ghost use Rattle.desk_run.specs.Show.{form_bytes, shown_in, ShowCause};
 
-use crate::found::Found;
+use audit_run::Found;
 use desk_words::{Showing, SiteForm};
 use judge_core::infos_of;
 use keep_core::{KeepFault, Keeper, SitePage};

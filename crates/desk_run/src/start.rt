@@ -4,7 +4,7 @@ ghost use Rattle.std.specs.IoError.{error_kind};
 ghost use Rattle.std.specs.Vec.Iter.{into_iter_items};
 ghost use Rattle.desk_run.specs.Start.{found_by, Starts};
 
-use crate::found::Found;
+use audit_run::Found;
 use rule_book::Thirty;
 use snap_tree::{List, OutOfMemory, Text};
 use std::alloc::{AllocError, Global};

@@ -6,6 +6,3 @@
 mod failing;
 
 pub use failing::FailingKeeper;
-
-#[cfg(test)]
-mod tests;

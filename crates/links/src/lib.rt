@@ -15,6 +15,3 @@ pub use link::Link;
 pub use mem_door::MemDoor;
 pub use mem_link::MemLink;
 pub use writing::write_all;
-
-#[cfg(test)]
-mod tests;

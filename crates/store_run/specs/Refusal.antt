@@ -2,8 +2,8 @@
 use Rattle.std.specs.Prelude.{◌≡◌, ℕ, ◌⊎◌, List, ◌++◌, codes, decimal}
 use Rattle.streams.specs.Told.{Output}
 use Rattle.streams.specs.Streams.{Took, BrokeOff}
-use Rattle.desk_run.specs.declared.status.Status.TheVariants as status
-use Rattle.desk_run.specs.Status.{status_number, status_line}
+use Rattle.audit_run.specs.declared.status.Status.TheVariants as status
+use Rattle.audit_run.specs.Status.{status_number, status_line}
 use Rattle.store_run.specs.declared.refusal.Refusal.{Refusal}
 use Rattle.store_run.specs.declared.refusal.Refusal.TheVariants.{OtherEdition, StoreFault, NoMemory}
 

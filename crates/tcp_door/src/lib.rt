@@ -15,6 +15,3 @@ mod patience;
 pub use door::TcpDoor;
 pub use link::{MOST_READS, TcpLink};
 pub use patience::Patience;
-
-#[cfg(test)]
-mod tests;

@@ -1,0 +1,4 @@
+pub mod FaultLine
+pub mod Status
+pub mod Telling
+pub mod Audit
