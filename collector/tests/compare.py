@@ -15,7 +15,7 @@ from silvervole.collect.ends import End
 from .support import COLLECTOR, DESK, ROOT, SITE, expect, refused, run, same
 
 COMPARE = COLLECTOR / "compare"
-PIPELINE = ROOT / "docs" / "pipeline.md"
+PIPELINE = ROOT / "docs" / "use" / "pipeline.md"
 NEW_FAILURE = 1
 # Any rule does: what is compared are outcomes.
 RULE = "c487ae"
@@ -193,25 +193,25 @@ def test_compare_refusals() -> None:
 
 
 def blocks(language: str) -> list[str]:
-    """The code blocks of docs/pipeline.md in this language."""
+    """The code blocks of docs/use/pipeline.md in this language."""
     return re.findall(rf"^```{language}\n(.*?)^```$", PIPELINE.read_text(encoding="utf-8"), re.MULTILINE | re.DOTALL)
 
 
 def test_pipeline_files() -> None:
-    """The workflows of docs/pipeline.md are YAML with the script in them."""
+    """The workflows of docs/use/pipeline.md are YAML with the script in them."""
     try:
         import yaml
     except ImportError:
-        print("collector/test: the workflows of docs/pipeline.md aren't read (on Debian: apt-get install python3-yaml)")
+        print("collector/test: the workflows of docs/use/pipeline.md aren't read (on Debian: apt-get install python3-yaml)")
         return
     for text in blocks("yaml"):
         expect("a workflow runs the script", "sh audit.sh" in json.dumps(yaml.safe_load(text)), text)
 
 
 def test_pipeline() -> None:
-    """The script of docs/pipeline.md on two pages: without a baseline, with one, after a page got worse, and where one isn't there."""
+    """The script of docs/use/pipeline.md on two pages: without a baseline, with one, after a page got worse, and where one isn't there."""
     if not DESK.is_file():
-        print(f"collector/test: the desk isn't built ({DESK.relative_to(ROOT)}): the script of docs/pipeline.md isn't run")
+        print(f"collector/test: the desk isn't built ({DESK.relative_to(ROOT)}): the script of docs/use/pipeline.md isn't run")
         return
     with tempfile.TemporaryDirectory() as folder:
         for name, program in (("act-desk-collect", COLLECTOR / "collect"), ("act-desk-compare", COMPARE), ("act_desk", DESK)):

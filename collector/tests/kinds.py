@@ -50,7 +50,7 @@ def test_moved(browser: Any, base: str) -> None:
 
 
 def test_charsets(browser: Any, base: str) -> None:
-    """What docs/collecting.md says of UTF-8 that isn't declared."""
+    """What docs/use/collecting.md says of UTF-8 that isn't declared."""
     with page(whole="<!DOCTYPE html><title>t</title><p>\u00e9t\u00e9") as path:
         expect("Chromium guesses the charset of a file that has none", "\u00e9t\u00e9" in collect_here(browser, path, *WRITTEN).text)
     expect("a server's page without a charset is read as windows-1252",

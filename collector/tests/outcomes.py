@@ -15,7 +15,7 @@ from silvervole.view.outcomes import read_outcomes
 from .support import ROOT, VIEW, expect, refused, run, same
 from .view import accessible, axe, contrast, opened, self_audit
 
-HTTP = ROOT / "docs" / "http.md"
+HTTP = ROOT / "docs" / "use" / "http.md"
 SNAPSHOT = """{"url":"https://example.org/","nodes":[
 {"n":1,"p":null,"tag":"html","attrs":[["lang","en"]]},
 {"n":2,"p":1,"tag":"body"},
@@ -32,7 +32,7 @@ Row = dict[str, Any]
 
 
 def row(rule: str, node: int, automatic: str, reason: str, evidence: str = "", outcome: str = "", by: str = "") -> Row:
-    """An outcome as docs/http.md has it; the final one is the automatic one where no other is given."""
+    """An outcome as docs/use/http.md has it; the final one is the automatic one where no other is given."""
     return {"automatic": automatic, "by": by, "digest": hashlib.sha256(evidence.encode("utf-8")).hexdigest(), "evidence": evidence,
             "node": node, "outcome": outcome or automatic, "reason": reason, "rule": rule}
 
@@ -42,7 +42,7 @@ def reply(rows: list[Row], inapplicable: tuple[str, ...] = (), rev: int = 7, asc
     return json.dumps({"inapplicable": list(inapplicable), "outcomes": rows, "rev": rev}, separators=(",", ":"), ensure_ascii=ascii_only)
 
 
-# The heading of docs/judgements.md that turns the composite, and other rows of each kind on the page above.
+# The heading of docs/use/judgements.md that turns the composite, and other rows of each kind on the page above.
 ROWS = [
     row("2779a5", 1, "failed", "no-title"),
     row("c487ae", 3, "passed", "ok", "link\nBooks"),
@@ -56,7 +56,7 @@ ROWS = [
     row("cf77f2", 1, "cantTell", "merged", "", "passed"),
 ]
 REPLY = reply(ROWS, ("73f2c2",))
-# The text report of the same page, by docs/desk.md.
+# The text report of the same page, by docs/use/desk.md.
 REPORT = """page https://example.org/
 2779a5 node 1 failed no-title
 c487ae node 3 passed ok
@@ -206,12 +206,12 @@ def test_outcomes() -> None:
 
 
 def documented(start: str) -> str:
-    """The first body of docs/http.md that begins so."""
+    """The first body of docs/use/http.md that begins so."""
     return next(line for line in HTTP.read_text(encoding="utf-8").splitlines() if line.startswith(start))
 
 
 def test_documented_outcomes() -> None:
-    """The reply that docs/http.md shows, with the page that it shows: a title that bob judged."""
+    """The reply that docs/use/http.md shows, with the page that it shows: a title that bob judged."""
     given, page = documented('{"inapplicable":["de46e4"'), documented('{"rev":2,"snapshot":')
     view = View(given, page)
     same("the rules of the documented reply", view.ids("rule"), ["passed-2779a5", "passed-c4a8a4", "passed-b5c3f8", "passed-bf051a"])
@@ -288,7 +288,7 @@ def fault_of(text: str | bytes) -> str:
         return stop.line if stop.end is End.INPUT else f"{stop.end!r}: {stop.line}"
 
 
-# Values of another form than docs/http.md says, for each member of an outcome and of a reply.
+# Values of another form than docs/use/http.md says, for each member of an outcome and of a reply.
 STRANGE: dict[str, tuple[object, ...]] = {
     "automatic": ("inapplicable", "", None, 1, ["passed"]), "by": (None, 3, ["bob"], "\ud800"),
     "digest": ("", "E3B0C44298FC1C149AFBF4C8996FB92427AE41E4649B934CA495991B7852B855", None), "evidence": (None, ["x"], 1, "\udc00"),

@@ -16,7 +16,7 @@ from silvervole.view.rules import read_rules
 from .site import meant_defects
 from .support import COLLECTOR, PAGES, ROOT, SITE, VIEW, expect, open_file, page, refused, run, same, take_rows
 
-FINDINGS = ROOT / "docs" / "findings.md"
+FINDINGS = ROOT / "docs" / "use" / "findings.md"
 REASONS = ROOT / "crates" / "rule_core" / "src" / "reason.rt"
 REPORT = """page https://library.example/old
 2779a5 node 1 failed no-title
@@ -26,15 +26,15 @@ passed 0 failed 1 cantTell 0 inapplicable 1
 
 
 def keep_findings() -> None:
-    """Writes docs/findings.md anew."""
+    """Writes docs/use/findings.md anew."""
     FINDINGS.write_text(findings_document(read_rules()), encoding="utf-8")
 
 
 def test_rules() -> None:
-    """The data file has a word on all that the desk reports, and docs/findings.md is made from it."""
+    """The data file has a word on all that the desk reports, and docs/use/findings.md is made from it."""
     table = read_rules()
     same("the number of rules", len(table.rules), 30)
-    expect("docs/findings.md is made from silvervole/data/rules.json", FINDINGS.read_text(encoding="utf-8") == findings_document(table))
+    expect("docs/use/findings.md is made from silvervole/data/rules.json", FINDINGS.read_text(encoding="utf-8") == findings_document(table))
     lines, _ = meant_defects()
     for line in sorted({line for page_lines in lines.values() for line in page_lines}):
         rule, _, _, outcome, reason = line.split()
@@ -42,8 +42,8 @@ def test_rules() -> None:
     known = {reason for rule in table.rules.values() for reason, _ in rule.advice}
     same("the reasons are those of the desk", sorted(known | {"ok"}),
          sorted(re.findall(r'Reason::\w+ => "([a-z-]+)"', REASONS.read_text(encoding="utf-8"))))
-    described = re.findall(r"^\| [0-9]+ \| ([0-9a-z]{6}) \|", (ROOT / "docs" / "rules.md").read_text(encoding="utf-8"), re.MULTILINE)
-    same("rules of docs/rules.md without a word on them", [identity for identity in described if identity not in table.rules], [])
+    described = re.findall(r"^\| [0-9]+ \| ([0-9a-z]{6}) \|", (ROOT / "docs" / "use" / "rules.md").read_text(encoding="utf-8"), re.MULTILINE)
+    same("rules of docs/use/rules.md without a word on them", [identity for identity in described if identity not in table.rules], [])
     texts = [text for rule in table.rules.values() for advice in rule.advice.values() for text in (advice.means, advice.mends)]
     expect("each word on a reason is a sentence", all(text and text[-1] in ".?" for text in texts))
 

@@ -25,7 +25,7 @@ NODES = f"""(() => {{
   return nodes;
 }})()"""
 
-# Where they differ on these pages: what the desk says, and what the browser says. docs/collecting.md says why.
+# Where they differ on these pages: what the desk says, and what the browser says. docs/use/collecting.md says why.
 DIFFERENCES = {
     ("shadow.html", "inert-button"): ("button x", "nothing"),
     ("shadow.html", "inert-frame"): ("- ", "nothing"),
@@ -126,7 +126,7 @@ def test_findings_alike(browser: Any) -> None:
 
 
 def test_roles_and_names(browser: Any) -> None:
-    """They are the same, but for the differences that docs/collecting.md tells."""
+    """They are the same, but for the differences that docs/use/collecting.md tells."""
     if not DESK.is_file():
         print("collector/test: the desk isn't built: its roles and names in shadow trees aren't held against the browser's")
         return

@@ -22,7 +22,7 @@ COLLECT = COLLECTOR / "collect"
 VIEW = COLLECTOR / "view"
 SITE = ROOT / "examples" / "library"
 DESK = ROOT / "crates" / "act_desk" / "out" / "act_desk"
-DOCS = ROOT / "docs" / "collecting.md"
+DOCS = ROOT / "docs" / "use" / "collecting.md"
 SOURCE = SNAPSHOT.read_text(encoding="utf-8")
 
 PAGES = {

@@ -1,4 +1,4 @@
-"""The other ways to use the function, as docs/collecting.md shows them."""
+"""The other ways to use the function, as docs/use/collecting.md shows them."""
 from __future__ import annotations
 
 import json

@@ -94,7 +94,7 @@ def header(word: str) -> tuple[str, str]:
 def parser(program: str = "collect", example: str = "") -> Parser:
     """All words of the command."""
     made = Parser(prog=program, usage=USAGE.format(program), example=example,
-                  description="Writes pages as snapshots, as headless Chromium has them. docs/collecting.md says more.")
+                  description="Writes pages as snapshots, as headless Chromium has them. docs/use/collecting.md says more.")
     made.add_argument("page", metavar="URL-OR-FILE", nargs="?",
                       help="an http, https or file address, or a file's path")
     made.add_argument("--url", metavar="ADDRESS",

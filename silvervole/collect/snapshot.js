@@ -32,7 +32,7 @@
  *   SnapshotAddress   the address is none that the desk takes
  *   SnapshotBrowser   the browser or the document cannot give what is needed
  *
- * docs/collecting.md says what each letter means and what is left out.
+ * docs/use/collecting.md says what each letter means and what is left out.
  */
 function silvervoleSnapshot(address, options) {
   'use strict';

@@ -23,7 +23,7 @@ def parser(program: str = "compare", example: str = "") -> Parser:
     """The words of the command."""
     made = Parser(prog=program, usage=USAGE.format(program), example=example,
                   description="Says what is new, what is mended and what stays between two audits, and ends with 1 where something "
-                              "new failed. docs/pipeline.md says more.")
+                              "new failed. docs/use/pipeline.md says more.")
     made.add_argument("old", metavar="OLD", help="the earlier report or reply to outcomes, or a folder of reports")
     made.add_argument("new", metavar="NEW", help="the later one")
     made.add_argument("--old-snapshot", metavar="FILE", help="the earlier snapshot, of which OLD speaks")

@@ -21,7 +21,7 @@ def parser(program: str = "view", example: str = "") -> Parser:
     """The words of the command."""
     made = Parser(prog=program, usage=USAGE.format(program), example=example,
                   description="Writes the findings of a report, or of a reply to outcomes, as one HTML file. "
-                              "docs/collecting.md says more.")
+                              "docs/use/collecting.md says more.")
     made.add_argument("snapshot", metavar="SNAPSHOT", help="the page's snapshot, or the desk's reply to the page")
     made.add_argument("report", metavar="REPORT", help="the desk's text report of it, or its reply to outcomes; - is standard input")
     made.add_argument("--shot", metavar="PICTURE", help="the picture that collect --shot wrote with the snapshot")

@@ -1,4 +1,4 @@
-"""The page docs/findings.md, told from silvervole/data/rules.json."""
+"""The page docs/use/findings.md, told from silvervole/data/rules.json."""
 from __future__ import annotations
 
 from .rules import Rule, RuleTable

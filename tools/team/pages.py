@@ -12,20 +12,20 @@ import time
 from serving import PROGRAM, ROOT
 from tests.support import same
 
-DOCUMENT = pathlib.Path(ROOT, "docs", "team.md")
+DOCUMENT = pathlib.Path(ROOT, "docs", "use", "team.md")
 SNAPSHOT = pathlib.Path(ROOT, "examples", "ordinary.json")
 PAGES = 100
 BROKEN = "it's no snapshot"
 
 
 def command(jobs: int) -> str:
-    """The command of docs/team.md with so many jobs."""
+    """The command of docs/use/team.md with so many jobs."""
     blocks = re.findall(r"^```sh\n(.*?)^```$", DOCUMENT.read_text(encoding="utf-8"), re.MULTILINE | re.DOTALL)
     return next(text for text in blocks if text.startswith("find snapshots")).replace("--jobs 100%", f"--jobs {jobs}")
 
 
 def audited(folder: str, jobs: int) -> float:
-    """How many snapshots a second the command of docs/team.md audits with so many jobs; each report is as it should be,
+    """How many snapshots a second the command of docs/use/team.md audits with so many jobs; each report is as it should be,
     and the one file that is no snapshot is named."""
     began = time.monotonic()
     done = subprocess.run(["bash", "-c", command(jobs)], cwd=folder, capture_output=True, check=False, stdin=subprocess.DEVNULL,
@@ -44,7 +44,7 @@ def audited(folder: str, jobs: int) -> float:
 
 
 def test_many_pages() -> None:
-    """The command of docs/team.md, on one core and on four."""
+    """The command of docs/use/team.md, on one core and on four."""
     with tempfile.TemporaryDirectory() as folder:
         os.mkdir(f"{folder}/snapshots")
         os.symlink(PROGRAM, f"{folder}/act_desk")

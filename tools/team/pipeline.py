@@ -1,4 +1,4 @@
-"""The script of docs/pipeline.md that asks the desk over HTTP, through the proxy."""
+"""The script of docs/use/pipeline.md that asks the desk over HTTP, through the proxy."""
 from __future__ import annotations
 
 import json
@@ -15,7 +15,7 @@ from tests.support import SITE, expect, same
 from .asking import ask, basic
 from .proxies import PASSWORD, Proxy
 
-DOCUMENT = pathlib.Path(ROOT, "docs", "pipeline.md")
+DOCUMENT = pathlib.Path(ROOT, "docs", "use", "pipeline.md")
 ADDRESS = "https://desk.example.org/"
 # The status of curl where the desk refuses a request.
 REFUSED = 22

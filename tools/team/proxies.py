@@ -71,7 +71,7 @@ def wait_for(program: subprocess.Popen[bytes], port: int, name: str) -> None:
 class Proxy:
     """nginx with an example as it stands, but for ports and paths, before one desk or three, until the block ends.
 
-    Where a desk joins three, the sites that were there before are named, as docs/team.md says.
+    Where a desk joins three, the sites that were there before are named, as docs/use/team.md says.
     """
 
     def __init__(self, example: str, desks: list[int], limit: str = NO_LIMIT, joining: int | None = None, before: Sequence[str] = ()) -> None:

@@ -16,7 +16,7 @@ from tests.view import CONTRAST
 from .proxies import Proxy
 
 PATIENCE = 60
-PICTURES = pathlib.Path(ROOT, "docs", "pictures")
+PICTURES = pathlib.Path(ROOT, "docs", "use", "pictures")
 # The texts that were said, one after another, from when this runs.
 LISTEN = """
 window.said = [];

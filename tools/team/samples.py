@@ -1,4 +1,4 @@
-"""Pages, requests and the replies to them, as docs/http.md has them."""
+"""Pages, requests and the replies to them, as docs/use/http.md has them."""
 from __future__ import annotations
 
 import hashlib

@@ -1,4 +1,4 @@
-"""The figures of docs/team.md: requests a second through nginx, and snapshots a second by GNU parallel."""
+"""The figures of docs/use/team.md: requests a second through nginx, and snapshots a second by GNU parallel."""
 from __future__ import annotations
 
 import os
@@ -30,7 +30,7 @@ def requests_a_second(proxy: Proxy, path: str) -> float:
 
 
 def snapshots_a_second(folder: str, jobs: int, snapshots: int) -> float:
-    """How many snapshots a second the command of docs/team.md audits with so many jobs."""
+    """How many snapshots a second the command of docs/use/team.md audits with so many jobs."""
     began = time.monotonic()
     subprocess.run(["bash", "-c", command(jobs)], cwd=folder, check=True, stdin=subprocess.DEVNULL,
                    env={**os.environ, "PATH": f"{folder}:{os.environ['PATH']}", "HOME": folder})
