@@ -12,12 +12,21 @@ from typing import Callable
 
 
 class End(enum.IntEnum):
-    """The statuses of collector/collect and collector/view. Of many pages' the greatest is the worst.
+    """The statuses of the commands. Of many pages' the greatest is the worst.
 
-    They begin at 10, above those of the desk, so that a pipeline's status tells who refused.
+    From 2 to 9 they are those of the desk's own program. The others begin at 10, so that a pipeline's status tells who refused.
     """
 
     WRITTEN = 0
+    FAILED = 1
+    FAULT_WORDS = 2
+    FAULT_READING = 3
+    FAULT_WRITING = 4
+    FAULT_SNAPSHOT = 5
+    FAULT_STORE = 6
+    FAULT_LISTENING = 7
+    FAULT_MEMORY = 8
+    FAULT_EDITION = 9
     NOT_HTML = 10
     MOVED = 11
     LIMIT = 12
@@ -29,6 +38,8 @@ class End(enum.IntEnum):
     USAGE = 18
     INPUT = 19
     STEP = 20
+    PROGRAM = 21
+    SIGN_IN = 22
     INTERRUPTED = 130
 
 

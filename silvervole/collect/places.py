@@ -6,7 +6,6 @@ import os
 import pathlib
 import re
 import urllib.parse
-import urllib.request
 from typing import NamedTuple
 
 from .ends import End, Stop
@@ -29,6 +28,7 @@ def place_of(page: str) -> Place:
     if kind in ("http", "https"):
         return Place(page, False)
     if kind == "file":
+        import urllib.request  # only here, since it loads slowly
         path = urllib.request.url2pathname(re.sub(r"[?#].*", "", page[len("file:"):]).removeprefix("//"))
     elif kind and not os.path.exists(page):
         raise Stop(End.USAGE, f"{page}: only an address of http, https or file, or a file's path, can be collected")

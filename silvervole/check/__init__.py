@@ -1,0 +1,1 @@
+"""Checks pages: collects them, audits them, and tells what was found."""

@@ -1,0 +1,52 @@
+"""The word check."""
+from __future__ import annotations
+
+from typing import Sequence
+
+from silvervole.collect.ends import End, Stop, run_command
+from silvervole.view.rules import read_rules
+from silvervole.words import Parser
+
+from .options import Checking, parser, read_words
+from .running import Checked, Run, Teller
+from .screen import Screen
+from .subjects import Subject
+from .telling import last_lines, page_lines
+
+__all__ = ["main", "parser"]
+
+
+def check(checking: Checking, program: str) -> int:
+    """The status of a check, all of whose findings are told."""
+    screen = Screen(program, len(checking.subjects))
+    pages: list[Checked] = []
+    lost: list[Subject] = []
+
+    def tell(checked: Checked) -> None:
+        pages.append(checked)
+        screen.write(page_lines(checked, checking.passed))
+
+    def tell_failure(subject: Subject, stop: Stop) -> None:
+        lost.append(subject)
+        screen.say(f"{subject.page}: status {stop.end.value}: {stop.line}")
+
+    teller = Teller(tell, lambda subject, note: screen.say(f"{subject.page}: {note}"), tell_failure,
+                    lambda subject: screen.begin(subject.page), lambda subject: screen.end())
+    try:
+        worst = Run(checking, read_rules(), teller).all()
+    finally:
+        screen.pause()
+    findings = [checked.findings for checked in pages]
+    screen.write(last_lines(findings, len(lost), checking.budget))
+    failed = sum(found.counts["failed"] for found in findings) > checking.budget
+    return max(worst, End.FAILED if failed else End.WRITTEN)
+
+
+def work(words: Sequence[str], program: str, asked: Parser) -> int:
+    """The status of what the words ask for."""
+    return check(read_words(words, asked), program)
+
+
+def main(words: Sequence[str], program: str = "check", example: str = "") -> int:
+    """The status of a run."""
+    return run_command(program, lambda: work(words, program, parser(program, example)))

@@ -1,0 +1,155 @@
+"""Collects and audits the pages of a check, some beside each other; each finding is told as soon as its page is audited."""
+from __future__ import annotations
+
+import concurrent.futures
+import contextlib
+import dataclasses
+import os
+import threading
+import time
+from dataclasses import dataclass
+from typing import Callable, ContextManager
+
+from silvervole.collect.ends import End, Stop, write_file
+from silvervole.collect.many import Browsers
+from silvervole.collect.pages import Collected, collect_page
+from silvervole.collect.places import ended
+from silvervole.program import Audit
+from silvervole.settings.sign_in import Signed
+from silvervole.view.findings import Findings, bring_together
+from silvervole.view.page import Page, read_page
+from silvervole.view.report import Report, read_report
+from silvervole.view.rules import RuleTable
+
+from .options import Checking
+from .subjects import Subject
+
+
+@dataclass(frozen=True)
+class Checked:
+    """An audited page: its snapshot and report as bytes and as they are read, and how long both took.
+
+    Of a frame or a state there is the ending that its files have.
+    """
+
+    subject: Subject
+    ending: str
+    snapshot: bytes
+    text: bytes
+    page: Page
+    report: Report
+    findings: Findings
+    seconds: float
+
+    @property
+    def failed(self) -> int:
+        """How many findings failed."""
+        return self.findings.counts["failed"]
+
+
+@dataclass
+class Teller:
+    """What is done with each page that is audited, each line on one, and each page that can't be audited."""
+
+    checked: Callable[[Checked], None]
+    note: Callable[[Subject, str], None]
+    failed: Callable[[Subject, Stop], None]
+    begin: Callable[[Subject], None]
+    end: Callable[[Subject], None]
+
+
+class Run:
+    """One check of all pages."""
+
+    def __init__(self, checking: Checking, table: RuleTable, teller: Teller) -> None:
+        self.checking = checking
+        self.table = table
+        self.teller = teller
+        self.signed = checking.sign_in.run() if checking.sign_in is not None else Signed()
+        self.browsers = Browsers()
+        # One page at a time is told.
+        self.telling = threading.Lock()
+
+    def all(self) -> End:
+        """The worst status of collecting and auditing the pages, all of which are told then."""
+        if self.checking.out:
+            make_folder(self.checking.out)
+        with concurrent.futures.ThreadPoolExecutor(self.checking.jobs) as pool:
+            work = [pool.submit(self.one, subject) for subject in self.checking.subjects]
+            try:
+                return max(done.result() for done in concurrent.futures.as_completed(work))
+            except BaseException:
+                self.browsers.close()
+                for waiting in work:
+                    waiting.cancel()
+                raise
+
+    def one(self, subject: Subject) -> End:
+        """The status of one page with its frames and states."""
+        if self.browsers.stopped:
+            return End.INTERRUPTED
+        began = time.monotonic()
+
+        def keep(collected: Collected) -> None:
+            nonlocal began
+            with self.telling:
+                for note in collected.notes:
+                    self.teller.note(subject, note)
+            if collected.text:
+                self.audit(subject, collected.ending, collected.text.encode("utf-8"), began)
+            began = time.monotonic()
+
+        try:
+            self.teller.begin(subject)
+            snapshot = subject.snapshot()
+            if snapshot is not None:
+                self.audit(subject, "", snapshot, began)
+            else:
+                self.collect(subject, keep)
+        except Stop as stop:
+            if not self.browsers.stopped:
+                with self.telling:
+                    self.teller.failed(subject, stop)
+            return End(stop.end)
+        finally:
+            with self.telling:
+                self.teller.end(subject)
+        return End.WRITTEN
+
+    def collect(self, subject: Subject, keep: Callable[[Collected], None]) -> None:
+        """Collects a page; what the sign-in printed goes to its server, and to no file."""
+        options = dataclasses.replace(self.checking.options, url=subject.address, states=subject.states)
+        if subject.server:
+            options = dataclasses.replace(options, cookies=(*self.signed.cookies, *options.cookies), headers=(*self.signed.headers, *options.headers))
+        holding: Callable[[object], ContextManager[None]] = self.browsers.holding
+        collect_page(subject.page, options, keep, holding)
+
+    def audit(self, subject: Subject, ending: str, snapshot: bytes, began: float) -> None:
+        """Audits a snapshot, and tells what was found."""
+        audit = Audit(snapshot)
+        with contextlib.ExitStack() as stack:
+            stack.callback(audit.end)
+            page = read_page(snapshot, subject.page)
+            text = audit.report()
+        report = read_report(text, "what the desk wrote")
+        findings = bring_together(report, page, self.table, None)
+        checked = Checked(subject, ending, snapshot, text, page, report, findings, time.monotonic() - began)
+        if self.checking.out:
+            keep_files(self.checking.out, checked)
+        with self.telling:
+            self.teller.checked(checked)
+
+
+def make_folder(path: str) -> None:
+    """Makes a folder, where it isn't there."""
+    try:
+        os.makedirs(path, exist_ok=True)
+    except OSError as error:
+        raise Stop(End.OUTPUT, f"{path} can't be made: {error.strerror}") from None
+
+
+def keep_files(folder: str, checked: Checked) -> None:
+    """Writes a page's snapshot and report into a folder."""
+    snapshot = ended(os.path.join(folder, f"{checked.subject.name}.json"), checked.ending)
+    write_file(snapshot, checked.snapshot)
+    write_file(f"{os.path.splitext(snapshot)[0]}.txt", checked.text)

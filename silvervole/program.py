@@ -1,0 +1,71 @@
+"""The desk's program: where it is, and audits by it."""
+from __future__ import annotations
+
+import os
+import pathlib
+import shutil
+import subprocess
+import tempfile
+from typing import IO
+
+from silvervole.collect.ends import End, Stop
+from silvervole.faults import Fault, end_of, fault_of
+
+NAME = "act_desk"
+SETTING = "SILVERVOLE_PROGRAM"
+IN_CLONE = pathlib.Path(__file__).resolve().parent.parent / "crates" / "act_desk" / "out" / NAME
+INSTALLED = pathlib.Path("/usr/bin", NAME)
+FOUND, FAILED = 0, 1
+
+
+def find_program() -> str:
+    """The path of the program: what SILVERVOLE_PROGRAM names, else the clone's, the package's, or one on PATH."""
+    if given := os.environ.get(SETTING):
+        if found := shutil.which(given):
+            return found
+        raise Stop(End.PROGRAM, f"{SETTING} names {given}, which is no program that can be started")
+    for path in (IN_CLONE, INSTALLED):
+        if os.access(path, os.X_OK) and path.is_file():
+            return str(path)
+    if found := shutil.which(NAME):
+        return found
+    raise Stop(End.PROGRAM, f"the desk's program isn't there: build it with `rt run` in crates/{NAME}, install the package, or name it in {SETTING}")
+
+
+def start(words: list[str], given: IO[bytes] | int, told: IO[bytes] | int) -> subprocess.Popen[bytes]:
+    """The program with these words, started; what it says on standard error is read by whoever waits for it."""
+    program = find_program()
+    try:
+        return subprocess.Popen([program, *words], stdin=given, stdout=told, stderr=subprocess.PIPE)
+    except OSError as error:
+        raise Stop(End.PROGRAM, f"{program} can't be started: {error.strerror}") from None
+
+
+class Audit:
+    """An audit of one snapshot that is under way."""
+
+    def __init__(self, snapshot: bytes) -> None:
+        # A file rather than a pipe, so that nothing waits until it is read.
+        with tempfile.TemporaryFile() as file:
+            file.write(snapshot)
+            file.seek(0)
+            self.process = start(["-", "audit"], file, subprocess.PIPE)
+
+    def report(self) -> bytes:
+        """The report, once it is written; a Stop with the program's own status where it wrote none."""
+        out, said = self.process.communicate()
+        status = self.process.returncode
+        if status in (FOUND, FAILED):
+            return out
+        raise refusal(fault_of(status, said))
+
+    def end(self) -> None:
+        """Ends the audit, where it hasn't ended by itself."""
+        if self.process.poll() is None:
+            self.process.kill()
+            self.process.communicate()
+
+
+def refusal(fault: Fault) -> Stop:
+    """The end of a command whose audit ended so."""
+    return Stop(end_of(fault), f"the desk refuses the audit: {fault}")

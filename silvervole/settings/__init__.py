@@ -1,0 +1,1 @@
+"""The settings of check: the file silvervole.toml, read and written."""
