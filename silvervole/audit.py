@@ -7,7 +7,7 @@ from typing import IO, Sequence
 
 from silvervole.collect.ends import End, Stop, run_command, say
 from silvervole.faults import fault_of
-from silvervole.program import FAILED, FOUND, start
+from silvervole.program import FAILED, FOUND, start_audit
 from silvervole.words import Parser
 
 
@@ -22,7 +22,7 @@ def parser(program: str = "audit", example: str = "") -> Parser:
 
 def audit(program: str, given: IO[bytes] | int) -> int:
     """The program's status of an audit; where it refuses, that is said in words on standard error."""
-    process = start(["-", "audit"], given, sys.stdout.fileno())
+    process = start_audit(given, sys.stdout.fileno())
     _, said = process.communicate()
     fault = fault_of(process.returncode, said)
     if fault.status not in (FOUND, FAILED):

@@ -11,34 +11,43 @@ from typing import IO
 from silvervole.collect.ends import End, Stop
 from silvervole.faults import Fault, end_of, fault_of
 
-NAME = "act_desk"
 SETTING = "SILVERVOLE_PROGRAM"
-IN_CLONE = pathlib.Path(__file__).resolve().parent.parent / "crates" / "act_desk" / "out" / NAME
-INSTALLED = pathlib.Path("/usr/bin", NAME)
+DESK = "act_desk"
+# It audits, and does nothing else, so that it is built sooner.
+AUDITOR = "act_audit"
+CRATES = pathlib.Path(__file__).resolve().parent.parent / "crates"
+INSTALLED = pathlib.Path("/usr/bin")
 FOUND, FAILED = 0, 1
 
 
-def find_program() -> str:
-    """The path of the program: what SILVERVOLE_PROGRAM names, else the clone's, the package's, or one on PATH."""
+def find_program(names: tuple[str, ...] = (DESK,)) -> str:
+    """The path of a program of one of these names: what SILVERVOLE_PROGRAM names, else the clone's, the package's, or one on PATH."""
     if given := os.environ.get(SETTING):
         if found := shutil.which(given):
             return found
         raise Stop(End.PROGRAM, f"{SETTING} names {given}, which is no program that can be started")
-    for path in (IN_CLONE, INSTALLED):
-        if os.access(path, os.X_OK) and path.is_file():
-            return str(path)
-    if found := shutil.which(NAME):
-        return found
-    raise Stop(End.PROGRAM, f"the desk's program isn't there: build it with `rt run` in crates/{NAME}, install the package, or name it in {SETTING}")
+    for name in names:
+        for path in (CRATES / name / "out" / name, INSTALLED / name):
+            if path.is_file() and os.access(path, os.X_OK):
+                return str(path)
+        if found := shutil.which(name):
+            return found
+    raise Stop(End.PROGRAM, f"the desk's program isn't there: build it with `rt run` in crates/{names[-1]}, "
+                            f"install the package, or name it in {SETTING}")
 
 
-def start(words: list[str], given: IO[bytes] | int, told: IO[bytes] | int) -> subprocess.Popen[bytes]:
+def start(program: str, words: list[str], given: IO[bytes] | int, told: IO[bytes] | int) -> subprocess.Popen[bytes]:
     """The program with these words, started; what it says on standard error is read by whoever waits for it."""
-    program = find_program()
     try:
         return subprocess.Popen([program, *words], stdin=given, stdout=told, stderr=subprocess.PIPE)
     except OSError as error:
         raise Stop(End.PROGRAM, f"{program} can't be started: {error.strerror}") from None
+
+
+def start_audit(given: IO[bytes] | int, told: IO[bytes] | int) -> subprocess.Popen[bytes]:
+    """An audit of what is given, started."""
+    program = find_program((DESK, AUDITOR))
+    return start(program, [] if os.path.basename(program) == AUDITOR else ["-", "audit"], given, told)
 
 
 class Audit:
@@ -49,7 +58,7 @@ class Audit:
         with tempfile.TemporaryFile() as file:
             file.write(snapshot)
             file.seek(0)
-            self.process = start(["-", "audit"], file, subprocess.PIPE)
+            self.process = start_audit(file, subprocess.PIPE)
 
     def report(self) -> bytes:
         """The report, once it is written; a Stop with the program's own status where it wrote none."""

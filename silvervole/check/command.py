@@ -1,10 +1,11 @@
 """The word check."""
 from __future__ import annotations
 
-from typing import Sequence
+from typing import TYPE_CHECKING, Sequence
 
 from silvervole.collect.ends import End, Stop, run_command
-from silvervole.view.rules import read_rules
+from silvervole.formats.options import any_format
+from silvervole.view.rules import RuleTable, read_rules
 from silvervole.words import Parser
 
 from .options import Checking, parser, read_words
@@ -12,6 +13,11 @@ from .running import Checked, Run, Teller
 from .screen import Screen
 from .subjects import Subject
 from .telling import last_lines, page_lines
+
+if TYPE_CHECKING:
+    from silvervole.formats.listing import ListedPage
+
+    from .formats import Formats
 
 __all__ = ["main", "parser"]
 
@@ -32,14 +38,32 @@ def check(checking: Checking, program: str) -> int:
 
     teller = Teller(tell, lambda subject, note: screen.say(f"{subject.page}: {note}"), tell_failure,
                     lambda subject: screen.begin(subject.page), lambda subject: screen.end())
+    table = read_rules()
+    formats = formats_of(checking, table)
     try:
-        worst = Run(checking, read_rules(), teller).all()
+        worst = Run(checking, table, teller, formats).all()
     finally:
         screen.pause()
+    for line in formats.write(in_order(checking, pages)) if formats is not None else ():
+        screen.say(line)
     findings = [checked.findings for checked in pages]
     screen.write(last_lines(findings, len(lost), checking.budget))
     failed = sum(found.counts["failed"] for found in findings) > checking.budget
     return max(worst, End.FAILED if failed else End.WRITTEN)
+
+
+def formats_of(checking: Checking, table: RuleTable) -> Formats | None:
+    """What writes the formats, where one is asked for."""
+    if not any_format(checking.given):
+        return None
+    from .formats import Formats  # only here, since it loads slowly
+    return Formats(checking, table)
+
+
+def in_order(checking: Checking, pages: list[Checked]) -> list[ListedPage]:
+    """The pages in the order in which they were named, however they were checked."""
+    order = {subject: place for place, subject in enumerate(checking.subjects)}
+    return [checked.listed for checked in sorted(pages, key=lambda checked: order[checked.subject]) if checked.listed is not None]
 
 
 def work(words: Sequence[str], program: str, asked: Parser) -> int:

@@ -11,6 +11,7 @@ from silvervole.collect.ends import End, Stop
 from silvervole.collect.many import read_list
 from silvervole.collect.options import MOST_JOBS, Options, add_opening, whole
 from silvervole.collect.places import check_written
+from silvervole.formats.options import FORMATS, add_format_options
 from silvervole.settings.reading import FILE, MOST_BUDGET, NO_SETTINGS, Settings, read_settings
 from silvervole.settings.sign_in import SignIn
 from silvervole.words import Parser
@@ -52,6 +53,7 @@ def parser(program: str = "check", example: str = "") -> Parser:
     made.add_argument("--passed", action="store_true", help="tells what passed too")
     made.add_argument("--sign-in", metavar="COMMAND", type=shlex.split,
                       help="a command that prints `cookie NAME=VALUE` and `header NAME: VALUE` lines, with which pages are asked")
+    add_format_options(made)
     made.add_argument("--settings", metavar="FILE", help=f"the file of settings ({FILE}, where it is there)")
     return made
 
@@ -75,7 +77,7 @@ def settings_of(path: str | None, asked: Parser) -> Settings:
     if path is None and not os.path.exists(FILE):
         return NO_SETTINGS
     options: dict[str, Any] = vars(asked.parse_args([]))
-    return read_settings(path or FILE, set(options), ())
+    return read_settings(path or FILE, set(options), FORMATS)
 
 
 def subjects_of(given: argparse.Namespace, settings: Settings, asked: Parser) -> tuple[Subject, ...]:

@@ -8,7 +8,7 @@ import os
 import threading
 import time
 from dataclasses import dataclass
-from typing import Callable, ContextManager
+from typing import TYPE_CHECKING, Callable, ContextManager
 
 from silvervole.collect.ends import End, Stop, write_file
 from silvervole.collect.many import Browsers
@@ -16,6 +16,7 @@ from silvervole.collect.pages import Collected, collect_page
 from silvervole.collect.places import ended
 from silvervole.program import Audit
 from silvervole.settings.sign_in import Signed
+from silvervole.view.command import read
 from silvervole.view.findings import Findings, bring_together
 from silvervole.view.page import Page, read_page
 from silvervole.view.report import Report, read_report
@@ -24,27 +25,22 @@ from silvervole.view.rules import RuleTable
 from .options import Checking
 from .subjects import Subject
 
+if TYPE_CHECKING:
+    # They load slowly, and are only there where a format is asked for.
+    from silvervole.formats.listing import ListedPage
+
+    from .formats import Formats
+
 
 @dataclass(frozen=True)
 class Checked:
-    """An audited page: its snapshot and report as bytes and as they are read, and how long both took.
-
-    Of a frame or a state there is the ending that its files have.
-    """
+    """An audited page, and what was found. Of a frame or a state there is the ending that its files have."""
 
     subject: Subject
     ending: str
-    snapshot: bytes
-    text: bytes
-    page: Page
-    report: Report
     findings: Findings
-    seconds: float
-
-    @property
-    def failed(self) -> int:
-        """How many findings failed."""
-        return self.findings.counts["failed"]
+    # The same for the formats; None where none is asked for.
+    listed: ListedPage | None = None
 
 
 @dataclass
@@ -61,9 +57,10 @@ class Teller:
 class Run:
     """One check of all pages."""
 
-    def __init__(self, checking: Checking, table: RuleTable, teller: Teller) -> None:
+    def __init__(self, checking: Checking, table: RuleTable, teller: Teller, formats: Formats | None) -> None:
         self.checking = checking
         self.table = table
+        self.formats = formats
         self.teller = teller
         self.signed = checking.sign_in.run() if checking.sign_in is not None else Signed()
         self.browsers = Browsers()
@@ -101,9 +98,8 @@ class Run:
 
         try:
             self.teller.begin(subject)
-            snapshot = subject.snapshot()
-            if snapshot is not None:
-                self.audit(subject, "", snapshot, began)
+            if subject.is_snapshot:
+                self.audit(subject, "", read(subject.file), began)
             else:
                 self.collect(subject, keep)
         except Stop as stop:
@@ -132,12 +128,26 @@ class Run:
             page = read_page(snapshot, subject.page)
             text = audit.report()
         report = read_report(text, "what the desk wrote")
-        findings = bring_together(report, page, self.table, None)
-        checked = Checked(subject, ending, snapshot, text, page, report, findings, time.monotonic() - began)
-        if self.checking.out:
-            keep_files(self.checking.out, checked)
+        file = self.keep(subject, ending, snapshot, text)
+        checked = self.brought_together(subject, ending, page, report, file, time.monotonic() - began)
         with self.telling:
             self.teller.checked(checked)
+
+    def brought_together(self, subject: Subject, ending: str, page: Page, report: Report, file: str, seconds: float) -> Checked:
+        """All that is told of a page, whose snapshot stands in the file."""
+        if self.formats is None:
+            return Checked(subject, ending, bring_together(report, page, self.table, None))
+        listed = self.formats.listed(subject, page, report, seconds, file)
+        return Checked(subject, ending, self.formats.view(listed), listed)
+
+    def keep(self, subject: Subject, ending: str, snapshot: bytes, text: bytes) -> str:
+        """Writes a page's snapshot and report into the folder of --out; the file of the snapshot, empty where it is in none."""
+        if not self.checking.out:
+            return subject.file if subject.is_snapshot else ""
+        file = ended(os.path.join(self.checking.out, f"{subject.name}.json"), ending)
+        write_file(file, snapshot)
+        write_file(f"{os.path.splitext(file)[0]}.txt", text)
+        return file
 
 
 def make_folder(path: str) -> None:
@@ -146,10 +156,3 @@ def make_folder(path: str) -> None:
         os.makedirs(path, exist_ok=True)
     except OSError as error:
         raise Stop(End.OUTPUT, f"{path} can't be made: {error.strerror}") from None
-
-
-def keep_files(folder: str, checked: Checked) -> None:
-    """Writes a page's snapshot and report into a folder."""
-    snapshot = ended(os.path.join(folder, f"{checked.subject.name}.json"), checked.ending)
-    write_file(snapshot, checked.snapshot)
-    write_file(f"{os.path.splitext(snapshot)[0]}.txt", checked.text)

@@ -10,7 +10,7 @@ from silvervole.collect.ends import one_line, say, write_out
 from .telling import Kind, Line, plain
 
 # How rich draws each kind of line.
-STYLES = {Kind.PAGE: "bold", Kind.FAILED: "bold red", Kind.TO_JUDGE: "bold yellow", Kind.PASSED: "bold green",
+STYLES = {Kind.PAGE: "bold", Kind.FAILED: "bold red", Kind.TO_JUDGE: "bold yellow", Kind.PASSED: "bold green", Kind.ACCEPTED: "bold magenta",
           Kind.RULE: "bold", Kind.PLACE: "cyan", Kind.PLAIN: ""}
 
 

@@ -1,6 +1,7 @@
 """What is checked: pages of servers, pages in files, and snapshots."""
 from __future__ import annotations
 
+import functools
 import os
 import pathlib
 import urllib.parse
@@ -45,12 +46,10 @@ class Subject:
         """The name of its files in a folder, without an ending."""
         return name_of(self.url or self.page)
 
-    def snapshot(self) -> bytes | None:
-        """The bytes of the page's file where it is a snapshot; None where it is a page to open."""
-        if not self.file or not os.path.isfile(self.file):
-            return None
-        data = read(self.file)
-        return data if is_object(data) else None
+    @functools.cached_property
+    def is_snapshot(self) -> bool:
+        """Whether the page's file is a snapshot rather than a page to open."""
+        return bool(self.file) and os.path.isfile(self.file) and is_object(read(self.file))
 
 
 def address_of(path: str) -> str:

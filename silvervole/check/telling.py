@@ -19,6 +19,7 @@ class Kind(enum.Enum):
     PAGE = "page"
     FAILED = "failed"
     TO_JUDGE = "cantTell"
+    ACCEPTED = "accepted"
     PASSED = "passed"
     RULE = "rule"
     PLACE = "place"
@@ -33,7 +34,7 @@ class Line(NamedTuple):
     text: str
 
 
-HEADINGS = {"failed": "FAILED", "cantTell": "FOR A PERSON TO JUDGE", "passed": "PASSED"}
+HEADINGS = {"failed": "FAILED", "cantTell": "FOR A PERSON TO JUDGE", "accepted": "FAILED, AND ACCEPTED FOR NOW", "passed": "PASSED"}
 WORDS = {"failed": "failed", "cantTell": "to judge", "passed": "passed"}
 LONGEST_TEXT = 80
 EMPTY = Line(Kind.PLAIN, 0, "")
@@ -43,12 +44,14 @@ def page_lines(checked: Checked, with_passed: bool) -> Iterator[Line]:
     """All that is told of a page: the worst first."""
     found = checked.findings
     yield Line(Kind.PAGE, 0, title(checked))
-    for outcome in OUTCOMES if with_passed else OUTCOMES[:-1]:
-        if found.counts[outcome]:
+    sections = {**found.sections, "accepted": found.accepted}
+    for outcome, heading in HEADINGS.items():
+        number = sum(part.count for part in sections[outcome])
+        if number and (outcome != "passed" or with_passed):
             yield EMPTY
-            yield Line(Kind(outcome), 0, f"{HEADINGS[outcome]}: {found.counts[outcome]}")
-            for part in found.sections[outcome]:
-                yield from rule_lines(part)
+            yield Line(Kind(outcome), 0, f"{heading}: {number}")
+            for part in sections[outcome]:
+                yield from rule_lines(part, found)
     yield EMPTY
     yield Line(Kind.PLAIN, 0, counts_line(found))
     yield EMPTY
@@ -63,12 +66,12 @@ def title(checked: Checked) -> str:
     return f"{shown}{named}" + (f", state {found.state}" if found.state else "") + frame
 
 
-def rule_lines(part: RulePart) -> Iterator[Line]:
+def rule_lines(part: RulePart, found: Findings) -> Iterator[Line]:
     """What is told of a rule with one outcome."""
     yield EMPTY
     yield Line(Kind.RULE, 2, rule_title(part.rule))
     for reason in part.parts:
-        yield from reason_lines(reason)
+        yield from reason_lines(part.rule, reason, found)
     for merged in part.merged:
         yield Line(Kind.PLAIN, 4, f"Merged in it, {WORDS[merged.outcome]}: {rule_title(merged.rule)}")
 
@@ -79,7 +82,7 @@ def rule_title(rule: Rule) -> str:
     return f"{rule.name or 'Rule'} ({rule.id}{'; ' if criteria else ''}{criteria})"
 
 
-def reason_lines(reason: ReasonPart) -> Iterator[Line]:
+def reason_lines(rule: Rule, reason: ReasonPart, found: Findings) -> Iterator[Line]:
     """What a reason means, what mends it, and where it is so."""
     if reason.advice is not None:
         yield Line(Kind.PLAIN, 4, reason.advice.means)
@@ -88,6 +91,8 @@ def reason_lines(reason: ReasonPart) -> Iterator[Line]:
         yield Line(Kind.PLAIN, 4, f"The reason: {reason.reason}")
     for target in reason.targets:
         yield from target_lines(target)
+        for note in found.notes.get((rule.id, target.number), ()):
+            yield Line(Kind.PLAIN, 6, note)
 
 
 def target_lines(target: Target) -> Iterator[Line]:
@@ -104,7 +109,9 @@ def counts_line(found: Findings) -> str:
 
 def sums(pages: Sequence[Findings]) -> str:
     """How many findings of each outcome some pages have, the worst first."""
-    return ", ".join(f"{sum(page.counts[outcome] for page in pages)} {WORDS[outcome]}" for outcome in OUTCOMES)
+    parts = [f"{sum(page.counts[outcome] for page in pages)} {WORDS[outcome]}" for outcome in OUTCOMES]
+    accepted = sum(part.count for page in pages for part in page.accepted)
+    return ", ".join([*parts, *([f"{accepted} accepted for now"] if accepted else [])])
 
 
 def counted(number: int, what: str) -> str:

@@ -6,8 +6,7 @@ import os
 from typing import Sequence
 
 from silvervole.collect.ends import End, run_command, write_out
-from silvervole.formats.gathering import compared
-from silvervole.formats.options import accept, add_format_options, any_format, write_formats
+from silvervole.formats.options import add_format_options, any_format
 from silvervole.view.rules import read_rules
 from silvervole.words import Parser
 
@@ -59,6 +58,8 @@ def work(words: Sequence[str], asked: Parser) -> int:
     pages = compare_folders(olds, news, table)
     listing = None
     if any_format(given):
+        from silvervole.formats.gathering import compared  # only here, since they load slowly
+        from silvervole.formats.writing import accept, write_formats
         listing = accept(compared(pages, olds, news, table), given, table, asked.prog)
         write_formats(listing, given)
     write_out(text_of(pages, table, listing).encode("utf-8"))
