@@ -74,7 +74,9 @@ function countOf(app, page, outcome, outcomes) {
   if (outcome !== 'cantTell') return counted(outcomes.length, 'finding', 'findings');
   const judged = judgedOf(app, page, outcomes);
   const left = judged.filter((one) => one.by).length;
-  return counted(judged.length, 'finding', 'findings') + (left ? `, ${left} left open by who judged` : '');
+  const merged = outcomes.filter(isForNobody).length;
+  return [counted(judged.length, 'finding', 'findings'), left ? `${left} of them left open by who judged` : '',
+    merged ? `and ${counted(merged, 'composite', 'composites')} that follow${merged === 1 ? 's' : ''} from them` : ''].filter(Boolean).join(', ');
 }
 
 /** The findings with one outcome, of which some are shown. */

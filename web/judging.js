@@ -27,13 +27,14 @@ function verdictField(begun) {
 function noteField(begun) {
   const note = el('textarea', { id: 'note', name: 'note', 'aria-describedby': 'note-hint', autocomplete: 'off' });
   note.value = begun.note;
-  return el('div', { class: 'note' }, el('label', { for: 'note' }, 'Note'), note,
+  return el('div', { class: 'typed' }, el('label', { for: 'note' }, 'Note'), note,
     el('p', { class: 'quiet', id: 'note-hint' }, `Why, for those who come after you. At most ${MOST_BYTES} bytes. It is kept for you in this browser until the desk has it.`));
 }
 
 /** Whether an answer is for each finding of the question, which has several. */
-const aloneField = (findings) => (findings.length === 1 ? null : el('p', { class: 'alone' },
-  el('label', {}, el('input', { type: 'checkbox', name: 'alone' }), el('span', {}, `Only for this one. Else your answer is sent for each of the ${findings.length} findings.`))));
+const aloneField = (findings) => (findings.length === 1 ? null : el('div', { class: 'alone' },
+  el('p', {}, `Your answer is sent for each of these ${findings.length} findings.`),
+  el('label', {}, el('input', { type: 'checkbox', name: 'alone' }), el('span', {}, 'Only for the one that is shown'))));
 
 /** A form for the answer to a question, and what becomes of it. */
 class Answer {

@@ -16,6 +16,7 @@ const shortened = (text, most) => (text.length <= most ? text : `${text.slice(0,
 /** The end of a text where it is long. */
 const lastOf = (text, most) => (text.length <= most ? text : `…${text.slice(1 - most).trimStart()}`);
 const isText = (row) => row.text !== undefined;
+const solid = (pieces) => pieces.filter(({ text }) => text.trim());
 const isDrawn = (row) => row.f.includes('v');
 const tagOf = (row) => row.tag.toLowerCase();
 const attribute = (row, name) => row.attrs.find(([given]) => given.toLowerCase() === name)?.[1];
@@ -63,9 +64,9 @@ export class Nodes {
     return alt === null && tagOf(row) !== 'br' ? null : { text: ` ${alt ?? ''} `, block: this.block(row) };
   }
 
-  /** Pieces as one text, with a space where another block begins. */
-  joined(pieces) {
-    return tidy(pieces.map(({ text, block }, place) => (place > 0 && pieces[place - 1].block !== block ? ` ${text}` : text)).join(''));
+  /** Pieces as one text, with a mark where another block begins. */
+  joined(pieces, mark = ' ') {
+    return pieces.map(({ text, block }, place) => (place > 0 && pieces[place - 1].block !== block ? mark + text : text)).join('');
   }
 
   /** The pieces of the rows from one place on, in steps of 1 or -1, until they are long enough or the end is reached. */
@@ -83,15 +84,30 @@ export class Nodes {
   /** The texts in a node that are drawn, and the alternatives of its images; all its texts where it isn't drawn. Of a long text it is the front. */
   text(number) {
     const row = this.rows.get(number);
-    return shortened(this.joined(this.pieces(this.places.get(number), this.end(number), 4 * MOST, 1, !isDrawn(row))), MOST);
+    return shortened(tidy(this.joined(this.pieces(this.places.get(number), this.end(number), 4 * MOST, 1, !isDrawn(row)))), MOST);
   }
 
-  /** What is drawn just before an element and just after it. */
+  /** The text of an element, and what is drawn just before it and just after it; each block of the page is a line. */
   around(number) {
     const row = this.element(number);
-    const before = this.joined(this.pieces(this.places.get(row.n) - 1, -1, AROUND, -1));
-    const after = this.joined(this.pieces(this.end(row.n), this.list.length, AROUND));
-    return { before: lastOf(before, AROUND), after: shortened(after, AROUND) };
+    const [start, end] = [this.places.get(row.n), this.end(row.n)];
+    const before = this.pieces(start - 1, -1, AROUND, -1);
+    const own = this.pieces(start, end, Infinity);
+    const after = this.pieces(end, this.list.length, AROUND);
+    const ownBlocks = solid(own).length ? solid(own).map(({ block }) => block) : [this.block(row)];
+    const breaks = (piece, block) => piece !== undefined && piece.block !== block;
+    const [textBefore, textAfter] = [this.lines(before).trimStart(), this.lines(after).trimEnd()];
+    return {
+      before: breaks(solid(before).pop(), ownBlocks[0]) ? `${lastOf(textBefore.trimEnd(), AROUND)}\n` : lastOf(textBefore, AROUND),
+      own: this.text(row.n),
+      after: breaks(solid(after)[0], ownBlocks[ownBlocks.length - 1]) ? `\n${shortened(textAfter.trimStart(), AROUND)}` : shortened(textAfter, AROUND),
+    };
+  }
+
+  /** Pieces as text, each block a line; spaces at the ends stay, as they part words. */
+  lines(pieces) {
+    const spaced = pieces.map(({ text, block }) => ({ text: text.replace(/\s+/g, ' '), block }));
+    return this.joined(spaced, '\n').replace(/ +/g, ' ').replace(/\s*\n\s*/g, '\n');
   }
 
   /** The last heading with a text that is drawn before a node; null where there is none. */

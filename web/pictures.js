@@ -4,8 +4,9 @@ import { el } from './dom.js';
 
 const PATIENCE = 30_000;
 const MARGIN = 40;
-const LEAST_WIDTH = 360;
-const LEAST_HEIGHT = 120;
+const LEAST_WIDTH = 480;
+const GREATEST_WIDTH = 800;
+const LEAST_HEIGHT = 240;
 const GREATEST_HEIGHT = 640;
 
 const path = (site, page, ending) => `shots/${encodeURIComponent(site)}/${encodeURIComponent(page)}.${ending}`;
@@ -75,7 +76,7 @@ export function pictureOf(picture, nodes, number, rev) {
   const { image } = picture;
   const own = nodes.element(number);
   const { row, box } = drawn(picture, nodes, number) ?? {};
-  const [left, width] = box ? span(box[0], box[2], image.naturalWidth, LEAST_WIDTH, image.naturalWidth) : [0, image.naturalWidth];
+  const [left, width] = box ? span(box[0], box[2], image.naturalWidth, LEAST_WIDTH, GREATEST_WIDTH) : [0, image.naturalWidth];
   const [top, height] = box ? span(box[1], box[3], image.naturalHeight, LEAST_HEIGHT, GREATEST_HEIGHT) : [0, Math.min(image.naturalHeight, GREATEST_HEIGHT)];
   const alt = row ? `The page around ${row.tag}, node ${row.n}, as it looked` : 'The upper part of the page, as it looked';
   return el('figure', { class: 'shot' }, crop(image, alt, left, top, width, height, box),

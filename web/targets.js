@@ -57,11 +57,11 @@ export function facts(page, outcome) {
 const evidenceFacts = (outcome) => [fact('Evidence', outcome.evidence ? el('pre', {}, outcome.evidence) : quiet('none')),
   ...(outcome.by ? [fact('Judged by', el('bdi', {}, outcome.by))] : [])];
 
-/** What stands before and after an element, with its own text between them. */
+/** What stands before and after an element, with its own text between them; where that is empty, its start tag. */
 function inPlace(nodes, number) {
-  const { before, after } = nodes.around(number);
-  const text = nodes.text(number);
-  return fact('In its place', before ? [el('bdi', {}, before), ' '] : [], text ? el('mark', {}, text) : el('mark', {}, code(nodes.startTag(number))), after ? [' ', el('bdi', {}, after)] : []);
+  const { before, own, after } = nodes.around(number);
+  return el('div', { class: 'place' }, el('dt', {}, 'In its place'),
+    el('dd', {}, el('bdi', {}, before), el('mark', {}, own || code(nodes.startTag(number))), el('bdi', {}, after)));
 }
 
 /** A link to the page, to the place of the node where an id leads near it. */

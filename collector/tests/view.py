@@ -14,6 +14,7 @@ from typing import Any
 
 from silvervole.collect.taking import Wanted, take
 
+from .axe import violations
 from .support import DESK, DOCS, PAGES, ROOT, SITE, VIEW, collect_here, expect, open_file, page, run, same, well_formed
 
 # Each kind of line that a report may have, on the search page.
@@ -32,9 +33,6 @@ zz9999 node 69 failed never-heard-of
 yy8888 inapplicable
 passed 4 failed 4 cantTell 2 inapplicable 2
 """
-
-AXE = ("node_modules/axe-core/axe.min.js", "/usr/share/nodejs/axe-core/axe.min.js", "/usr/lib/node_modules/axe-core/axe.min.js",
-       "/usr/local/lib/node_modules/axe-core/axe.min.js")
 
 # Texts whose contrast with what is behind them is too small, by WCAG 2.2's formula.
 CONTRAST = """
@@ -173,14 +171,8 @@ def self_audit(browser: Any, path: str) -> None:
 
 def axe(browser: Any, path: str) -> None:
     """Expects no violation of axe-core's rules, where axe-core is installed."""
-    source = next((pathlib.Path(file) for file in (os.environ.get("AXE_CORE", ""), *AXE) if file and os.path.isfile(file)), None)
-    if source is None:
-        print("collector/test: axe-core isn't installed: its check of the view is left out")
-        return
     open_file(browser, path)
-    browser.execute_script(source.read_text(encoding="utf-8"))
-    found = browser.execute_async_script("const done = arguments[0]; axe.run().then((result) => done(result.violations.map((one) => one.id)))")
-    same("axe-core's violations", found, [])
+    same("axe-core's violations", violations(browser, "collector/test"), [])
 
 
 def test_view_content(browser: Any) -> None:

@@ -10,6 +10,7 @@ from typing import Any
 
 from silvervole.collect.taking import take
 from serving import HOST, PROGRAM, ROOT
+from tests.axe import violations
 from tests.support import same
 from tests.view import CONTRAST
 
@@ -24,6 +25,12 @@ new MutationObserver(() => window.said.push(document.getElementById('status').te
   .observe(document.getElementById('status'), { childList: true, characterData: true, subtree: true });
 """
 
+# From the first moment of a page, what breaks its content policy.
+POLICY = """
+window.broken = [];
+document.addEventListener('securitypolicyviolation', (event) => window.broken.push(`${event.effectiveDirective} ${event.blockedURI}`));
+"""
+
 
 def signed_in(name: str | None) -> dict[str, str]:
     """The field by which the single-sign-on proxy tells a person."""
@@ -36,6 +43,7 @@ class Reader:
     def __init__(self, browser: Any, proxy: Proxy) -> None:
         self.browser, self.proxy = browser, proxy
         browser.execute_cdp_cmd("Network.enable", {})
+        browser.execute_cdp_cmd("Page.addScriptToEvaluateOnNewDocument", {"source": POLICY})
 
     def sign_in(self, name: str | None) -> None:
         """Sends this person's name from now on."""
@@ -82,13 +90,20 @@ class Reader:
         return self.text("#title")
 
 
-def checked(reader: Reader, what: str, picture: str | None = None) -> None:
-    """Expects a state of the page to be accessible: by the desk's own audit, narrow, in dark, in high contrast and still."""
-    browser = reader.browser
-    snapshot = take(browser, "https://desk.example/").text.encode("utf-8")
+def audited(reader: Reader, what: str) -> None:
+    """Expects that neither the desk's own audit nor axe-core finds anything on the page as it is shown, nor the browser against its content policy."""
+    snapshot = take(reader.browser, "https://desk.example/").text.encode("utf-8")
     done = subprocess.run([PROGRAM, "-", "audit"], input=snapshot, capture_output=True, check=False)
     failed = [line for line in done.stdout.decode("utf-8").splitlines() if " node " in line and line.split()[3] == "failed"]
     same(f"{what}: the desk's own audit", (done.returncode, failed), (0, []))
+    same(f"{what}: axe-core", violations(reader.browser, "tools/test-team"), [])
+    same(f"{what}: the page's own content policy", reader.browser.execute_script("return window.broken"), [])
+
+
+def checked(reader: Reader, what: str, picture: str | None = None) -> None:
+    """Expects a state of the page to be accessible: by two audits, wide and narrow, in dark, in high contrast and still."""
+    browser = reader.browser
+    audited(reader, what)
     for features in ([("prefers-color-scheme", "light")], [("prefers-color-scheme", "dark")]):
         browser.execute_cdp_cmd("Emulation.setEmulatedMedia", {"features": [{"name": name, "value": value} for name, value in features]})
         same(f"{what}: texts without enough contrast, {features[0][1]}", browser.execute_script(CONTRAST), [])
@@ -102,6 +117,7 @@ def checked(reader: Reader, what: str, picture: str | None = None) -> None:
     small = browser.execute_script("""return [...document.querySelectorAll('button, input[type=text], select, .button')]
         .map((one) => one.getBoundingClientRect().height).filter((height) => height < 24)""")
     same(f"{what}: what is too small to hit", small, [])
+    audited(reader, f"{what}, on 320 pixels")
     size(browser, 1280, 900)
     if picture and os.environ.get("PICTURES"):
         PICTURES.mkdir(exist_ok=True)
