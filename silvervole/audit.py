@@ -15,7 +15,7 @@ def parser(program: str = "audit", example: str = "") -> Parser:
     """The words of the command."""
     made = Parser(prog=program, usage=f"{program} [SNAPSHOT]", example=example,
                   description="Writes the desk's text report of a snapshot on standard output, and ends with the program's own status. "
-                              "docs/desk.md says more.")
+                              "docs/use/desk.md says more.")
     made.add_argument("snapshot", metavar="SNAPSHOT", nargs="?", default="-", help="the page's snapshot; - is standard input (-)")
     return made
 

@@ -7,7 +7,7 @@ from dataclasses import dataclass
 
 from silvervole.collect.ends import End, one_line
 
-# docs/desk.md has the statuses.
+# docs/use/desk.md has the statuses.
 MEANINGS = {
     End.FAULT_WORDS: "it doesn't take its words",
     End.FAULT_READING: "it can't read its input",
@@ -18,7 +18,7 @@ MEANINGS = {
     End.FAULT_MEMORY: "it is out of memory",
     End.FAULT_EDITION: "the store is of another edition",
 }
-# docs/snapshot.md has the faults of a snapshot, and of its tree.
+# docs/use/snapshot.md has the faults of a snapshot, and of its tree.
 SNAPSHOT = re.compile(r"snapshot fault [0-9]+ (?P<name>[A-Za-z]+)(?: place (?P<row>[0-9]+) field (?P<field>[a-z]+))?"
                       r"(?: [0-9]+ (?P<tree>[A-Za-z]+)(?: node (?P<node>[0-9]+))?)?")
 BROKEN = {

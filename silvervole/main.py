@@ -45,7 +45,7 @@ def help_text() -> str:
     longest = max(map(len, WORDS))
     lines = "".join(f"  {name:{longest}}  {word.does}\n" for name, word in WORDS.items())
     return (f"usage: {USAGE}\n\nAccessibility audits of web pages.\n\n{lines}\n  --version  says the version, and where the desk's program is\n"
-            f"\ndocs/silvervole.md has the words, the settings and the statuses.\n\nexample:\n  {WORDS['check'].example}\n")
+            f"\ndocs/use/silvervole.md has the words, the settings and the statuses.\n\nexample:\n  {WORDS['check'].example}\n")
 
 
 def version_text() -> str:

@@ -39,7 +39,7 @@ def parser(program: str = "check", example: str = "") -> Parser:
     """The words of the command."""
     made = Parser(prog=program, usage=USAGE.format(program), example=example,
                   description="Collects pages, audits them, and tells what was found: what it is, where, what it means and what usually mends "
-                              "it. Ends with 1 where something failed. docs/silvervole.md says more.")
+                              "it. Ends with 1 where something failed. docs/use/silvervole.md says more.")
     made.add_argument("pages", metavar="ADDRESS|FILE", nargs="*", help="an http or https address, an HTML file, or a snapshot")
     made.add_argument("--url", metavar="ADDRESS", help="the http or https address to write as that of the one file (one made of its path)")
     made.add_argument("--list", metavar="FILE", help="checks the pages of a list, an address a line; - is standard input")
