@@ -36,10 +36,13 @@ def find_program(names: tuple[str, ...] = (DESK,)) -> str:
                             f"install the package, or name it in {SETTING}")
 
 
-def start(program: str, words: list[str], given: IO[bytes] | int, told: IO[bytes] | int) -> subprocess.Popen[bytes]:
-    """The program with these words, started; what it says on standard error is read by whoever waits for it."""
+def start(program: str, words: list[str], given: IO[bytes] | int, told: IO[bytes] | int, apart: bool = False) -> subprocess.Popen[bytes]:
+    """The program with these words, started; what it says on standard error is read by whoever waits for it.
+
+    Where it is apart, an interrupt at the terminal doesn't reach it.
+    """
     try:
-        return subprocess.Popen([program, *words], stdin=given, stdout=told, stderr=subprocess.PIPE)
+        return subprocess.Popen([program, *words], stdin=given, stdout=told, stderr=subprocess.PIPE, start_new_session=apart)
     except OSError as error:
         raise Stop(End.PROGRAM, f"{program} can't be started: {error.strerror}") from None
 

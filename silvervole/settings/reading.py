@@ -97,14 +97,21 @@ PAGE_KEYS = {"address", "file", "states"}
 
 def read_settings(path: str, options: Collection[str], formats: Collection[str]) -> Settings:
     """The settings of a file for a command with these options, of which some write formats; a Stop says what is wrong with it."""
+    try:
+        with open(path, "rb") as file:
+            data = file.read()
+    except OSError as error:
+        raise Stop(End.USAGE, f"{path}: it can't be read: {error.strerror}") from None
+    return settings_in(data, path, options, formats)
+
+
+def settings_in(data: bytes, path: str, options: Collection[str], formats: Collection[str]) -> Settings:
+    """The settings that the bytes of a file hold."""
     def refuse(why: str) -> Stop:
         return Stop(End.USAGE, f"{path}: {why}")
 
     try:
-        with open(path, "rb") as file:
-            given = tomllib.load(file)
-    except OSError as error:
-        raise refuse(f"it can't be read: {error.strerror}") from None
+        given = tomllib.loads(data.decode("utf-8"))
     except (tomllib.TOMLDecodeError, UnicodeDecodeError) as error:
         raise refuse(f"it isn't TOML: {error}") from None
     folder = os.path.dirname(path)

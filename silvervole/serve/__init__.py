@@ -1,0 +1,1 @@
+"""Serves the desk over HTTP, and says in words where it listens and what is wrong."""
