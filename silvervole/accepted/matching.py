@@ -10,24 +10,15 @@ from .reading import ANY_PAGE, Acceptance
 
 
 def with_accepted(listing: Listing, acceptances: Sequence[Acceptance]) -> Listing:
-    """The list, in which each failed finding has its acceptance, the longest where there is more than one.
+    """The list, in which each failed finding has its acceptance. An acceptance that no finding has is named as one that matches nothing."""
+    pages = tuple(accepted_page(page, acceptances) for page in listing.pages)
+    return replace(listing, pages=pages, unmatched=tuple(one for one in acceptances if not any(matches(one, entry) for entry in listing)))
 
-    No outcome changes. An acceptance that no finding has is named as one that matches nothing.
-    """
+
+def accepted_page(page: ListedPage, acceptances: Sequence[Acceptance]) -> ListedPage:
+    """The page, in which each failed finding has its acceptance, the longest where there is more than one. No outcome changes."""
     longest = sorted(acceptances, key=lambda one: one.until, reverse=True)
-    matched: set[Acceptance] = set()
-
-    def accepted(entry: Entry) -> Entry:
-        found = [one for one in longest if matches(one, entry)]
-        matched.update(found)
-        return replace(entry, acceptance=found[0]) if found else entry
-
-    pages = tuple(with_entries(page, [accepted(entry) for entry in page.entries]) for page in listing.pages)
-    return replace(listing, pages=pages, unmatched=tuple(one for one in acceptances if one not in matched))
-
-
-def with_entries(page: ListedPage, entries: list[Entry]) -> ListedPage:
-    """The page with these entries in their order."""
+    entries = (replace(entry, acceptance=next((one for one in longest if matches(one, entry)), None)) for entry in page.entries)
     return replace(page, entries=tuple(worst_first(entries)))
 
 

@@ -26,14 +26,14 @@ def check(checking: Checking, program: str) -> int:
     """The status of a check, all of whose findings are told."""
     screen = Screen(program, len(checking.subjects))
     pages: list[Checked] = []
-    lost: list[Subject] = []
+    lost: list[tuple[Subject, Stop]] = []
 
     def tell(checked: Checked) -> None:
         pages.append(checked)
         screen.write(page_lines(checked, checking.passed))
 
     def tell_failure(subject: Subject, stop: Stop) -> None:
-        lost.append(subject)
+        lost.append((subject, stop))
         screen.say(f"{subject.page}: status {stop.end.value}: {stop.line}")
 
     teller = Teller(tell, lambda subject, note: screen.say(f"{subject.page}: {note}"), tell_failure,
@@ -44,7 +44,7 @@ def check(checking: Checking, program: str) -> int:
         worst = Run(checking, table, teller, formats).all()
     finally:
         screen.pause()
-    for line in formats.write(in_order(checking, pages)) if formats is not None else ():
+    for line in formats.write(in_order(checking, pages), lost) if formats is not None else ():
         screen.say(line)
     findings = [checked.findings for checked in pages]
     screen.write(last_lines(findings, len(lost), checking.budget))

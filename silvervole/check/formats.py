@@ -3,11 +3,12 @@ from __future__ import annotations
 
 import datetime
 
-from silvervole.accepted.matching import with_accepted
+from silvervole.accepted.matching import accepted_page, with_accepted
 from silvervole.accepted.reading import read_accepted
+from silvervole.collect.ends import Stop
 from silvervole.formats.gathering import about_page, listed_page
 from silvervole.formats.html_files import view_of
-from silvervole.formats.listing import ListedPage, Listing
+from silvervole.formats.listing import ListedPage, Listing, LostPage
 from silvervole.formats.words import unmatched_line
 from silvervole.formats.writing import write_formats
 from silvervole.view.findings import Findings
@@ -30,20 +31,18 @@ class Formats:
 
     def listed(self, subject: Subject, page: Page, report: Report, seconds: float, snapshot: str) -> ListedPage:
         """A page's findings, each with its acceptance; `snapshot` is the file of the page's snapshot, empty where it is in none."""
-        file = "" if snapshot == subject.file else subject.file
+        # A page's file holds nothing of what is in its frames.
+        file = "" if snapshot == subject.file or page.in_frame else subject.file
         about = about_page(page, report, "", file, snapshot, seconds)
-        return self.accepted([listed_page(about, page, report, self.table)]).pages[0]
-
-    def accepted(self, pages: list[ListedPage]) -> Listing:
-        """The list of these pages, with what is accepted and what matches nothing."""
-        return with_accepted(Listing(tuple(pages)), self.acceptances)
+        return accepted_page(listed_page(about, page, report, self.table), self.acceptances)
 
     def view(self, page: ListedPage) -> Findings:
         """What is told of a page, with what is accepted apart."""
         return view_of(page)
 
-    def write(self, pages: list[ListedPage]) -> list[str]:
+    def write(self, pages: list[ListedPage], lost: list[tuple[Subject, Stop]]) -> list[str]:
         """Writes all formats; a line for each acceptance that matches nothing on any page."""
-        listing = self.accepted(pages)
+        not_checked = tuple(LostPage(subject.page, stop.line) for subject, stop in lost)
+        listing = with_accepted(Listing(tuple(pages), lost=not_checked), self.acceptances)
         write_formats(listing, self.given)
         return [f"{self.given.accepted}: {unmatched_line(acceptance)}" for acceptance in listing.unmatched]

@@ -25,7 +25,8 @@ def write_json(listing: Listing) -> bytes:
     made = {"form": FORM, "compared": listing.compared, "fails": listing.fails,
             "pages": [page_of(page) for page in listing.pages],
             "findings": told(listing.counting), "accepted": told(listing.accepted),
-            "unmatched": [acceptance_of(acceptance) for acceptance in listing.unmatched]}
+            "unmatched": [acceptance_of(acceptance) for acceptance in listing.unmatched],
+            "lost": [{"name": lost.name, "why": lost.why} for lost in listing.lost]}
     return json.dumps(made, ensure_ascii=False, indent=1).encode("utf-8", "replace") + b"\n"
 
 

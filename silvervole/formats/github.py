@@ -4,12 +4,13 @@ from __future__ import annotations
 from silvervole.collect.ends import one_line
 
 from .listing import MENDED, STAYS, Entry, Listing
-from .words import lines_of, unmatched_line
+from .words import lines_of, lost_line, unmatched_line
 
 
 def write_github(listing: Listing) -> bytes:
     """A line for each finding that failed or is to judge, what fails the pipeline first: GitHub shows ten of a kind for each step."""
-    lines = [annotation(entry) for entry in listing if entry.outcome != "passed" and entry.change != MENDED]
+    lines = [f"::error title=Not checked::{data(lost_line(lost))}" for lost in listing.lost]
+    lines += [annotation(entry) for entry in listing if entry.outcome != "passed" and entry.change != MENDED]
     lines += [f"::notice title=Accepted::{data(unmatched_line(acceptance))}" for acceptance in listing.unmatched]
     return "".join(f"{line}\n" for line in lines).encode("utf-8", "replace")
 

@@ -9,7 +9,7 @@ from silvervole.collect.ends import End, Stop
 from silvervole.view.findings import CriterionLine, Findings, RulePart
 
 from .listing import NEW, Entry, ListedPage, Listing
-from .words import accepted_line, unmatched_line
+from .words import accepted_line, lost_line, unmatched_line
 
 Key = tuple[str, int]
 
@@ -20,7 +20,7 @@ def html_files(listing: Listing, path: str) -> Iterator[tuple[str, bytes]]:
 
     views = [(page, view_of(page)) for page in listing.pages if page.view is not None or page.entries]
     unmatched = tuple(map(unmatched_line, listing.unmatched))
-    if len(views) == 1:
+    if len(views) == 1 and not listing.lost:
         page, view = views[0]
         yield path, write_view(replace(view, unmatched=unmatched), page.picture).encode("utf-8")
         return
@@ -28,7 +28,8 @@ def html_files(listing: Listing, path: str) -> Iterator[tuple[str, bytes]]:
     files = [f"{stem}-{number}{ending or '.html'}" for number in range(1, len(views) + 1)]
     for file, (page, view) in zip(files, views):
         yield file, write_view(view, page.picture).encode("utf-8")
-    yield path, write_list([(os.path.basename(file), view) for file, (_, view) in zip(files, views)], unmatched).encode("utf-8")
+    yield path, write_list([(os.path.basename(file), view) for file, (_, view) in zip(files, views)], unmatched,
+                           tuple(map(lost_line, listing.lost))).encode("utf-8")
 
 
 def view_of(page: ListedPage) -> Findings:

@@ -5,9 +5,10 @@ import xml.etree.ElementTree as ET
 
 from silvervole.collect.ends import one_line
 
-from .listing import NEW, STAYS, Entry, ListedPage, Listing
+from .listing import NEW, STAYS, Entry, ListedPage, Listing, LostPage
 from .words import accepted_line, lines_of, rule_title, unmatched_line
 
+CHECKED = "the page is collected and audited"
 # What a test that doesn't fail is passed over for; what passed or is mended passes.
 PASSED_OVER = {(STAYS, "failed"): "failed before too", (STAYS, "cantTell"): "a person has to judge, as before",
                (NEW, "cantTell"): "a person has to judge", ("", "cantTell"): "a person has to judge"}
@@ -18,6 +19,8 @@ def write_junit(listing: Listing) -> bytes:
     root = ET.Element("testsuites", name="silvervole")
     for page in listing.pages:
         add_suite(root, page)
+    for lost in listing.lost:
+        add_lost(root, lost)
     if listing.accepted or listing.unmatched:
         add_accepted(root, listing)
     add_totals(root)
@@ -36,7 +39,7 @@ def add_suite(root: ET.Element, page: ListedPage) -> None:
     if about.seconds is not None:
         suite.set("time", f"{about.seconds:.3f}")
         # A rule has no time of its own: the page is collected once, and audited by all rules at once.
-        ET.SubElement(suite, "testcase", classname="silvervole", name="the page is collected and audited", time=f"{about.seconds:.3f}")
+        ET.SubElement(suite, "testcase", classname="silvervole", name=CHECKED, time=f"{about.seconds:.3f}")
     for entry in page.entries:
         if not entry.is_accepted:
             add_case(suite, entry)
@@ -66,6 +69,14 @@ def passed_over_for(entry: Entry) -> str | None:
     return PASSED_OVER.get((entry.change, entry.outcome))
 
 
+def add_lost(root: ET.Element, lost: LostPage) -> None:
+    """Adds the suite of a page that couldn't be checked: one test with an error."""
+    suite = ET.SubElement(root, "testsuite", name=one_line(lost.name))
+    case = ET.SubElement(suite, "testcase", classname="silvervole", name=CHECKED)
+    ET.SubElement(case, "error", type="not checked", message=one_line(lost.why))
+    add_totals(suite)
+
+
 def add_accepted(root: ET.Element, listing: Listing) -> None:
     """Adds the suite of what the team accepts, and of what it accepts though nothing like it failed."""
     suite = ET.SubElement(root, "testsuite", name="accepted findings")
@@ -79,6 +90,5 @@ def add_accepted(root: ET.Element, listing: Listing) -> None:
 
 def add_totals(element: ET.Element) -> None:
     """Counts the tests below an element, in its attributes."""
-    for name, tag in (("tests", "testcase"), ("failures", "failure"), ("skipped", "skipped")):
+    for name, tag in (("tests", "testcase"), ("failures", "failure"), ("errors", "error"), ("skipped", "skipped")):
         element.set(name, str(sum(1 for _ in element.iter(tag))))
-    element.set("errors", "0")

@@ -107,12 +107,21 @@ class ListedPage:
 
 
 @dataclass(frozen=True)
+class LostPage:
+    """A page that couldn't be checked: its address or file, and why."""
+
+    name: str
+    why: str
+
+
+@dataclass(frozen=True)
 class Listing:
-    """The findings of all pages; whether two audits were compared; and acceptances that match nothing."""
+    """The findings of all pages; whether two audits were compared; pages that couldn't be checked; acceptances that match nothing."""
 
     pages: tuple[ListedPage, ...]
     compared: bool = False
     unmatched: tuple[Acceptance, ...] = ()
+    lost: tuple[LostPage, ...] = ()
 
     def __iter__(self) -> Iterator[Entry]:
         """All findings, the worst first whatever their page."""

@@ -8,7 +8,7 @@ from silvervole.collect.ends import one_line
 from silvervole.view.page import shortened
 
 from .listing import MENDED, NEW, STAYS, Entry, Listing, groups
-from .words import accepted_line, advice_of, merged_of, sums, unmatched_line
+from .words import accepted_line, advice_of, lost_line, merged_of, sums, unmatched_line
 
 MOST_BYTES = 60_000
 # Kept free for the line that says what is left out.
@@ -35,7 +35,10 @@ def write_markdown(listing: Listing) -> bytes:
 
 
 def pieces(listing: Listing) -> Iterator[str]:
-    """A text for each finding, the first of a section and of a rule with its heading."""
+    """A text for each page that couldn't be checked and each finding, the first of a section and of a rule with its heading."""
+    for place, lost in enumerate(listing.lost):
+        heading = "\n### Not checked\n\n" if place == 0 else ""
+        yield f"{heading}- {code(lost_line(lost))}\n"
     for kind, entries in groups(listing):
         if kind in HEADINGS:
             yield from section(f"{HEADINGS[kind]} ({len(entries)})", entries)

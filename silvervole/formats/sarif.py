@@ -9,7 +9,7 @@ from silvervole.collect.ends import one_line
 from silvervole.view.rules import Rule
 
 from .listing import MENDED, NEW, STAYS, Entry, Listing
-from .words import lines_of, unmatched_line
+from .words import lines_of, lost_line, unmatched_line
 
 SCHEMA = "https://docs.oasis-open.org/sarif/sarif/v2.1.0/errata01/os/schemas/sarif-schema-2.1.0.json"
 VERSION = "2.1.0"
@@ -26,9 +26,10 @@ def write_sarif(listing: Listing) -> bytes:
     driver = {"name": "Silvervole", "rules": [rule_of(rule) for rule in rules]}
     run: dict[str, Any] = {"tool": {"driver": driver}, "columnKind": "unicodeCodePoints",
                            "results": [result_of(entry, places[entry.rule.id]) for entry in entries]}
-    if listing.unmatched:
-        notes = [{"level": "warning", "message": {"text": unmatched_line(acceptance)}} for acceptance in listing.unmatched]
-        run["invocations"] = [{"executionSuccessful": True, "toolExecutionNotifications": notes}]
+    notes = [("error", lost_line(lost)) for lost in listing.lost] + [("warning", unmatched_line(acceptance)) for acceptance in listing.unmatched]
+    if notes:
+        run["invocations"] = [{"executionSuccessful": not listing.lost, "toolExecutionNotifications": [
+            {"level": level, "message": {"text": text}} for level, text in notes]}]
     log = {"$schema": SCHEMA, "version": VERSION, "runs": [run]}
     return json.dumps(log, ensure_ascii=False, indent=1).encode("utf-8", "replace") + b"\n"
 

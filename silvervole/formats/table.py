@@ -23,6 +23,8 @@ def write_csv(listing: Listing) -> bytes:
         writer.writerow(map(cell, row_of(entry)))
         for merged in entry.beneath:
             writer.writerow(map(cell, row_of(merged, f"counts under {entry.rule.id}: ")))
+    for lost in listing.lost:
+        writer.writerow(map(cell, (lost.name, "", "", "", f"not checked: {lost.why}", "", "", "", "", "")))
     for acceptance in listing.unmatched:
         writer.writerow(map(cell, ("", "", acceptance.rule, "", "", acceptance.place, "", "", "", unmatched_line(acceptance))))
     return made.getvalue().encode("utf-8-sig", "replace")

@@ -4,7 +4,7 @@ from __future__ import annotations
 from silvervole.accepted.reading import Acceptance
 from silvervole.collect.ends import one_line
 
-from .listing import Entry, Listing
+from .listing import Entry, Listing, LostPage
 
 HEADINGS = {"failed": "Failed", "cantTell": "For a person to judge", "passed": "Passed"}
 
@@ -49,6 +49,11 @@ def unmatched_line(acceptance: Acceptance) -> str:
     return one_line(f"Nothing failed like what {acceptance.who} accepts until {acceptance.until}: {acceptance.rule} at {acceptance.place}")
 
 
+def lost_line(lost: LostPage) -> str:
+    """A page that couldn't be checked."""
+    return one_line(f"{lost.name} couldn't be checked: {lost.why}")
+
+
 def sums(listing: Listing) -> str:
     """What the findings come to: how many failed, how many are to judge, and so on."""
     counts = listing.counts
@@ -58,4 +63,5 @@ def sums(listing: Listing) -> str:
     said = [f"{counts[change, outcome]} {word}" for change, outcome, word in kinds]
     if listing.compared:
         said.append(f"{sum(number for (change, _), number in counts.items() if change == 'mended')} mended")
-    return ", ".join([*said, *([f"{len(listing.accepted)} accepted"] if listing.accepted else [])])
+    more = [f"{len(listing.accepted)} accepted"] if listing.accepted else []
+    return ", ".join([*said, *more, *([f"{len(listing.lost)} not checked"] if listing.lost else [])])

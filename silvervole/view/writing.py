@@ -35,9 +35,9 @@ def write_view(findings: Findings, picture: Picture | None) -> str:
     return rendered("findings.html", picture.data if picture else "", page=findings, headings=HEADINGS, frame=FRAME)
 
 
-def write_list(views: Sequence[tuple[str, Findings]], unmatched: Sequence[str]) -> str:
-    """The text of the HTML file that leads to the views of many pages, each by the name of its file."""
-    return rendered("list.html", "", views=views, unmatched=unmatched)
+def write_list(views: Sequence[tuple[str, Findings]], unmatched: Sequence[str], lost: Sequence[str]) -> str:
+    """The text of the HTML file that leads to the views of many pages, each by the name of its file; lines on pages without one."""
+    return rendered("list.html", "", views=views, unmatched=unmatched, lost=lost)
 
 
 def rendered(name: str, picture: str, **values: object) -> str:
