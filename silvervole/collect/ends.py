@@ -40,6 +40,7 @@ class End(enum.IntEnum):
     STEP = 20
     PROGRAM = 21
     SIGN_IN = 22
+    DESK = 23
     INTERRUPTED = 130
 
 

@@ -35,8 +35,8 @@ class Listed(NamedTuple):
         return self.url or self.page
 
 
-def read_list(path: str) -> list[Listed]:
-    """The pages of a list: on each line an address, or a file's path and behind it the address to write."""
+def read_lines(path: str) -> list[tuple[int, str]]:
+    """The lines of a list, with their places; without those that are empty or begin with `#`."""
     try:
         data = sys.stdin.buffer.read() if path == "-" else pathlib.Path(path).read_bytes()
         lines = data.decode("utf-8").splitlines()
@@ -44,9 +44,15 @@ def read_list(path: str) -> list[Listed]:
         raise Stop(End.USAGE, f"--list {path} can't be read: {getattr(error, 'strerror', None) or 'no standard input'}") from None
     except UnicodeDecodeError:
         raise Stop(End.USAGE, f"--list {path} isn't in UTF-8") from None
-    pages = [listed(line, place) for place, line in enumerate(lines, 1) if line.strip() and not line.lstrip().startswith("#")]
-    if not pages:
+    found = [(place, line) for place, line in enumerate(lines, 1) if line.strip() and not line.lstrip().startswith("#")]
+    if not found:
         raise Stop(End.USAGE, f"--list {path} names no page")
+    return found
+
+
+def read_list(path: str) -> list[Listed]:
+    """The pages of a list: on each line an address, or a file's path and behind it the address to write."""
+    pages = [listed(line, place) for place, line in read_lines(path)]
     first: dict[str, str] = {}
     for page in pages:
         if page.name in first:

@@ -35,7 +35,7 @@ def run_script(proxy: Proxy, folder: str, snapshot: bytes) -> tuple[int, str]:
                   if ADDRESS in text).replace(ADDRESS, f"https://{HOST}:{proxy.port}/")
     pathlib.Path(folder, "page.json").write_bytes(snapshot)
     done = subprocess.run(["sh", "-c", script, "sh", "page.json"], cwd=folder, capture_output=True, check=False,
-                          env={**os.environ, "PATH": f"{folder}:{os.environ['PATH']}", "CURL_CA_BUNDLE": proxy.certificate,
+                          env={**os.environ, "PATH": f"{folder}:{os.environ['PATH']}", "CURL_CA_BUNDLE": proxy.certificate, "SSL_CERT_FILE": proxy.certificate,
                                "CI_USER": "ann", "CI_KEY": PASSWORD})
     return done.returncode, (done.stdout.decode().splitlines() or [done.stderr.decode()])[-1]
 
@@ -48,7 +48,8 @@ def test_pipeline_over_http() -> None:
     link = next(row["n"] for row in worse["nodes"] if row.get("tag") == "a" and [set(kid) >= {"text"} for kid in kids[row["n"]]] == [True])
     worse["nodes"] = [row for row in worse["nodes"] if row["p"] != link]
     with tempfile.TemporaryDirectory() as folder, Serving(connections=1_000_000) as desk, Proxy("basic.conf", [desk.port]) as proxy:
-        os.symlink(os.path.join(ROOT, "collector", "compare"), f"{folder}/act-desk-compare")
+        for name in ("compare", "send"):
+            os.symlink(os.path.join(ROOT, "collector", name), f"{folder}/act-desk-{name}")
         ask(proxy, "PUT /sites/acme", b"", basic("ann"))
         same("the script where the desk has no such page", run_script(proxy, folder, home)[0], REFUSED)
         ask(proxy, "PUT /sites/acme/pages/home", home, {**basic("ann"), "x-rev": "0"})

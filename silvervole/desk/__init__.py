@@ -1,0 +1,1 @@
+"""Speaks to a desk over HTTP, behind its proxy or without one."""
