@@ -2,8 +2,8 @@
 
     python3 silvervole/check_form.py FILE..
 
-It shares no code with the collector or with the desk, so that each can be held
-against it. Only the address is looked at less closely than the desk does.
+It has no code of the collector or of the desk, so that each can be held against it.
+What shows findings to people reads snapshots by it. Only the address is looked at less closely than the desk does.
 """
 import json
 import re
