@@ -5,17 +5,15 @@ import json
 import os
 import pathlib
 import re
-import subprocess
 import tempfile
 import xml.etree.ElementTree as ET
 from typing import NamedTuple
 
 from silvervole.collect.ends import End
 
-from .support import COLLECTOR, DESK, ROOT, SITE, expect, refused, run, same
+from .support import COLLECTOR, expect, refused, run, same
 
 COMPARE = COLLECTOR / "compare"
-PIPELINE = ROOT / "docs" / "use" / "pipeline.md"
 NEW_FAILURE = 1
 # Any rule does: what is compared are outcomes.
 RULE = "c487ae"
@@ -190,53 +188,3 @@ def test_compare_refusals() -> None:
                  (one, one, "--old-snapshot", f"{folder}/a.json", "--new-snapshot", f"{folder}/b.json")),
                 ("a JUnit file that can't be written", End.OUTPUT, "can't be written", (one, two, "--junit", f"{folder}/no/junit.xml"))):
             refused(what, end, says, *words, program=COMPARE)
-
-
-def blocks(language: str) -> list[str]:
-    """The code blocks of docs/use/pipeline.md in this language."""
-    return re.findall(rf"^```{language}\n(.*?)^```$", PIPELINE.read_text(encoding="utf-8"), re.MULTILINE | re.DOTALL)
-
-
-def test_pipeline_files() -> None:
-    """The workflows of docs/use/pipeline.md are YAML with the script in them."""
-    try:
-        import yaml
-    except ImportError:
-        print("collector/test: the workflows of docs/use/pipeline.md aren't read (on Debian: apt-get install python3-yaml)")
-        return
-    for text in blocks("yaml"):
-        expect("a workflow runs the script", "sh audit.sh" in json.dumps(yaml.safe_load(text)), text)
-
-
-def test_pipeline() -> None:
-    """The script of docs/use/pipeline.md on two pages: without a baseline, with one, after a page got worse, and where one isn't there."""
-    if not DESK.is_file():
-        print(f"collector/test: the desk isn't built ({DESK.relative_to(ROOT)}): the script of docs/use/pipeline.md isn't run")
-        return
-    with tempfile.TemporaryDirectory() as folder:
-        for name, program in (("act-desk-collect", COLLECTOR / "collect"), ("act-desk-compare", COMPARE), ("act_desk", DESK)):
-            pathlib.Path(folder, name).symlink_to(program)
-        script = next(text for text in blocks("sh") if text.startswith("#!"))
-        pathlib.Path(folder, "audit.sh").write_text(script, encoding="utf-8")
-        pages = ("home", "old")
-        pathlib.Path(folder, "pages.txt").write_text("".join(f"{name}.html https://library.example/{name}\n" for name in pages))
-
-        def audited() -> tuple[int, str]:
-            done = subprocess.run(["sh", "audit.sh"], cwd=folder, env={**os.environ, "PATH": f"{folder}:{os.environ['PATH']}"},
-                                  capture_output=True, check=False)
-            return done.returncode, done.stdout.decode("utf-8").splitlines()[-1]
-
-        for name in pages:
-            pathlib.Path(folder, f"{name}.html").write_bytes((SITE / f"{name}.html").read_bytes())
-        same("the script without a baseline", audited(), (0, "there is no baseline yet: this audit is the first"))
-        os.rename(f"{folder}/audit", f"{folder}/baseline")
-        code, last = audited()
-        expect("the script where nothing is new", code == 0 and last.startswith("new failed 0, new to judge 0, mended 0, stay"), last)
-        worse = (SITE / "home.html").read_text(encoding="utf-8").replace("<body>", '<body><a href="/x"></a>')
-        pathlib.Path(folder, "home.html").write_text(worse, encoding="utf-8")
-        code, last = audited()
-        expect("the script where a link has no name", code == NEW_FAILURE and last.startswith("new failed 1, "), last)
-        os.unlink(f"{folder}/home.html")
-        code, last = audited()
-        expect("the script where a page isn't there", code not in (0, NEW_FAILURE) and last.startswith("2 pages, 1 collected, 1 failed"), (code, last))
-        expect("it leaves no JUnit file of an earlier run", not os.path.exists(f"{folder}/junit.xml"))

@@ -59,6 +59,12 @@ def address_of(path: str) -> str:
     return OF_FILES + urllib.parse.quote(pathlib.Path(shown).as_posix().lstrip("/"))
 
 
+def file_of(address: str) -> str:
+    """The path of the file that an address was made of, where it is still there; else the empty text."""
+    path = urllib.parse.unquote(address.removeprefix(OF_FILES)) if address.startswith(OF_FILES) else ""
+    return next((shown for shown in (path, f"/{path}") if path and os.path.isfile(shown)), "")
+
+
 def check_names(subjects: Iterable[Subject]) -> None:
     """A Stop where two pages would be kept in files of one name."""
     first: dict[str, str] = {}

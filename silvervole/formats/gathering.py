@@ -4,6 +4,7 @@ from __future__ import annotations
 from dataclasses import replace
 from typing import Iterable, Mapping, Sequence
 
+from silvervole.check.subjects import file_of
 from silvervole.compare.changes import Change, PageChanges
 from silvervole.compare.places import Place, Places
 from silvervole.compare.reading import Audit
@@ -74,7 +75,7 @@ def listed_page(about: AboutPage, page: Page, report: Report, table: RuleTable, 
 def compared_page(changes: PageChanges, old: Audit | None, new: Audit | None, table: RuleTable) -> ListedPage:
     """What became of the findings on a page of which there are two audits, or one."""
     olds = EntryMaker(about_audit(changes, old), old, table) if old is not None else None
-    news = EntryMaker(about_audit(changes, new), new, table) if new is not None else None
+    news = EntryMaker(about_audit(changes, new, with_file=True), new, table) if new is not None else None
     if olds is not None and news is not None:
         news.marks = kept(olds.marks, news.marks, pairs_of(changes.changes))
     about = news.about if news is not None else olds.about if olds is not None else AboutPage(changes.name, changes.name)
@@ -89,12 +90,13 @@ def entry_of(change: Change, olds: EntryMaker | None, news: EntryMaker | None) -
     return maker.entry(change.shown.finding, change.merged, change.kind.value) if maker is not None else None
 
 
-def about_audit(changes: PageChanges, audit: Audit) -> AboutPage:
-    """What is said of the page of an audit."""
+def about_audit(changes: PageChanges, audit: Audit, with_file: bool = False) -> AboutPage:
+    """What is said of the page of an audit; the page's own file, where it has one, is as the later audit had it."""
     page = audit.page
     if page is None:
         return AboutPage(changes.name, audit.name, note=changes.note)
-    return AboutPage(changes.name, page.address, page.title, page.state, page.revision, len(page.nodes), "", audit.snapshot, None, changes.note)
+    file = file_of(page.address) if with_file and not page.in_frame else ""
+    return AboutPage(changes.name, page.address, page.title, page.state, page.revision, len(page.nodes), file, audit.snapshot, None, changes.note)
 
 
 def compared(changes: Sequence[PageChanges], olds: Mapping[str, Audit], news: Mapping[str, Audit], table: RuleTable) -> Listing:
