@@ -16,7 +16,7 @@ from serving import HOST, ROOT, free_port
 EXAMPLES = pathlib.Path(ROOT, "deploy", "nginx")
 INSTALLED = "/usr/share/silvervole"
 # Where a file of the package stands in the repository.
-PLACES = ((f"{INSTALLED}/web", f"{ROOT}/web"), (f"{INSTALLED}/silvervole/", f"{ROOT}/silvervole/"))
+PLACES = ((f"{INSTALLED}/web", f"{ROOT}/web"), ("/usr/lib/python3/dist-packages/silvervole/", f"{ROOT}/silvervole/"))
 # The folder with the folder of pictures.
 SHOTS = "/var/lib/silvervole"
 USERS = ("ann", "bob", "rea", "eve")
