@@ -58,6 +58,7 @@ def test_json() -> None:
     assert [one["number"] for one in cart["rule"]["criteria"]] == ["2.4.4", "4.1.2"]
     assert found["pages"][0]["counts"] == {"failed": 3, "cantTell": 1, "passed": 2}
     assert [len(one["beneath"]) for one in found["findings"]] == [0, 0, 4, 0, 0, 0]
+    assert [one["fails"] for one in found["findings"][2]["beneath"]] == [False] * 4
 
 
 def test_json_of_a_reply() -> None:
@@ -94,7 +95,8 @@ def test_junit(tmp_path: pathlib.Path) -> None:
     failed = {case.classname[:6]: case.result[0] for case in cases if isinstance(next(iter(case.result), None), junitparser.Failure)}
     assert set(failed) == {"c487ae", "23a2a8", "cf77f2"} and failed["c487ae"].message == "no-name"
     assert "Put a text into the link that says where it leads." in failed["c487ae"].text
-    assert failed["cf77f2"].text.count("\nfailed: ") == 4
+    composite = next(case for case in cases if case.classname.startswith("cf77f2"))
+    assert [line[:14] for line in composite.system_out.splitlines()] == [f"failed: {rule}" for rule in ("047fe0", "b40fd1", "ye5d6e", "3e12e1")]
 
 
 def test_gitlab() -> None:

@@ -31,14 +31,14 @@ class EntryMaker:
         self.marks: Mapping[Key, str] = fingerprints(about.address, audit.page, audit.findings, self.places)
         self.lines = Lines(audit.page, about.address, about.file, about.snapshot)
 
-    def entry(self, finding: Finding, beneath: Iterable[Finding] = (), change: str = "") -> Entry:
+    def entry(self, finding: Finding, beneath: Iterable[Finding] = (), change: str = "", merged_in: str = "") -> Entry:
         """The entry of a finding, and beneath it those of what it merges."""
         rule = self.table.rule(finding.rule)
         return Entry(
             self.about, rule, finding.outcome, finding.reason, finding.judge, finding.automatic,
             advice_on(rule, finding.reason, finding.outcome, finding.automatic), self.target(finding),
             self.places[finding.node], self.marks[finding.rule, finding.node], self.lines.path, self.lines.line(finding.node),
-            change, tuple(self.entry(merged, change=change) for merged in beneath))
+            change, tuple(self.entry(merged, merged_in=finding.rule) for merged in beneath), merged_in)
 
     def target(self, finding: Finding) -> Target:
         """What is said of the finding's node."""

@@ -4,7 +4,7 @@ from __future__ import annotations
 from silvervole.collect.ends import one_line
 
 from .listing import MENDED, STAYS, Entry, Listing
-from .words import lines_of, lost_line, unmatched_line
+from .words import lines_of, lost_line, merged_of, unmatched_line
 
 
 def write_github(listing: Listing) -> bytes:
@@ -20,7 +20,7 @@ def annotation(entry: Entry) -> str:
     words = [f"title={property_of(f'{entry.state_of_things}: {entry.title}' if not entry.is_accepted else f'accepted: {entry.title}')}"]
     if entry.page.file or entry.page.snapshot:
         words = [f"file={property_of(entry.file)}", f"line={entry.line}", *words]
-    return f"::{kind_of(entry)} {','.join(words)}::{data(chr(10).join(lines_of(entry)))}"
+    return f"::{kind_of(entry)} {','.join(words)}::{data(chr(10).join([*lines_of(entry), *merged_of(entry)]))}"
 
 
 def kind_of(entry: Entry) -> str:

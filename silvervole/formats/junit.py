@@ -6,7 +6,7 @@ import xml.etree.ElementTree as ET
 from silvervole.collect.ends import one_line
 
 from .listing import NEW, STAYS, Entry, ListedPage, Listing, LostPage
-from .words import accepted_line, lines_of, rule_title, unmatched_line
+from .words import accepted_line, lines_of, merged_of, rule_title, unmatched_line
 
 CHECKED = "the page is collected and audited"
 # What a test that doesn't fail is passed over for; what passed or is mended passes.
@@ -49,7 +49,7 @@ def add_suite(root: ET.Element, page: ListedPage) -> None:
     add_totals(suite)
 
 
-def add_case(suite: ET.Element, entry: Entry) -> ET.Element:
+def add_case(suite: ET.Element, entry: Entry) -> None:
     """Adds the test of a finding."""
     case = ET.SubElement(suite, "testcase", classname=one_line(rule_title(entry)), name=one_line(entry.where),
                          file=one_line(entry.file), line=str(entry.line))
@@ -57,9 +57,9 @@ def add_case(suite: ET.Element, entry: Entry) -> ET.Element:
     if entry.fails:
         ET.SubElement(case, "failure", type="failed", message=one_line(entry.why)).text = text
     elif (passed_over := passed_over_for(entry)) is not None:
-        ET.SubElement(case, "skipped", message=passed_over)
-        ET.SubElement(case, "system-out").text = text
-    return case
+        ET.SubElement(case, "skipped", message=passed_over).text = text
+    if entry.beneath:
+        ET.SubElement(case, "system-out").text = "\n".join(merged_of(entry))
 
 
 def passed_over_for(entry: Entry) -> str | None:

@@ -43,8 +43,9 @@ class AboutPage:
 class Entry:
     """A finding with all that the formats say of it.
 
-    `change` is empty where nothing was compared. `beneath` are the findings that a composite merges: they count through
-    it alone. `acceptance` is there where the team's file has one for it, also where that doesn't last any more.
+    `change` is empty where nothing was compared. `beneath` are the findings that a composite merges; each of those has the
+    composite in `merged_in`, and fails through it alone. `acceptance` is there where the team's file has one for it, also
+    where that doesn't last any more.
     """
 
     page: AboutPage
@@ -61,6 +62,7 @@ class Entry:
     line: int
     change: str = ""
     beneath: tuple[Entry, ...] = ()
+    merged_in: str = ""
     acceptance: Acceptance | None = None
 
     @property
@@ -71,7 +73,7 @@ class Entry:
     @property
     def fails(self) -> bool:
         """Whether a pipeline ends at it: it failed, is new where audits were compared, and isn't accepted."""
-        return self.outcome == "failed" and self.change in ("", NEW) and not self.is_accepted
+        return self.outcome == "failed" and self.change in ("", NEW) and not self.merged_in and not self.is_accepted
 
     @property
     def title(self) -> str:

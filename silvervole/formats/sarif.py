@@ -9,7 +9,7 @@ from silvervole.collect.ends import one_line
 from silvervole.view.rules import Rule
 
 from .listing import MENDED, NEW, STAYS, Entry, Listing
-from .words import lines_of, lost_line, unmatched_line
+from .words import lines_of, lost_line, merged_of, unmatched_line
 
 SCHEMA = "https://docs.oasis-open.org/sarif/sarif/v2.1.0/errata01/os/schemas/sarif-schema-2.1.0.json"
 VERSION = "2.1.0"
@@ -50,7 +50,7 @@ def result_of(entry: Entry, place: int) -> dict[str, Any]:
     kind = KINDS[entry.outcome]
     made: dict[str, Any] = {
         "ruleId": entry.rule.id, "ruleIndex": place, "kind": kind, "level": "error" if kind == "fail" else "none",
-        "message": {"text": "\n".join([*([] if entry.advice else [one_line(entry.why)]), *lines_of(entry)])},
+        "message": {"text": "\n".join([*([] if entry.advice else [one_line(entry.why)]), *lines_of(entry), *merged_of(entry)])},
         "locations": [location_of(entry)], "partialFingerprints": {"silvervole/v1": entry.fingerprint},
         "properties": properties_of(entry)}
     if entry.change:

@@ -35,7 +35,7 @@ def lines_of(entry: Entry) -> list[str]:
     accepted = [accepted_line(entry.acceptance)] if entry.acceptance else []
     return [one_line(line) for line in (
         *advice_of(entry), f"Page: {entry.page.address}", f"Where: {entry.where} (node {entry.target.number})", *tag,
-        *(f"Judged by {entry.judge}" for _ in [0] if entry.judge), *merged_of(entry), *accepted)]
+        *([f"Judged by {entry.judge}"] if entry.judge else []), *accepted)]
 
 
 def accepted_line(acceptance: Acceptance) -> str:
