@@ -13,6 +13,7 @@ from silvervole.formats.words import unmatched_line
 from silvervole.formats.writing import write_formats
 from silvervole.view.findings import Findings
 from silvervole.view.page import Page
+from silvervole.view.pictures import Picture
 from silvervole.view.report import Report
 from silvervole.view.rules import RuleTable
 
@@ -29,12 +30,12 @@ class Formats:
         path = self.given.accepted
         self.acceptances = read_accepted(path, table, datetime.date.today()) if path is not None else ()
 
-    def listed(self, subject: Subject, page: Page, report: Report, seconds: float, snapshot: str) -> ListedPage:
+    def listed(self, subject: Subject, page: Page, report: Report, seconds: float, snapshot: str, picture: Picture | None) -> ListedPage:
         """A page's findings, each with its acceptance; `snapshot` is the file of the page's snapshot, empty where it is in none."""
         # A page's file holds nothing of what is in its frames.
         file = "" if snapshot == subject.file or page.in_frame else subject.file
         about = about_page(page, report, "", file, snapshot, seconds)
-        return accepted_page(listed_page(about, page, report, self.table), self.acceptances)
+        return accepted_page(listed_page(about, page, report, self.table, picture), self.acceptances)
 
     def view(self, page: ListedPage) -> Findings:
         """What is told of a page, with what is accepted apart."""

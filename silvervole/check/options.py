@@ -11,7 +11,7 @@ from silvervole.collect.ends import End, Stop
 from silvervole.collect.many import read_list
 from silvervole.collect.options import MOST_JOBS, Options, add_opening, whole
 from silvervole.collect.places import check_written
-from silvervole.formats.options import FORMATS, add_format_options
+from silvervole.formats.options import FORMATS, add_format_options, any_format
 from silvervole.settings.reading import FILE, MOST_BUDGET, NO_SETTINGS, Settings, read_settings
 from silvervole.settings.sign_in import SignIn
 from silvervole.words import Parser
@@ -48,6 +48,7 @@ def parser(program: str = "check", example: str = "") -> Parser:
     made.add_argument("--frames", action=argparse.BooleanOptionalAction, help="checks what is in each frame too")
     made.add_argument("--states", metavar="FILE", help="does the steps of a file, and checks the page again after each")
     made.add_argument("--shadow", action=argparse.BooleanOptionalAction, help="takes shadow trees too (it does)")
+    made.add_argument("--shots", action="store_true", help="takes a picture of each page, for --html and --json")
     made.add_argument("--out", metavar="FOLDER", default="", help="keeps the snapshots and the reports in a folder, as compare reads them")
     made.add_argument("--budget", metavar="N", type=whole(0, MOST_BUDGET), default=0, help="how many failures don't fail the check (0)")
     made.add_argument("--passed", action="store_true", help="tells what passed too")
@@ -68,7 +69,8 @@ def read_words(words: Sequence[str], asked: Parser) -> Checking:
     if given.out:
         check_names(subjects)
     options = Options(None, given.wait, given.timeout, given.settle, given.viewport, tuple(given.cookie), tuple(given.header),
-                      given.exact, given.follow, given.shadow is not False, bool(given.frames))
+                      given.exact, given.follow, given.shadow is not False, bool(given.frames),
+                      shot="" if given.shots and any_format(given) else None)
     return Checking(subjects, options, sign_in_of(given, settings, subjects), given.jobs, given.out, given.budget, given.passed, given)
 
 

@@ -14,11 +14,13 @@ from silvervole.collect.ends import End, Stop, write_file
 from silvervole.collect.many import Browsers
 from silvervole.collect.pages import Collected, collect_page
 from silvervole.collect.places import ended
+from silvervole.collect.shots import Shot
 from silvervole.program import Audit
 from silvervole.settings.sign_in import Signed
 from silvervole.view.command import read
 from silvervole.view.findings import Findings, bring_together
 from silvervole.view.page import Page, read_page
+from silvervole.view.pictures import picture_of
 from silvervole.view.report import Report, read_report
 from silvervole.view.rules import RuleTable
 
@@ -30,6 +32,16 @@ if TYPE_CHECKING:
     from silvervole.formats.listing import ListedPage
 
     from .formats import Formats
+
+
+@dataclass(frozen=True)
+class Taken:
+    """A snapshot, and when its page was begun; the ending that its files have, and its picture where one is wanted."""
+
+    data: bytes
+    began: float
+    ending: str = ""
+    shot: Shot | None = None
 
 
 @dataclass(frozen=True)
@@ -85,23 +97,13 @@ class Run:
         """The status of one page with its frames and states."""
         if self.browsers.stopped:
             return End.INTERRUPTED
-        began = time.monotonic()
-
-        def keep(collected: Collected) -> None:
-            nonlocal began
-            with self.telling:
-                for note in collected.notes:
-                    self.teller.note(subject, note)
-            if collected.text:
-                self.audit(subject, collected.ending, collected.text.encode("utf-8"), began)
-            began = time.monotonic()
-
         try:
-            self.teller.begin(subject)
+            with self.telling:
+                self.teller.begin(subject)
             if subject.is_snapshot:
-                self.audit(subject, "", read(subject.file), began)
+                self.audit(subject, Taken(read(subject.file), time.monotonic()))
             else:
-                self.collect(subject, keep)
+                self.collect(subject)
         except Stop as stop:
             if not self.browsers.stopped:
                 with self.telling:
@@ -112,40 +114,51 @@ class Run:
                 self.teller.end(subject)
         return End.WRITTEN
 
-    def collect(self, subject: Subject, keep: Callable[[Collected], None]) -> None:
-        """Collects a page; what the sign-in printed goes to its server, and to no file."""
+    def collect(self, subject: Subject) -> None:
+        """Collects a page and audits what is taken of it; what the sign-in printed goes to its server, and to no file."""
         options = dataclasses.replace(self.checking.options, url=subject.address, states=subject.states)
         if subject.server:
             options = dataclasses.replace(options, cookies=(*self.signed.cookies, *options.cookies), headers=(*self.signed.headers, *options.headers))
+        began = time.monotonic()
+
+        def keep(collected: Collected) -> None:
+            nonlocal began
+            with self.telling:
+                for note in collected.notes:
+                    self.teller.note(subject, note)
+            if collected.text:
+                self.audit(subject, Taken(collected.text.encode("utf-8"), began, collected.ending, collected.shot))
+            began = time.monotonic()
+
         holding: Callable[[object], ContextManager[None]] = self.browsers.holding
         collect_page(subject.page, options, keep, holding)
 
-    def audit(self, subject: Subject, ending: str, snapshot: bytes, began: float) -> None:
+    def audit(self, subject: Subject, taken: Taken) -> None:
         """Audits a snapshot, and tells what was found."""
-        audit = Audit(snapshot)
+        audit = Audit(taken.data)
         with contextlib.ExitStack() as stack:
             stack.callback(audit.end)
-            page = read_page(snapshot, subject.page)
+            page = read_page(taken.data, subject.page)
             text = audit.report()
         report = read_report(text, "what the desk wrote")
-        file = self.keep(subject, ending, snapshot, text)
-        checked = self.brought_together(subject, ending, page, report, file, time.monotonic() - began)
+        checked = self.brought_together(subject, taken, page, report, self.keep(subject, taken, text))
         with self.telling:
             self.teller.checked(checked)
 
-    def brought_together(self, subject: Subject, ending: str, page: Page, report: Report, file: str, seconds: float) -> Checked:
+    def brought_together(self, subject: Subject, taken: Taken, page: Page, report: Report, file: str) -> Checked:
         """All that is told of a page, whose snapshot stands in the file."""
         if self.formats is None:
-            return Checked(subject, ending, bring_together(report, page, self.table, None))
-        listed = self.formats.listed(subject, page, report, seconds, file)
-        return Checked(subject, ending, self.formats.view(listed), listed)
+            return Checked(subject, taken.ending, bring_together(report, page, self.table, None))
+        picture = picture_of(taken.shot.picture, taken.shot.boxes, taken.data, subject.page) if taken.shot is not None else None
+        listed = self.formats.listed(subject, page, report, time.monotonic() - taken.began, file, picture)
+        return Checked(subject, taken.ending, self.formats.view(listed), listed)
 
-    def keep(self, subject: Subject, ending: str, snapshot: bytes, text: bytes) -> str:
+    def keep(self, subject: Subject, taken: Taken, text: bytes) -> str:
         """Writes a page's snapshot and report into the folder of --out; the file of the snapshot, empty where it is in none."""
         if not self.checking.out:
             return subject.file if subject.is_snapshot else ""
-        file = ended(os.path.join(self.checking.out, f"{subject.name}.json"), ending)
-        write_file(file, snapshot)
+        file = ended(os.path.join(self.checking.out, f"{subject.name}.json"), taken.ending)
+        write_file(file, taken.data)
         write_file(f"{os.path.splitext(file)[0]}.txt", text)
         return file
 

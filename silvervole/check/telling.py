@@ -97,7 +97,7 @@ def reason_lines(rule: Rule, reason: ReasonPart, found: Findings) -> Iterator[Li
 
 def target_lines(target: Target) -> Iterator[Line]:
     """Where an element is: its path, its start tag and its text."""
-    yield Line(Kind.PLACE, 4, f"{'the page as a whole' if target.is_root else target.path}  (node {target.number})")
+    yield Line(Kind.PLACE, 4, f"{'the page as a whole' if target.is_root else target.path} (node {target.number})")
     text = f' "{shortened(target.text.text, LONGEST_TEXT)}"' if target.text.text else ""
     yield Line(Kind.PLAIN, 6, f"{target.tag}{text}")
 

@@ -43,8 +43,10 @@ def opening(answers: Answers) -> list[str]:
             "# How many failures don't fail the check.", setting("budget", answers.budget or "0", bool(answers.budget)),
             "# The findings that the team accepts for a while.", setting("accepted", '"accepted.toml"', False),
             "# How many browsers work beside each other.", setting("jobs", "2", False),
-            "# Whether what is in frames is checked too, and the size of pages.", setting("frames", "true", False),
-            setting("viewport", '"1280x900"', False),
+            "# Whether what is in frames is checked too, whether shadow trees are, and whether the HTML shows pictures.",
+            setting("frames", "true", False), setting("shadow", "false", False), setting("shots", "true", False),
+            "# Whether a page that passes a limit is refused rather than cut, and the size of pages.",
+            setting("exact", "true", False), setting("viewport", '"1280x900"', False),
             "# A list of pages, an address a line, in place of the tables [[page]] below.", setting("list", '"pages.txt"', False),
             "# The folder that snapshots and reports are kept in, for `silvervole compare`.", setting("out", '"audit"', False), ""]
 

@@ -83,24 +83,33 @@ def read_box(given: Iterable[float]) -> Box:
 
 def read_picture(path: str, snapshot: bytes) -> Picture:
     """The picture that the collector wrote for this snapshot, with its boxes, or a Stop."""
-    def refuse(why: str) -> Stop:
-        return Stop(End.INPUT, f"{path} is no picture of this page: {why}")
-
     try:
         with open(path, "rb") as file:
             image = file.read()
         with open(f"{path}.json", "rb") as file:
-            told = json.loads(file.read())
-        boxes = {int(number): read_box(box) for number, box in told["boxes"].items()}
-        width, height, digest = int(told["width"]), int(told["height"]), told["snapshot"]
+            boxes = file.read()
     except OSError as error:
-        raise refuse(f"{error.filename} can't be read: {error.strerror}") from None
+        raise no_picture(path, f"{error.filename} can't be read: {error.strerror}") from None
+    return picture_of(image, boxes, snapshot, path)
+
+
+def picture_of(image: bytes, boxes: bytes, snapshot: bytes, path: str) -> Picture:
+    """The picture that these bytes are, of this snapshot, or a Stop; its boxes are JSON, as the collector writes it beside the picture."""
+    try:
+        told = json.loads(boxes)
+        read = {int(number): read_box(box) for number, box in told["boxes"].items()}
+        width, height, digest = int(told["width"]), int(told["height"]), told["snapshot"]
     except (ValueError, KeyError, TypeError, AttributeError):
-        raise refuse(f"{path}.json isn't as --shot writes it") from None
+        raise no_picture(path, f"{path}.json isn't as --shot writes it") from None
     if not image.startswith(SIGNATURE):
-        raise refuse("it isn't in PNG")
+        raise no_picture(path, "it isn't in PNG")
     if digest != hashlib.sha256(snapshot).hexdigest():
-        raise refuse("it was made with another snapshot")
+        raise no_picture(path, "it was made with another snapshot")
     if width < 1 or height < 1:
-        raise refuse(f"{path}.json isn't as --shot writes it")
-    return Picture(base64.b64encode(image).decode("ascii"), width, height, boxes)
+        raise no_picture(path, f"{path}.json isn't as --shot writes it")
+    return Picture(base64.b64encode(image).decode("ascii"), width, height, read)
+
+
+def no_picture(path: str, why: str) -> Stop:
+    """The refusal of a picture."""
+    return Stop(End.INPUT, f"{path} is no picture of this page: {why}")
