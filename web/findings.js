@@ -100,7 +100,7 @@ function waysOn(app, site, name, page) {
   const open = openQuestions(page.outcomes);
   const findings = open.flat().length;
   const many = counted(open.length, 'question', 'questions') + (findings > open.length ? ` on ${findings} findings` : '');
-  return [page.needed && open.length ? el('p', {}, `${many} to judge, which on ${site} takes ${desk.roleNamed(page.needed)}.`) : null,
+  return [page.needed && open.length ? el('p', {}, `${many} open. Judging on ${site} takes ${desk.roleNamed(page.needed)}.`) : null,
     el('p', { class: 'buttons' },
       open.length && !page.needed ? app.link({ site, page: name, judge: placeOf(open[0][0]) }, `Judge ${many}, one after another`, { class: 'button' }) : null,
       app.link({ site, page: name, show: 'names' }, 'Names as a screen reader says them', { class: 'button second' }))];

@@ -108,8 +108,9 @@ class Answer {
     const many = all > 1 ? ` ${takenWords(taken, all)}` : '';
     if (refusal?.name === 'NotAllowed') kept.keepNeededRole(this.place, refusal.body.needed);
     const moved = ['EvidenceMoved', 'NoTarget', 'NotOpen', 'NoPage'].includes(refusal?.name);
+    const { site, page } = this.place;
     this.tell(`${refusal ? desk.told(refusal) : 'You stopped it.'}${many} Your note is kept.`,
-      moved ? el('button', { type: 'button', onclick: () => this.app.show() }, 'Show the page as it is now') : null);
+      moved ? el('button', { type: 'button', onclick: () => this.app.go({ site, page, judge: placeOf(this.left[0]) }) }, 'Show the page as it is now') : null);
   }
 
   tell(text, button = null) {

@@ -62,9 +62,9 @@ function crop(image, alt, left, top, width, height, box) {
 }
 
 /** What a person has to know of a picture: whose frame it shows, and whether it is of another revision. */
-function caption(picture, row, own, rev) {
+function caption(picture, row, own, isPage, rev) {
   const said = [];
-  if (!row) said.push('The upper part of the page.');
+  if (!row) said.push(`${isPage ? '' : 'The element is not drawn. '}This is the upper part of the page.`);
   else if (row.n !== own.n) said.push(`The element itself is not drawn: the frame is around the ${row.tag} that it stands in.`);
   else said.push('The frame is around the element.');
   if (picture.rev !== rev) said.push(`This picture is of ${picture.rev < rev ? 'an older' : 'a newer'} revision, ${picture.rev}: what you judge, of revision ${rev}, may look different.`);
@@ -80,5 +80,5 @@ export function pictureOf(picture, nodes, number, rev) {
   const [top, height] = box ? span(box[1], box[3], image.naturalHeight, LEAST_HEIGHT, GREATEST_HEIGHT) : [0, Math.min(image.naturalHeight, GREATEST_HEIGHT)];
   const alt = row ? `The page around ${row.tag}, node ${row.n}, as it looked` : 'The upper part of the page, as it looked';
   return el('figure', { class: 'shot' }, crop(image, alt, left, top, width, height, box),
-    el('figcaption', { class: picture.rev === rev ? null : 'older' }, caption(picture, row, own, rev), ' ', el('a', { href: picture.address }, 'The whole picture')));
+    el('figcaption', { class: picture.rev === rev ? null : 'older' }, caption(picture, row, own, number === nodes.root, rev), ' ', el('a', { href: picture.address }, 'The whole picture')));
 }

@@ -20,7 +20,7 @@ export const openQuestions = (outcomes) => [...grouped(outcomes.filter(isOpen), 
 /** The first finding of the next open question behind that of an outcome, or of the first one; undefined where there is no other. */
 export function nextQuestion(outcomes, outcome) {
   const others = openQuestions(outcomes).filter(([first]) => keyOf(first) !== keyOf(outcome)).map(([first]) => first);
-  const own = outcomes.findIndex((one) => isForPeople(one) && keyOf(one) === keyOf(outcome));
+  const own = outcomes.findIndex((one) => one.rule === outcome.rule && one.digest === outcome.digest);
   return others.find((first) => outcomes.indexOf(first) > own) ?? others[0];
 }
 

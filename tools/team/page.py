@@ -11,7 +11,7 @@ from tests.support import SITE, expect, same
 
 from .asking import ask
 from .proxies import Proxy
-from .reader import PATIENCE, Reader, checked, signed_in
+from .reader import Reader, checked, signed_in
 
 PAGES = ("home", "search", "hours")
 MEMBERS = {"bob": "judge", "cid": "judge", "rea": "reader"}
@@ -212,7 +212,6 @@ def test_page() -> None:
     """The page to judge on, by the keyboard, in each of its states."""
     browser = start_browser()
     try:
-        browser.set_script_timeout(PATIENCE)
         with Serving(connections=1_000_000) as desk, Proxy("sign-on.conf", [desk.port]) as proxy:
             fill(proxy)
             reader = Reader(browser, proxy)

@@ -17,6 +17,8 @@ from tests.view import CONTRAST
 from .proxies import Proxy
 
 PATIENCE = 60
+# axe-core takes its time with thousands of elements on a busy machine.
+AXE_PATIENCE = 300
 PICTURES = pathlib.Path(ROOT, "docs", "use", "pictures")
 # The texts that were said, one after another, from when this runs.
 LISTEN = """
@@ -42,6 +44,7 @@ class Reader:
 
     def __init__(self, browser: Any, proxy: Proxy) -> None:
         self.browser, self.proxy = browser, proxy
+        browser.set_script_timeout(AXE_PATIENCE)
         browser.execute_cdp_cmd("Network.enable", {})
         browser.execute_cdp_cmd("Page.addScriptToEvaluateOnNewDocument", {"source": POLICY})
 

@@ -1,4 +1,4 @@
-"""The figures of docs/use/team.md: requests a second through nginx, and snapshots a second by GNU parallel."""
+"""The figures of docs/use/team.md: requests a second through nginx, snapshots a second by GNU parallel, and a large page in the browser."""
 from __future__ import annotations
 
 import os
@@ -14,6 +14,7 @@ from tests.support import SITE
 from .asking import ask, basic
 from .pages import command
 from .proxies import Proxy
+from .questions import print_speed
 from .samples import PAGE
 
 REQUESTS, CLIENTS = 4_000, 16
@@ -55,4 +56,5 @@ def print_speeds(snapshots: int) -> None:
         for jobs in (1, 4):
             rate = snapshots_a_second(folder, jobs, snapshots)
             print(f"{snapshots} times the page home by parallel, {jobs} at once: {rate:.0f} snapshots a second", flush=True)
+    print_speed()
     print(f"on a machine with a load of {os.getloadavg()[0]:.1f} of {os.cpu_count()} processors")

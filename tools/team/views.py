@@ -341,7 +341,6 @@ def test_views() -> None:
     """A site's criteria and a page's names, by the keyboard."""
     browser = start_browser()
     try:
-        browser.set_script_timeout(PATIENCE)
         with Serving(connections=1_000_000) as desk, Proxy("sign-on.conf", [desk.port]) as proxy:
             fill(proxy)
             reader = Reader(browser, proxy)
