@@ -48,6 +48,8 @@ def version_of(source: str, options: Options, picture: str | None = None) -> Ver
     if not re.match(r"(?i)(https?|file):", source):
         data = read(source)
         if is_object(data):
+            if options.shot is not None and picture is None:
+                say("send", f"{source} is a snapshot, of which no picture can be taken; --picture names one")
             return read_version(data, source, picture)
     return collected_version(source, options)
 
