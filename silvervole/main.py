@@ -37,8 +37,6 @@ WORDS = {
     "audit": Word("silvervole.audit", "writes the desk's report of a snapshot", "silvervole audit page.json > page.txt"),
     "view": Word("silvervole.view.command", "writes the findings of a report as HTML", "silvervole view page.json page.txt > page.html"),
     "compare": Word("silvervole.compare.command", "says what is new between two audits", "silvervole compare baseline audit --junit junit.xml"),
-    "send": Word("silvervole.send.command", "sends a page's next version to the desk",
-                 "silvervole send --desk https://desk.example.org acme/home https://www.example.org/"),
     "send": Word("silvervole.send.command", "sends the next version of a page to the desk",
                  "silvervole send --desk http://127.0.0.1:8080 --caller ann acme/home page.json"),
     "serve": Word("silvervole.serve.command", "serves the desk over HTTP", "silvervole serve desk.db --port 8080"),

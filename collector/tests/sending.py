@@ -297,11 +297,11 @@ def test_send_words() -> None:
                 ("no address", End.USAGE, "http or https", ("--desk", "desk.example", "acme/home", file)),
                 ("a caller that is no name", End.USAGE, "--caller", ("--desk", "http://127.0.0.1:1", "--caller", "Ann B", "acme/home", file)),
                 ("no file", End.INPUT, "can't be read", (*desk, "acme/home", f"{folder}/none")),
-                ("a sign-in without a colon", End.USAGE, "NAME:PASSWORD", ("--desk", "https://desk.example", "--sign-in", file, "acme/home", file)),
+                ("a sign-in without a colon", End.USAGE, "NAME:PASSWORD", ("--desk", "https://desk.example", "--key", file, "acme/home", file)),
                 ("a CA that isn't there", End.USAGE, "--ca", (*desk, "--ca", f"{folder}/none", "acme/home", file))):
             refused(f"sending: {what}", end, says, *words, program=SEND, env=bare)
         secret = write(folder, "key", b"ann:secret\n")
-        refused("a password over http to another machine", End.USAGE, "https alone", "--desk", "http://desk.example", "--sign-in", secret, "acme/home", file,
+        refused("a password over http to another machine", End.USAGE, "https alone", "--desk", "http://desk.example", "--key", secret, "acme/home", file,
                 program=SEND, env=bare)
 
 
@@ -315,7 +315,7 @@ def test_send_signs_in() -> None:
         plain = {**os.environ, "NETRC": netrc, "SILVERVOLE_DESK": desk.address}
         environment = {**plain, "SILVERVOLE_NAME": "ann", "SILVERVOLE_PASSWORD": "of the environment"}
         # Base64 of ann: and the password, by `base64` of coreutils.
-        for what, words, env, wanted in (("a file", ("--sign-in", secret), environment, "Basic YW5uOm9mIHRoZSBmaWxl"),
+        for what, words, env, wanted in (("a file", ("--key", secret), environment, "Basic YW5uOm9mIHRoZSBmaWxl"),
                                          ("the environment", (), environment, "Basic YW5uOm9mIHRoZSBlbnZpcm9ubWVudA=="),
                                          (".netrc", (), plain, "Basic YW5uOm9mLW5ldHJj")):
             desk.asked.clear()

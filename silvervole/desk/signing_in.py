@@ -8,7 +8,7 @@ import pathlib
 from silvervole.collect.ends import End, Stop
 
 NAME, PASSWORD = "SILVERVOLE_NAME", "SILVERVOLE_PASSWORD"
-SOURCES = f"--sign-in FILE, the variables {NAME} and {PASSWORD}, or .netrc"
+SOURCES = f"--key FILE, the variables {NAME} and {PASSWORD}, or .netrc"
 
 
 def sign_in(host: str, file: str | None) -> tuple[str, str] | None:
@@ -25,12 +25,12 @@ def from_file(path: str) -> tuple[str, str]:
     try:
         lines = pathlib.Path(path).read_text(encoding="utf-8").splitlines()
     except OSError as error:
-        raise Stop(End.USAGE, f"--sign-in {path} can't be read: {error.strerror}") from None
+        raise Stop(End.USAGE, f"--key {path} can't be read: {error.strerror}") from None
     except UnicodeDecodeError:
-        raise Stop(End.USAGE, f"--sign-in {path} isn't in UTF-8") from None
+        raise Stop(End.USAGE, f"--key {path} isn't in UTF-8") from None
     name, colon, password = (lines or [""])[0].partition(":")
     if not name or not colon:
-        raise Stop(End.USAGE, f"--sign-in {path} has no NAME:PASSWORD on its first line")
+        raise Stop(End.USAGE, f"--key {path} has no NAME:PASSWORD on its first line")
     return name, password
 
 

@@ -14,7 +14,7 @@ def add_desk_words(parser: argparse.ArgumentParser) -> None:
     """Adds the words to a command's."""
     parser.add_argument("--desk", metavar="ADDRESS", help="the desk's address, or its proxy's (the variable SILVERVOLE_DESK)")
     parser.add_argument("--caller", metavar="NAME", help="who asks, of a desk without a proxy")
-    parser.add_argument("--sign-in", metavar="FILE",
+    parser.add_argument("--key", metavar="FILE",
                         help=f"a file with NAME:PASSWORD for the proxy (the variables {VARIABLE} and {PASSWORD}, or .netrc)")
     parser.add_argument("--ca", metavar="FILE", help="a file in PEM of the authorities that vouch for the desk's certificate")
 
@@ -25,5 +25,5 @@ def desk_of(given: argparse.Namespace) -> Desk:
     if given.caller is not None and not NAME.fullmatch(given.caller):
         raise Stop(End.USAGE, f"--caller {given.caller}: a name is 1 to 64 characters out of a to z, 0 to 9, . _ and -")
     host = urllib.parse.urlsplit(address).hostname or ""
-    signed = sign_in(host, given.sign_in) if given.caller is None or given.sign_in is not None else None
+    signed = sign_in(host, given.key) if given.caller is None or given.key is not None else None
     return Desk(Access(address, given.caller, signed, given.ca))

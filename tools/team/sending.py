@@ -22,7 +22,7 @@ def sent(proxy: Proxy, folder: str, user: str, *words: str, password: str = PASS
     """The status, the lines and the refusal of a run that signs in by a file."""
     pathlib.Path(folder, "key").write_text(f"{user}:{password}\n", encoding="utf-8")
     authority = ("--ca", proxy.certificate) if trusting else ()
-    done = subprocess.run([SEND, "--desk", f"https://{HOST}:{proxy.port}", "--sign-in", f"{folder}/key", *authority, *words],
+    done = subprocess.run([SEND, "--desk", f"https://{HOST}:{proxy.port}", "--key", f"{folder}/key", *authority, *words],
                           capture_output=True, check=False, stdin=subprocess.DEVNULL)
     return done.returncode, done.stdout.decode().splitlines(), done.stderr.decode()
 
