@@ -20,7 +20,7 @@ def findings_document(table: RuleTable) -> str:
 
 def section(rule: Rule) -> str:
     """What stands of one rule."""
-    criteria = ", ".join(f"[{one.number} {one.name}]({one.link}) ({one.level})" for one in rule.criteria)
+    criteria = ", ".join(f"[{one.number}]({one.link}) ({one.level})" for one in rule.criteria)
     lines = [f"## `{rule.id}` {rule.name}", "",
              f"[Published rule]({rule.link}). " + (f"WCAG 2.2: {criteria}." if criteria else "It counts under no criterion by itself."),
              ""]
