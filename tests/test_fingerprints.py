@@ -87,3 +87,24 @@ def test_an_old_version_hands_its_fingerprints_on(tmp_path: pathlib.Path) -> Non
     before = compared(shop(), shop(), "same.json")
     after = compared(shop(), new, "new.json")
     assert after == before and after["c487ae", 6] != alone["c487ae", 6]
+
+
+def test_a_row_of_versions(tmp_path: pathlib.Path) -> None:
+    """The third version has the fingerprint of the first, though the link got another id each time."""
+    def audit(name: str, cart: str, *words: object) -> str:
+        folder = tmp_path / name
+        folder.mkdir()
+        (folder / "shop.json").write_text(json.dumps(shop(cart=cart)), encoding="utf-8")
+        (folder / "shop.txt").write_text(SHOP, encoding="utf-8")
+        found = tmp_path / f"{name}.found"
+        status, _, error = run(ROOT / "collector" / "compare", *(words or [folder]), folder, "--json", found)
+        assert (status, error) == (0, "")
+        return next(one["fingerprint"] for one in json.loads(found.read_text(encoding="utf-8"))["findings"] if one["node"] == 6)
+
+    first = audit("first", "cart")
+    second = audit("second", "basket", tmp_path / "first", "--earlier", tmp_path / "first.found")
+    assert audit("third", "trolley", tmp_path / "second", "--earlier", tmp_path / "second.found") == second == first
+    assert audit("alone", "trolley", tmp_path / "second") != first
+    (tmp_path / "other").write_text("{}", encoding="utf-8")
+    status, out, error = run(ROOT / "collector" / "compare", tmp_path / "first", tmp_path / "second", "--earlier", tmp_path / "other", "--csv", tmp_path / "c")
+    assert (status, out) == (19, "") and "isn't the JSON of findings" in error

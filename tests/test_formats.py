@@ -205,3 +205,28 @@ def test_rules_without_a_name() -> None:
     assert "**Rule zz9999** (zz9999)." in write_markdown(listing).decode("utf-8")
     assert json.loads(write_gitlab(listing))[0]["description"] == "Rule zz9999: a at #cart."
     assert TABLE.rule("zz9999").is_known is False
+
+
+def test_view_with_formats(tmp_path: pathlib.Path) -> None:
+    """The view writes the formats of a reply to outcomes, with who judged; without their options it writes HTML as ever."""
+    (tmp_path / "shop.json").write_text(json.dumps(shop()), encoding="utf-8")
+    (tmp_path / "shop.outcomes").write_bytes(reply(("c4a8a4", 1, "cantTell", "passed", "judge-title", "bob", "Shop"),
+                                                   ("c487ae", 6, "failed", "failed", "no-name", "", "")))
+    command = [ROOT / "collector" / "view", tmp_path / "shop.json", tmp_path / "shop.outcomes"]
+    assert run(*command, "--csv", tmp_path / "found.csv", "--html", tmp_path / "found.html") == (0, "", "")
+    rows = list(csv.reader((tmp_path / "found.csv").read_text(encoding="utf-8-sig").splitlines()))
+    assert [(row[4], row[7]) for row in rows[1:]] == [("failed", ""), ("passed", "bob")]
+    status, out, error = run(*command)
+    assert (status, error) == (0, "") and out == (tmp_path / "found.html").read_text(encoding="utf-8")
+
+
+def test_comparison_without_snapshots(tmp_path: pathlib.Path) -> None:
+    """Two reports alone: nodes stand for places, and the HTML, which needs the snapshots, is refused."""
+    (tmp_path / "shop.txt").write_text(SHOP, encoding="utf-8")
+    command = [ROOT / "collector" / "compare", tmp_path / "shop.txt", tmp_path / "shop.txt"]
+    assert run(*command, "--json", tmp_path / "found.json")[0] == 0
+    found = json.loads((tmp_path / "found.json").read_text(encoding="utf-8"))
+    jsonschema.validate(found, json.loads((ROOT / "silvervole" / "data" / "findings.schema.json").read_text(encoding="utf-8")))
+    assert {one["change"] for one in found["findings"]} == {"stays"} and found["findings"][0]["path"] is None
+    status, out, error = run(*command, "--html", tmp_path / "found.html")
+    assert (status, out) == (18, "") and "--html needs the snapshots" in error

@@ -136,6 +136,9 @@ def test_github(repository: Repository, server: Server) -> None:
     path, authorization, comment = server.posted[-1]
     assert (path, authorization) == ("/repos/acme/shop/issues/7/comments", "Bearer secret")
     assert comment["body"].startswith("## Accessibility: 1 new failed, ") and "### New failures (1)" in comment["body"]
+    marks = [{one["node"]: one["fingerprint"] for one in json.loads((repository.folder / name / "findings").read_text(encoding="utf-8"))["findings"]
+              if one["outcome"] == "failed"} for name in ("baseline", "audit")]
+    assert len(marks[0]) == 1 and set(marks[0].values()) < set(marks[1].values()) and len(marks[1]) == 2
     assert comment["body"] in (repository.folder / "summary.md").read_text(encoding="utf-8")
 
 

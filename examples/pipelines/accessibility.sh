@@ -4,7 +4,7 @@ set -u
 rm -rf audit findings
 mkdir findings
 set -- --html findings/index.html --junit findings/junit.xml --sarif findings/findings.sarif --gitlab findings/gitlab.json \
-  --github findings/annotations.txt --markdown findings/comment.md
+  --github findings/annotations.txt --markdown findings/comment.md --json audit/findings
 [ ! -f accepted.toml ] || set -- "$@" --accepted accepted.toml
 
 # 1 says that something failed; what of it is new is asked below. A greater status ends here, as of a page that doesn't load.
@@ -19,4 +19,6 @@ if [ ! -d baseline ]; then
   echo "there is no baseline yet: this audit is the first"
   exit 0
 fi
+# What was found before keeps its fingerprint.
+[ ! -f baseline/findings ] || set -- "$@" --earlier baseline/findings
 silvervole compare baseline audit "$@"

@@ -14,7 +14,7 @@ from .changes import compare_folders
 from .reading import Audit, read_audit, read_folder
 from .writing import text_of
 
-USAGE = "{0} OLD NEW [--old-snapshot FILE --new-snapshot FILE] [--accepted FILE] [--FORMAT FILE ..]"
+USAGE = "{0} OLD NEW [--old-snapshot FILE --new-snapshot FILE] [--earlier FILE] [--accepted FILE] [--FORMAT FILE ..]"
 NEW_FAILURE = 1
 
 
@@ -27,6 +27,7 @@ def parser(program: str = "compare", example: str = "") -> Parser:
     made.add_argument("new", metavar="NEW", help="the later one")
     made.add_argument("--old-snapshot", metavar="FILE", help="the earlier snapshot, of which OLD speaks")
     made.add_argument("--new-snapshot", metavar="FILE", help="the later one, of which NEW speaks")
+    made.add_argument("--earlier", metavar="FILE", help="the JSON of --json of the run that made OLD, whose fingerprints are handed on")
     add_format_options(made)
     return made
 
@@ -58,9 +59,10 @@ def work(words: Sequence[str], asked: Parser) -> int:
     pages = compare_folders(olds, news, table)
     listing = None
     if any_format(given):
-        from silvervole.formats.gathering import compared  # only here, since they load slowly
+        from silvervole.formats.earlier import read_earlier  # only here, since they load slowly
+        from silvervole.formats.gathering import compared
         from silvervole.formats.writing import accept, write_formats
-        listing = accept(compared(pages, olds, news, table), given, table, asked.prog)
+        listing = accept(compared(pages, olds, news, table, read_earlier(given.earlier)), given, table, asked.prog)
         write_formats(listing, given)
     write_out(text_of(pages, table, listing).encode("utf-8"))
     fails = listing.fails if listing is not None else any(change.fails for page in pages for change in page.changes)

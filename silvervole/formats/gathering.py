@@ -15,6 +15,7 @@ from silvervole.view.pictures import Picture
 from silvervole.view.report import Finding, Report
 from silvervole.view.rules import RuleTable
 
+from .earlier import NO_EARLIER, Earlier
 from .fingerprints import Key, fingerprints, kept
 from .listing import MENDED, AboutPage, Entry, ListedPage, Listing, worst_first
 from .source import Lines
@@ -23,13 +24,22 @@ from .source import Lines
 class EntryMaker:
     """Makes the entries of one audit of a page; without its snapshot they have no path and no start tag."""
 
-    def __init__(self, about: AboutPage, audit: Audit, table: RuleTable, picture: Picture | None = None) -> None:
+    def __init__(self, about: AboutPage, audit: Audit, table: RuleTable, targets: TargetMaker | None = None) -> None:
         self.about = about
         self.table = table
-        self.targets = TargetMaker(audit.page, picture) if audit.page is not None else None
-        self.places = places_of(audit)
+        self.targets = targets or (TargetMaker(audit.page, None) if audit.page is not None else None)
+        self.places = self.places_of(audit)
         self.marks: Mapping[Key, str] = fingerprints(about.address, audit.page, audit.findings, self.places)
         self.lines = Lines(audit.page, about.address, about.file, about.snapshot)
+
+    def places_of(self, audit: Audit) -> dict[int, Place]:
+        """The places of the audit's findings, by the numbers of their nodes."""
+        numbers = {finding.node for finding in audit.findings}
+        if audit.page is None or self.targets is None:
+            return {number: Place(number) for number in numbers}
+        places, nodes = Places(audit.page), audit.page.nodes
+        return {number: Place(number, nodes[number].element.folded, places.label(nodes[number].element), self.targets.target(number).path)
+                for number in numbers}
 
     def entry(self, finding: Finding, beneath: Iterable[Finding] = (), change: str = "", merged_in: str = "") -> Entry:
         """The entry of a finding, and beneath it those of what it merges."""
@@ -47,15 +57,6 @@ class EntryMaker:
         return Target(finding.node, "", False, "", "", NOTHING, NOTHING, "", None)
 
 
-def places_of(audit: Audit) -> dict[int, Place]:
-    """The places of an audit's findings, by the numbers of their nodes."""
-    numbers = {finding.node for finding in audit.findings}
-    if audit.page is None:
-        return {number: Place(number) for number in numbers}
-    places = Places(audit.page)
-    return {number: places.place(number) for number in numbers}
-
-
 def about_page(page: Page, report: Report, name: str = "", file: str = "", snapshot: str = "", seconds: float | None = None) -> AboutPage:
     """What is said of a page as a whole."""
     address = report.address or page.address
@@ -64,18 +65,21 @@ def about_page(page: Page, report: Report, name: str = "", file: str = "", snaps
 
 def listed_page(about: AboutPage, page: Page, report: Report, table: RuleTable, picture: Picture | None = None) -> ListedPage:
     """The findings of a report on a page; a Stop with the status INPUT where the report is of another page."""
-    view = bring_together(report, page, table, picture)
+    targets = TargetMaker(page, picture)
+    view = bring_together(report, page, table, picture, targets)
     findings = of_frame(report.findings, table) if page.in_frame else report.findings
     count = counted(findings, table)
-    maker = EntryMaker(about, Audit(about.name, findings, page), table, picture)
+    maker = EntryMaker(about, Audit(about.name, findings, page), table, targets)
     entries = [maker.entry(finding, count.beneath.get((finding.rule, finding.node), ())) for finding in count.findings]
     return ListedPage(about, tuple(worst_first(entries)), view.inapplicable, view, picture)
 
 
-def compared_page(changes: PageChanges, old: Audit | None, new: Audit | None, table: RuleTable) -> ListedPage:
+def compared_page(changes: PageChanges, old: Audit | None, new: Audit | None, table: RuleTable, earlier: Earlier) -> ListedPage:
     """What became of the findings on a page of which there are two audits, or one."""
     olds = EntryMaker(about_audit(changes, old), old, table) if old is not None else None
     news = EntryMaker(about_audit(changes, new, with_file=True), new, table) if new is not None else None
+    if olds is not None and old is not None:
+        olds.marks = {**olds.marks, **earlier.marks(old.snapshot)}
     if olds is not None and news is not None:
         news.marks = kept(olds.marks, news.marks, pairs_of(changes.changes))
     about = news.about if news is not None else olds.about if olds is not None else AboutPage(changes.name, changes.name)
@@ -99,10 +103,11 @@ def about_audit(changes: PageChanges, audit: Audit, with_file: bool = False) -> 
     return AboutPage(changes.name, page.address, page.title, page.state, page.revision, len(page.nodes), file, audit.snapshot, None, changes.note)
 
 
-def compared(changes: Sequence[PageChanges], olds: Mapping[str, Audit], news: Mapping[str, Audit], table: RuleTable) -> Listing:
+def compared(changes: Sequence[PageChanges], olds: Mapping[str, Audit], news: Mapping[str, Audit], table: RuleTable,
+             earlier: Earlier = NO_EARLIER) -> Listing:
     """What became of the findings of all pages, by the names under which the audits have them."""
     names = [*news, *(name for name in olds if name not in news)]
-    return Listing(tuple(compared_page(change, olds.get(name), news.get(name), table) for name, change in zip(names, changes)), compared=True)
+    return Listing(tuple(compared_page(change, olds.get(name), news.get(name), table, earlier) for name, change in zip(names, changes)), compared=True)
 
 
 def pairs_of(changes: Iterable[Change]) -> list[tuple[Key, Key]]:

@@ -99,13 +99,13 @@ class Findings:
     unmatched: tuple[str, ...] = ()
 
 
-def bring_together(report: Report, page: Page, table: RuleTable, picture: Picture | None) -> Findings:
+def bring_together(report: Report, page: Page, table: RuleTable, picture: Picture | None, makers: TargetMaker | None = None) -> Findings:
     """The findings of a report on this page; a Stop with the status INPUT where it is of another page."""
     check_page(report, page)
+    makers = makers or TargetMaker(page, picture)
     if page.in_frame:
         report = replace(report, findings=of_frame(report.findings, table),
                          inapplicable=tuple(identity for identity in report.inapplicable if not table.rule(identity).not_in_frames))
-    makers = TargetMaker(page, picture)
     count = counted(report.findings, table)
     sections = {outcome: with_merged(parts_of(count.findings, outcome, table, makers), count, table, makers) for outcome in OUTCOMES}
     by_rule: dict[str, dict[str, int]] = {}
