@@ -33,8 +33,9 @@ def why_not_listening(port: int) -> str:
 
 def why_not_stored(path: str) -> str:
     """Why a file can't be used as a store."""
-    return why_no_place(path) or (why_no_file(path) if os.path.lexists(path) else "") or why_not_written(path) \
-        or "the reason can't be found out"
+    there = os.path.lexists(path)
+    return (why_no_place(path) or (why_no_file(path) if there else "") or why_not_written(path) or (why_no_store(path) if there else "")
+            or "the reason can't be found out")
 
 
 def why_no_place(path: str) -> str:
@@ -66,7 +67,7 @@ def why_no_file(path: str) -> str:
     if is_locked(path):
         holder = system.holder_of_file(path)
         return f"it is in use by {holder or 'another program'}; one at a time has it"
-    return why_no_store(path) if found.st_size else ""
+    return ""
 
 
 def is_locked(path: str) -> bool:
@@ -83,8 +84,11 @@ def is_locked(path: str) -> bool:
 def why_no_store(path: str) -> str:
     """Why a file that holds something isn't a store; empty where it looks like one."""
     with open(path, "rb") as file:
-        if file.read(len(MAGIC)) != MAGIC:
-            return "it is no store: it isn't a database of SQLite"
+        front = file.read(len(MAGIC))
+    if not front:
+        return ""
+    if front != MAGIC:
+        return "it is no store: it isn't a database of SQLite"
     try:
         with sqlite3.connect(f"file:{urllib.parse.quote(os.path.abspath(path))}?mode=ro", uri=True) as database:
             names = {name for (name,) in database.execute("select name from sqlite_master where type = 'table'")}

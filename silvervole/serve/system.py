@@ -1,6 +1,7 @@
 """What the system tells of sockets, processes and open files, as Linux has it in /proc."""
 from __future__ import annotations
 
+import contextlib
 import os
 import pathlib
 import pwd
@@ -56,10 +57,14 @@ def connections(port: int) -> int:
 
 def open_files(process: int) -> list[str]:
     """What a process has open; nothing where the system doesn't tell."""
+    found = []
     try:
-        return [os.readlink(one) for one in (PROC / str(process) / "fd").iterdir()]
+        for number in os.listdir(PROC / str(process) / "fd"):
+            with contextlib.suppress(FileNotFoundError):  # closed meanwhile
+                found.append(os.readlink(PROC / str(process) / "fd" / number))
     except OSError:
         return []
+    return found
 
 
 def processes() -> Iterator[int]:

@@ -1,0 +1,108 @@
+"""`silvervole check` with a real browser and the built desk: servers' pages, frames, states, a sign-in, and an interrupt."""
+from __future__ import annotations
+
+import os
+import pathlib
+import re
+import signal
+import subprocess
+import tempfile
+import time
+
+from silvervole.collect.ends import End
+
+from .frames import COMPONENT, HELD, REFUSED, framing
+from .server import HTML, Answer, html, serve
+from .support import COLLECTOR, DESK, ROOT, SITE, expect, run, same
+from .usage import children, is_alive
+
+COMMAND = ROOT / "bin" / "silvervole"
+# What the README of the example site says of two of its pages, without what the composite merges.
+SUMS = {"home": "3 failed, 7 to judge, 26 passed; 13 rules without a target here",
+        "search": "7 failed, 5 to judge, 43 passed; 9 rules without a target here"}
+
+
+def built(what: str) -> bool:
+    """Whether the desk is built; where it isn't, that is said."""
+    if not DESK.is_file():
+        print(f"collector/test: the desk isn't built ({DESK.relative_to(ROOT)}): {what} is left out")
+    return DESK.is_file()
+
+
+def test_check(base: str) -> None:
+    """Pages of a server, a file and one that isn't there: each is told, and the sums of all."""
+    if not built("silvervole check"):
+        return
+    code, out, err = run("check", f"{base}/home.html", SITE / "search.html", f"{base}/none.html", "--jobs", "2", program=COMMAND)
+    text = out.decode("utf-8")
+    same("the status of a page that doesn't load", code, End.LOAD)
+    same("what is said of it", err, f"silvervole check: {base}/none.html: status 14: the page doesn't load: {base}/none.html: the server answered with status 404\n")
+    for name, sums in SUMS.items():
+        expect(f"the sums of {name}", f"\n{sums}\n" in text, text[-300:])
+    same("the sums of all", text.splitlines()[-1], "2 pages: 10 failed, 12 to judge, 69 passed; 1 page couldn't be checked")
+    expect("a finding has its path and its start tag", "    html > body > header > button (node 51)\n      <button class=\"menu\" " in text)
+
+
+def test_check_frames() -> None:
+    """What is in each frame is a page of its own, of which rules on whole pages say nothing."""
+    if not built("silvervole check --frames"):
+        return
+    there, other = serve({"/there": Answer(HTML, html(COMPONENT))})
+    here, base = serve(framing(other))
+    try:
+        _, out, err = run("check", f"{base}/frames", "--frames", program=COMMAND)
+    finally:
+        here.shutdown()
+        there.shutdown()
+    titles = re.findall(r"^http.* \"t\"(?:, (frame-[0-9]+))?$", out.decode("utf-8"), re.MULTILINE)
+    same("the page and its frames are told", titles, ["", *(f"frame-{number}" for number in (2, 3, 4, 5)), "frame-8", "frame-12", "frame-13"])
+    same("pages in all", out.decode("utf-8").splitlines()[-1].split(":")[0], f"{1 + len(HELD)} pages")
+    for number, why in REFUSED.items():
+        expect(f"frame {number} can't be looked into", why in err, err)
+
+
+def test_check_states() -> None:
+    """The page is told as it was at first, and after each step."""
+    if not built("silvervole check --states"):
+        return
+    pages = COLLECTOR / "pages"
+    code, out, err = run("check", pages / "menu.html", "--states", pages / "menu.toml", program=COMMAND)
+    expect("all states are checked", code in (End.WRITTEN, End.FAILED) and err == "", err)
+    same("their names", re.findall(r", state (.*)$", out.decode("utf-8"), re.MULTILINE), ["menu open", "first branch", "closed again"])
+
+
+def test_check_sign_in(base: str) -> None:
+    """The settings' sign-in gives the cookie and the header with which a page is asked."""
+    if not built("the sign-in of silvervole check"):
+        return
+    with tempfile.TemporaryDirectory() as folder:
+        script, settings = pathlib.Path(folder, "in.sh"), pathlib.Path(folder, "silvervole.toml")
+        script.write_text("#!/bin/sh\necho 'cookie user=ann'\necho 'header X-Team: web: a'\n", encoding="utf-8")
+        script.chmod(0o755)
+        page = f'[[page]]\naddress = "{base}/guarded"\n'
+        settings.write_text(page, encoding="utf-8")
+        same("without it the page is refused", run("check", "--settings", settings, program=COMMAND)[0], End.LOAD)
+        settings.write_text(f'[sign-in]\ncommand = ["./in.sh"]\n{page}', encoding="utf-8")
+        code, out, err = run("check", "--settings", settings, program=COMMAND)
+        expect("with it the page is checked", code in (End.WRITTEN, End.FAILED) and f"{base}/guarded" in out.decode("utf-8"), err)
+        code, _, err = run("check", "--sign-in", f"{script} x", f"{base}/guarded", program=COMMAND)
+        expect("by the command line too", code in (End.WRITTEN, End.FAILED), err)
+
+
+def test_check_interrupt(base: str) -> None:
+    """An interrupt closes the browsers, and is one line."""
+    if not built("an interrupt of silvervole check"):
+        return
+    command = subprocess.Popen([COMMAND, "check", f"{base}/never", f"{base}/never?2", "--jobs", "2"], stdin=subprocess.DEVNULL,
+                               stdout=subprocess.PIPE, stderr=subprocess.PIPE)
+    begun = time.monotonic() + 60
+    while len(children(command.pid)) < 8 and time.monotonic() < begun:
+        time.sleep(0.2)
+    started = children(command.pid)
+    os.kill(command.pid, signal.SIGINT)
+    out, err = command.communicate()
+    same("the status and the line", (command.returncode, out, err), (End.INTERRUPTED, b"", b"silvervole check: interrupted\n"))
+    end = time.monotonic() + 20
+    while any(map(is_alive, started)) and time.monotonic() < end:
+        time.sleep(0.2)
+    same("processes that are left", list(filter(is_alive, started)), [])
