@@ -4,6 +4,7 @@ pub mod Grid
 pub mod Assigned
 pub mod Tables
 pub mod Survey
+pub mod CellPlaces
 pub mod HeaderHasCells
 pub mod HeadersReferToCells
 pub mod GridLaws

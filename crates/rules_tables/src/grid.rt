@@ -9,11 +9,11 @@ use snap_tree::{OutOfMemory, Row};
 /// The slots that a cell covers: the rows from the top, and the columns from the left. The bottom is the
 /// first row below it, the right the first column behind it.
 #[derive(Clone, Copy, Debug, PartialEq, Eq)]
-pub(crate) struct Area {
-    pub(crate) top: usize,
-    pub(crate) bottom: usize,
-    pub(crate) left: usize,
-    pub(crate) right: usize,
+pub struct Area {
+    pub top: usize,
+    pub bottom: usize,
+    pub left: usize,
+    pub right: usize,
 }
 
 // The first column from this one on that is free in the row.

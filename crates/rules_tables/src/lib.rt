@@ -5,6 +5,7 @@
 
 mod assigned;
 mod bearers;
+mod cells;
 mod grid;
 mod header_has_cells;
 mod headers_refer_to_cells;
@@ -16,6 +17,8 @@ mod table_ids;
 mod table_rows;
 mod tables;
 
+pub use cells::{CellPlace, cell_places};
+pub use grid::Area;
 pub use header_has_cells::HeaderHasCells;
 pub use headers_refer_to_cells::HeadersReferToCells;
 pub use laws::{laws_of_grids, laws_of_limits, laws_of_roles, laws_of_targets};

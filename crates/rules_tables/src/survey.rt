@@ -177,6 +177,3 @@ impl<'a> Survey<'a> {
         Ok(survey)
     }
 }
-
-#[cfg(test)]
-mod tests;
