@@ -16,3 +16,4 @@ pub mod Deciding
 pub mod Judged
 pub mod CellTold
 pub mod Local
+pub mod Shown

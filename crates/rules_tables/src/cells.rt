@@ -1,11 +1,12 @@
 ghost use Rattle.std.specs.Prelude.{◌≡◌, map, IfOk};
 ghost use Rattle.acc_tree.specs.Seen.{seen};
-ghost use Rattle.rules_tables.specs.CellPlaces.{cell_places, shown};
+ghost use Rattle.rules_tables.specs.CellPlaces.{cell_places, place_of, shown};
+ghost use Rattle.rules_tables.specs.Survey.{surveyed};
 
 use crate::grid::Area;
 use crate::survey::{PlacedCell, Survey};
 use crate::tables::below;
-use snap_tree::{List, NodeId, OutOfMemory, Tree};
+use snap_tree::{Branches, List, NodeId, OutOfMemory, Tree};
 use std::alloc::Global;
 
 /// A cell, and the slots of the grid that it covers.
@@ -26,12 +27,18 @@ pub fn cell_places(
     ensures { IfOk result (λ places. places ≡ cell_places (seen tree.now.trees) table) }
 {
     match below(tree, table) {
-        Some(inside) => {
-            let survey = Survey::of(alloc, &inside)?;
-            Ok(List::from_vec(shown_cells(alloc, survey.placed.as_slice())?))
-        }
+        Some(inside) => cells_inside(alloc, &inside),
         None => Ok(List::from_vec(Vec::new(alloc))),
     }
+}
+
+// Where the cells are placed of what is below a table.
+#[tactic(auto, using(crate::proofs::Shown::shown_all))]
+fn cells_inside(alloc: Global, inside: &Branches<'_>) -> Result<List<CellPlace>, OutOfMemory>
+    ensures { IfOk result (λ places. places ≡ map place_of (surveyed (seen inside.now)).placed) }
+{
+    let survey = Survey::of(alloc, inside)?;
+    Ok(List::from_vec(shown_cells(alloc, survey.placed.as_slice())?))
 }
 
 fn shown_cells(alloc: Global, cells: &[PlacedCell<'_>]) -> Result<Vec<CellPlace>, OutOfMemory>
