@@ -90,7 +90,8 @@ def test_in_data_formats(tmp_path: pathlib.Path) -> None:
     assert [(suite.get("name"), suite.get("failures"), suite.get("skipped")) for suite in suites] == [
         ("https://shop.example/", "2", "1"), ("accepted findings", "0", "2")]
     run_of = json.loads(write_sarif(listing))["runs"][0]
-    assert [result["ruleId"] for result in run_of["results"] if "suppressions" in result] == ["c487ae"]
+    assert [(result["ruleId"], len(result["suppressions"])) for result in run_of["results"]] == [
+        ("23a2a8", 0), ("cf77f2", 0), ("c4a8a4", 0), ("c487ae", 1)]
     assert [note["level"] for note in run_of["invocations"][0]["toolExecutionNotifications"]] == ["warning"]
     assert [issue["severity"] for issue in json.loads(write_gitlab(listing)) if issue["check_name"] == "c487ae"] == ["info"]
 

@@ -138,6 +138,15 @@ def test_github(tmp_path: pathlib.Path) -> None:
     assert len(hostile) == 1 and "\x1b" not in hostile[0] and "::error::no" in parts_of(hostile[0])[2]
 
 
+def test_lines_that_cannot_be_told(tmp_path: pathlib.Path) -> None:
+    """A script put a second picture onto the page: which of both stands in the file isn't known, so the line is that around them."""
+    (tmp_path / "shop.html").write_text(SHOP_HTML, encoding="utf-8")
+    snapshot = shop()
+    snapshot["nodes"].append(element(10, 5, "img", src="a.png"))
+    issues = json.loads(write_gitlab(listing_of(snapshot, SHOP, file=str(tmp_path / "shop.html"))))
+    assert [issue["location"]["lines"]["begin"] for issue in issues] == [5, 4, 2, 2]
+
+
 def test_markdown() -> None:
     """New failures come first; what a page says stays code."""
     text = write_markdown(shop_listing()).decode("utf-8")
@@ -153,6 +162,13 @@ def test_markdown_as_github_shows_it() -> None:
     assert "<script" not in html and html.count("<a href=") == 1 and "<table" not in html
     without_code = re.sub(r"<code>.*?</code>", "", html, flags=re.DOTALL)
     assert "@everyone" not in without_code and "@bob" not in without_code
+
+
+def test_markdown_mentions_nobody() -> None:
+    """GitHub looks for names with @ in the text that is shown: none is whole outside of code."""
+    listing = listing_of(shop(), reply(("cf77f2", 1, "failed", "failed", "merged", "", ""), ("047fe0", 1, "cantTell", "failed", "judge-heading-start", "@bob", "")))
+    text = write_markdown(listing).decode("utf-8")
+    assert "judged by @<!-- -->bob" in text and "@bob" not in text
 
 
 def test_markdown_is_never_longer_than_a_comment() -> None:

@@ -79,8 +79,9 @@ def item(entry: Entry) -> str:
 
 
 def plain(text: str) -> str:
-    """A text in which nothing is markup, a link or somebody's name."""
-    return re.sub(r"([\\`*_{}\[\]()<>#+!|~@&])", r"\\\1", shortened(one_line(text), LONGEST * 2))
+    """A text in which nothing is markup or a link; GitHub, which looks for names in what is shown, finds none."""
+    escaped = re.sub(r"([\\`*_{}\[\]()<>#+!|~&])", r"\\\1", shortened(one_line(text), LONGEST * 2))
+    return escaped.replace("@", "@<!-- -->")
 
 
 def code(text: str) -> str:

@@ -24,8 +24,11 @@ def write_sarif(listing: Listing) -> bytes:
     rules = list({entry.rule.id: entry.rule for entry in entries}.values())
     places = {rule.id: place for place, rule in enumerate(rules)}
     driver = {"name": "Silvervole", "rules": [rule_of(rule) for rule in rules]}
-    run: dict[str, Any] = {"tool": {"driver": driver}, "columnKind": "unicodeCodePoints",
-                           "results": [result_of(entry, places[entry.rule.id]) for entry in entries]}
+    results = [result_of(entry, places[entry.rule.id]) for entry in entries]
+    if listing.accepted:
+        # SARIF wants this of all results of a run, or of none.
+        results = [{**result, "suppressions": suppressions_of(entry)} for result, entry in zip(results, entries)]
+    run: dict[str, Any] = {"tool": {"driver": driver}, "columnKind": "unicodeCodePoints", "results": results}
     notes = [("error", lost_line(lost)) for lost in listing.lost] + [("warning", unmatched_line(acceptance)) for acceptance in listing.unmatched]
     if notes:
         run["invocations"] = [{"executionSuccessful": not listing.lost, "toolExecutionNotifications": [
@@ -55,11 +58,15 @@ def result_of(entry: Entry, place: int) -> dict[str, Any]:
         "properties": properties_of(entry)}
     if entry.change:
         made["baselineState"] = STATES[entry.change]
-    if entry.is_accepted and entry.acceptance is not None:
-        accepted = entry.acceptance
-        made["suppressions"] = [{"kind": "external", "status": "accepted",
-                                 "justification": f"{accepted.reason} ({accepted.who}, until {accepted.until})"}]
     return made
+
+
+def suppressions_of(entry: Entry) -> list[dict[str, str]]:
+    """What the team accepts of a finding; nothing where it counts."""
+    accepted = entry.acceptance
+    if accepted is None or not entry.is_accepted:
+        return []
+    return [{"kind": "external", "status": "accepted", "justification": f"{accepted.reason} ({accepted.who}, until {accepted.until})"}]
 
 
 def location_of(entry: Entry) -> dict[str, Any]:
