@@ -1,4 +1,6 @@
 """The requests and replies of docs/use/http.md: for tools/walk and tools/test-api."""
+from __future__ import annotations
+
 import argparse
 import os
 import re
@@ -11,23 +13,24 @@ PORT = "8080"  # of the page
 FENCE = re.compile(r"^```(sh|http)\n(.*?)^```$", re.MULTILINE | re.DOTALL)
 
 
-def blocks(page):
+def blocks(page: str) -> list[tuple[str, str]]:
     """The code of the page: its language, and the text."""
     return [(found.group(1), found.group(2)) for found in FENCE.finditer(page)]
 
 
-def on_wire(text):
+def on_wire(text: str) -> bytes:
     """A message of the page as it goes over the wire: lines of the head end with CR LF, the body with its
     last character."""
     head, _, body = text.partition("\n\n")
     return (head.replace("\n", "\r\n") + "\r\n\r\n" + body.removesuffix("\n")).encode()
 
 
-def is_reply(text):
+def is_reply(text: str) -> bool:
+    """Whether a message of the page is a reply."""
     return text.startswith("HTTP/1.1 ")
 
 
-def curl_message(line):
+def curl_message(line: str) -> bytes:
     """The message that a curl line of the page sends, but for the fields that are curl's own."""
     parser = argparse.ArgumentParser()
     parser.add_argument("-i", action="store_true")
@@ -47,9 +50,11 @@ def curl_message(line):
     return ("\r\n".join(lines) + "\r\n\r\n").encode() + (body or b"")
 
 
-def steps(page):
+def steps(page: str) -> tuple[list[str], list[tuple[str | bytes, bytes]]]:
     """The words that start the program, and each request with its reply: a curl line, or the bytes to send."""
-    start, asked, found = None, None, []
+    start: list[str] = []
+    asked: str | bytes = b""
+    found: list[tuple[str | bytes, bytes]] = []
     for language, text in blocks(page):
         if language == "sh" and " - serve " in text:
             start = shlex.split(text)[1:]

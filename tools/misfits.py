@@ -32,8 +32,10 @@ def judged(**members: Any) -> dict[str, Any]:
     return {name: value for name, value in made.items() if value is not ...}
 
 
-MEMBERS = [{}, [], 1, {"role": None}, {"role": "boss"}, {"role": "Owner"}, {"role": ["owner"]}, {"role": "judge\n"}]
-SNAPSHOTS = [
+MEMBERS: list[Any] = [{}, [], 1, {"role": None}, {"role": "boss"}, {"role": "Owner"}, {"role": ["owner"]}, {"role": "judge\n"}]
+ATTRIBUTES: list[Any] = [None, {}, ["id"], [["id"]], [["id", "a", "b"]], [["", "a"]], [["id", 1]], [["id", "a" * 65_537]],
+                         [[f"data-{n}", ""] for n in range(65)]]
+SNAPSHOTS: list[Any] = [
     [], {"nodes": ROWS}, {"url": 1, "nodes": ROWS}, {"url": "ftp://a/", "nodes": ROWS}, {"url": "/home", "nodes": ROWS},
     {"url": "https://example.org/" + "a" * 65_536, "nodes": ROWS}, {"url": PAGE["url"]}, {"url": PAGE["url"], "nodes": {}},
     {"url": PAGE["url"], "nodes": []}, {"url": PAGE["url"], "nodes": [{"n": 1, "p": None, "text": "x"}]},
@@ -43,14 +45,14 @@ SNAPSHOTS = [
     *(snapshot(tag=tag) for tag in (..., None, "", 1, "a" * 65_537)), snapshot(text="x"), snapshot(tag=None, text="x"),
     *(snapshot(tag=..., text=text) for text in (None, 1, "a" * 65_537)),
     *(snapshot(ns=ns) for ns in (None, "math", "HTML", 1)),
-    *(snapshot(attrs=attrs) for attrs in (None, {}, ["id"], [["id"]], [["id", "a", "b"]], [["", "a"]], [["id", 1]], [["id", "a" * 65_537]],
-                                          [[f"data-{n}", ""] for n in range(65)])),
+    *(snapshot(attrs=attrs) for attrs in ATTRIBUTES),
     *(snapshot(f=letters) for letters in (None, "rr", "rvx", "RV", ["r"], "rv ", "rv\n"))]
-IMPORTS = [
+PAGES: list[Any] = [..., None, [], {}, {**PAGE, "url": "x"}, snapshot(tag=...)]
+IMPORTS: list[Any] = [
     [], {}, {"pages": {}}, {"pages": []}, {"pages": [1]}, {"pages": [{"page": f"p{n}", "rev": 0, "snapshot": PAGE} for n in range(65)]},
     *(entry(page=page) for page in (..., None, 1, "", "Home", "a" * 65, "home\n")), *(entry(rev=rev) for rev in (..., None, -1, "0", 1.5, 2 ** 63)),
-    *(entry(snapshot=page) for page in (..., None, [], {}, {**PAGE, "url": "x"}, snapshot(tag=...)))]
-EDITS = [
+    *(entry(snapshot=page) for page in PAGES)]
+EDITS: list[Any] = [
     [], {}, {"edits": {}}, {"edits": [1]}, {"edits": [{}]}, edit("fly"), {"edits": [{"op": 1}]}, {"edits": [{"op": "remove", "node": 2}] * 201},
     edit("setAttr", name="id", value="a"), edit("setAttr", node=0, name="id", value="a"), edit("setAttr", node=1, value="a"),
     edit("setAttr", node=1, name="id"), edit("setAttr", node=1, name=1, value="a"), edit("setAttr", node=1, name="id", value=None),
@@ -58,12 +60,14 @@ EDITS = [
     edit("setText", node=3), edit("setText", text="x"), edit("setText", node=3, text=1),
     edit("setFacts", node=3), edit("setFacts", f="rv"), edit("setFacts", node=3, f="vv"), edit("setFacts", node=3, f=None),
     edit("insert", place=0, rows=[{"n": 9, "p": None, "text": "x"}]), edit("insert", parent=1, rows=[{"n": 9, "p": None, "text": "x"}]),
-    edit("insert", parent=1, place=-1, rows=[{"n": 9, "p": None, "text": "x"}]), edit("insert", parent=1, place=0), edit("insert", parent=1, place=0, rows=[]),
+    edit("insert", parent=1, place=-1, rows=[{"n": 9, "p": None, "text": "x"}]), edit("insert", parent=1, place=0),
+    edit("insert", parent=1, place=0, rows=[]),
     edit("insert", parent=1, place=0, rows=[{"n": 9, "p": 1, "text": "x"}]), edit("insert", parent=1, place=0, rows=[{"n": 9, "p": None}]),
-    edit("remove"), edit("remove", node=4_294_967_296), edit("move", node=2, parent=1), edit("move", node=2, place=0), edit("move", parent=1, place=0),
-    edit("move", node=2, parent=1, place=4_294_967_296)]
-JUDGEMENTS = [
-    [], {}, *(judged(rule=rule) for rule in (..., None, "cf77f2", "aaaaaa", "C4A8A4", 2)), *(judged(node=node) for node in (..., 0, "1", 4_294_967_296)),
+    edit("remove"), edit("remove", node=4_294_967_296), edit("move", node=2, parent=1), edit("move", node=2, place=0),
+    edit("move", parent=1, place=0), edit("move", node=2, parent=1, place=4_294_967_296)]
+JUDGEMENTS: list[Any] = [
+    [], {}, *(judged(rule=rule) for rule in (..., None, "cf77f2", "aaaaaa", "C4A8A4", 2)),
+    *(judged(node=node) for node in (..., 0, "1", 4_294_967_296)),
     *(judged(verdict=verdict) for verdict in (..., "inapplicable", "canttell", None)),
     *(judged(digest=digest) for digest in (..., EVIDENCE[:-1], EVIDENCE + "0", "g" * 64, None, EVIDENCE + "\n")),
     *(judged(note=note) for note in (None, 1, "a" * 2_001))]
@@ -74,7 +78,8 @@ BODIES = [("PUT /sites/r/members/new", None, MEMBERS), ("PUT /sites/r/pages/new"
 READ = [
     ("PUT /sites/r/members/new", None, [{"role": role} for role in ("owner", "editor", "judge", "reader", "none")] + [{"role": "judge", "since": 1}]),
     ("PUT /sites/r/pages/read", 0, [
-        {**PAGE, "state": "open", "frame": 2}, *({**PAGE, "url": url} for url in (" HTTPS://Example.org", "https:example.org", "ht\ntp://a/", "http://\u00e9.example/")),
+        {**PAGE, "state": "open", "frame": 2},
+        *({**PAGE, "url": url} for url in (" HTTPS://Example.org", "https:example.org", "ht\ntp://a/", "http://\u00e9.example/")),
         *(snapshot(f=letters) for letters in ("", "tfvr", "v")), snapshot(attrs=[["\u00e9", ""]]), snapshot(ns="svg", hand=None),
         snapshot(tag=..., text="", ns=1, attrs=1), snapshot(n=4_294_967_295)]),
     ("POST /sites/r/import", None, [entry(page="n.e_w-", rev=7), entry(rev=2 ** 63 - 1), {**entry(), "more": []}]),
@@ -90,14 +95,16 @@ LONG = b"x: " + b"a" * 16_384
 
 # Whole messages: no route, no method, no caller, no revision, and the five refusals of a head.
 MESSAGES: list[bytes] = [
-    *(request(f"GET {path}") for path in ("/", "/sites", "/sites/", "/sites/r/", "/sites/R/report", "/sites/r/names", "/sites/r/pages", "/sites/r/pages/",
-                                          "/sites/r/pages/home/", "/sites/r/pages/home/csv", f"/sites/{'a' * 65}/report", "/sites/r/pages/%68ome")),
+    *(request(f"GET {path}") for path in ("/", "/sites", "/sites/", "/sites/r/", "/sites/R/report", "/sites/r/names", "/sites/r/pages",
+                                          "/sites/r/pages/", "/sites/r/pages/home/", "/sites/r/pages/home/csv", f"/sites/{'a' * 65}/report",
+                                          "/sites/r/pages/%68ome")),
     *(request(f"{method} /sites/r", body=b"x") for method in ("GET", "POST", "DELETE", "PATCH", "HEAD", "put")),
-    *(request(line, body=b"x") for line in ("PUT /sites/r/report", "GET /sites/r/import", "POST /sites/r/members/bob", "PUT /sites/r/pages/home/edits",
-                                            "POST /sites/r/pages/home", "DELETE /sites/r/pages/home/outcomes")),
+    *(request(line, body=b"x") for line in ("PUT /sites/r/report", "GET /sites/r/import", "POST /sites/r/members/bob",
+                                            "PUT /sites/r/pages/home/edits", "POST /sites/r/pages/home", "DELETE /sites/r/pages/home/outcomes")),
     *(request("GET /sites/r/report", caller=caller) for caller in (None, "Ann", "ann lee", "a" * 65, "")),
     request("GET /sites/r/report", fields=("x-caller: bob",)),
-    *(request("DELETE /sites/r/pages/home", rev=rev) for rev in (None, *REVISIONS)), request("DELETE /sites/r/pages/home", rev=1, fields=("x-rev: 1",)),
+    *(request("DELETE /sites/r/pages/home", rev=rev) for rev in (None, *REVISIONS)),
+    request("DELETE /sites/r/pages/home", rev=1, fields=("x-rev: 1",)),
     b"GET /sites/r/report HTTP/2.0\r\nx-caller: ann\r\n\r\n", b"PUT /sites/r HTTP/1.1\r\nx-caller: ann\r\ncontent-length: x\r\n\r\n",
     b"PUT /sites/r HTTP/1.1\r\nx-caller: ann\r\n" + LONG, b"PUT /sites/r HTTP/1.1\r\nx-caller: ann\r\ntransfer-encoding: chunked\r\n\r\n",
     b"PUT /sites/r HTTP/1.1\r\nx-caller: ann\r\n\r\n", b"PUT /sites/r HTTP/1.1\r\nx-caller: ann\r\ncontent-length: 8388609\r\n\r\n"]

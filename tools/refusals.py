@@ -1,28 +1,33 @@
 """Requests that the desk refuses, each with its refusal, and what has to be kept before: for tools/clients and tools/test-api."""
+from __future__ import annotations
+
 import hashlib
 import json
+from typing import Any
 
-from serving import reply_in, request
+from serving import Serving, reply_in, request
 
-PAGE = {"url": "https://example.org/", "nodes": [
+PAGE: dict[str, Any] = {"url": "https://example.org/", "nodes": [
     {"n": 1, "p": None, "tag": "html", "attrs": [["lang", "en"]]}, {"n": 2, "p": 1, "tag": "title"},
     {"n": 3, "p": 2, "text": "Hours"}]}
-BROKEN = {**PAGE, "nodes": [*PAGE["nodes"], {"n": 4, "p": 99, "tag": "p"}]}
+BROKEN: dict[str, Any] = {**PAGE, "nodes": [*PAGE["nodes"], {"n": 4, "p": 99, "tag": "p"}]}
 # the digest of the evidence that the rule on descriptive titles has on that page
 EVIDENCE = hashlib.sha256(b"Hours\nhttps://example.org/").hexdigest()
 ELSEWHERE = "0" * 64
 
 
-def text_of(edit):
+def text_of(edit: dict[str, Any]) -> dict[str, Any]:
+    """Edits that change a text, with these members of the edit."""
     return {"edits": [{"op": "setText", "node": 3, **edit}]}
 
 
-def judgement(rule="c4a8a4", node=1, digest=EVIDENCE):
+def judgement(rule: str = "c4a8a4", node: int = 1, digest: str = EVIDENCE) -> dict[str, Any]:
+    """A judgement of the page's title, or of something else."""
     return {"rule": rule, "node": node, "verdict": "passed", "digest": digest}
 
 
 # Who asks what, with which revision and body, and the refusal: its status, number, name and members.
-REFUSED = [
+REFUSED: list[tuple[Any, ...]] = [
     (None, "GET /", None, None, 404, 6, "NoRoute", {}),
     ("ann", "GET /sites/Acme/pages/home", None, None, 404, 6, "NoRoute", {}),
     ("ann", "GET /sites/r/names", None, None, 404, 6, "NoRoute", {}),
@@ -65,14 +70,15 @@ REFUSED = [
 ]
 
 
-def asked(desk, caller, line, rev, body):
+def asked(desk: Serving, caller: str | None, line: str, rev: int | None, body: Any) -> bytes:
+    """The bytes of the reply to a request."""
     body = body if isinstance(body, bytes) or body is None else json.dumps(body).encode()
     with desk.connect() as connection:
         connection.sendall(request(line, caller, body or b"", rev))
         return reply_in(connection)
 
 
-def prepare(desk):
+def prepare(desk: Serving) -> None:
     """Makes the site that the requests speak of."""
     asked(desk, "ann", "PUT /sites/r", None, b"")
     for user, role in (("bob", "judge"), ("rea", "reader")):
@@ -80,7 +86,7 @@ def prepare(desk):
     asked(desk, "ann", "PUT /sites/r/pages/home", 0, PAGE)
 
 
-def fill(desk):
+def fill(desk: Serving) -> None:
     """Puts pages in, until the site holds as many as it may."""
     for first in range(1, 500, 50):
         pages = [{"page": f"p{page}", "rev": 0, "snapshot": PAGE} for page in range(first, min(first + 50, 500))]

@@ -94,7 +94,8 @@ def test_frame_counts() -> None:
     same("its title", view.words("title"), ["0 failed, 0 to judge: findings on Home"])
     same("its rules", (view.ids("rule"), view.ids("merged")), (["passed-c487ae"], []))
     expect("the line that says so", f"{FRAME}.".capitalize() in view.words("p"), view.words("p"))
-    expect("the criteria that are left out aren't said to have nothing to judge", "2.4.2 Page Titled" not in " ".join(view.words("p")), view.words("p"))
+    said = " ".join(view.words("p"))
+    expect("the criteria that are left out aren't said to have nothing to judge", "2.4.2 Page Titled" not in said, said)
     page = View(told, WORST, "page.txt")
     same("the same of a page, by the view", (page.words("title"), page.ids("rule")), (
         ["2 failed, 0 to judge: findings on Home"], ["failed-2779a5", "failed-cf77f2", "passed-b5c3f8", "passed-c487ae"]))

@@ -43,7 +43,7 @@ def test_merged() -> None:
             same("the choice of a rule", browser.execute_script(CHOICES), ALONE)
             checked(reader, "a composite")
             reader.open("?site=town")
-            expect("a site says that its sums count each rule", "3 failed on books" in reader.text("main") and "which count each rule" in reader.text("main"),
-                   reader.text("main"))
+            said = reader.text("main")
+            expect("a site says that its sums count each rule", "3 failed on books" in said and "which count each rule" in said, said)
     finally:
         browser.quit()
