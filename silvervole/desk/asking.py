@@ -77,7 +77,7 @@ class Desk:
                 raise Stop(End.USAGE, "a password is sent by https alone")
             self.fields.update(urllib3.make_headers(basic_auth=":".join(access.sign_in)))
         check_authorities(access.authorities)
-        self.pool = urllib3.PoolManager(ca_certs=access.authorities, timeout=urllib3.Timeout(CONNECT_SECONDS, REPLY_SECONDS))
+        self.pool = urllib3.PoolManager(ca_certs=access.authorities, timeout=urllib3.Timeout(connect=CONNECT_SECONDS, read=REPLY_SECONDS))
 
     def get(self, path: str) -> bytes:
         """The reply to a request for what is kept; a Refused where it is refused."""
