@@ -161,3 +161,9 @@ def test_compare(tmp_path: pathlib.Path) -> None:
     assert run(*command, "--accepted", tmp_path / "over.toml")[0] == 1
     status, out, error = run(*command, "--accepted", tmp_path / "none.toml")
     assert (status, out) == (19, "") and error.count("\n") == 1
+
+
+def test_the_example_of_the_document(tmp_path: pathlib.Path) -> None:
+    """What docs/use/pipeline.md shows is such a file."""
+    text = re.findall(r"^```toml\n(.*?)^```$", (ROOT / "docs" / "use" / "pipeline.md").read_text(encoding="utf-8"), re.MULTILINE | re.DOTALL)
+    assert [one.place for one in accepted(tmp_path, text[0]).unmatched] == ["https://www.example.org/ html > body > footer > a"]

@@ -20,6 +20,7 @@ from silvervole.formats.html_files import html_files
 from silvervole.formats.junit import write_junit
 from silvervole.formats.listing import Listing
 from silvervole.formats.markdown import write_markdown
+from silvervole.formats.options import FORMATS
 from silvervole.formats.table import HEADER, write_csv
 
 HOSTILE = 'a\x1b[1m `x` ``y`` <script>alert(1)</script> | @everyone ::error::no\n%0A, "q" \u202e =1+1 ]]>'
@@ -246,3 +247,16 @@ def test_comparison_without_snapshots(tmp_path: pathlib.Path) -> None:
     assert {one["change"] for one in found["findings"]} == {"stays"} and found["findings"][0]["path"] is None
     status, out, error = run(*command, "--html", tmp_path / "found.html")
     assert (status, out) == (18, "") and "--html needs the snapshots" in error
+
+
+def test_states_are_told() -> None:
+    """A page in a state is named with it, where people read it."""
+    listing = listing_of({**shop(), "state": "menu open"}, SHOP)
+    assert b'<testsuite name="https://shop.example/ (menu open)"' in write_junit(listing)
+    assert "on `https://shop.example/ (menu open)`." in write_markdown(listing).decode("utf-8")
+
+
+def test_the_document_has_each_format() -> None:
+    """docs/use/pipeline.md has a row for each option."""
+    rows = re.findall(r"^\| `--(\w+)` \|", (ROOT / "docs" / "use" / "pipeline.md").read_text(encoding="utf-8"), re.MULTILINE)
+    assert rows == list(FORMATS)

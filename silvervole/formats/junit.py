@@ -33,7 +33,7 @@ def write_junit(listing: Listing) -> bytes:
 def add_suite(root: ET.Element, page: ListedPage) -> None:
     """Adds the suite of a page."""
     about = page.about
-    suite = ET.SubElement(root, "testsuite", name=one_line(about.name))
+    suite = ET.SubElement(root, "testsuite", name=one_line(about.shown))
     if about.file or about.snapshot:
         suite.set("file", one_line(about.file or about.snapshot))
     if about.seconds is not None:

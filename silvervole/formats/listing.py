@@ -38,6 +38,11 @@ class AboutPage:
     seconds: float | None = None
     note: str = ""
 
+    @property
+    def shown(self) -> str:
+        """The page's name, and its state where it has one."""
+        return f"{self.name} ({self.state})" if self.state else self.name
+
 
 @dataclass(frozen=True)
 class Entry:

@@ -74,7 +74,7 @@ def item(entry: Entry) -> str:
     """A finding as an item of a list, and beneath it what it merges."""
     tag = f"{code(entry.target.tag)} at " if entry.target.tag else ""
     accepted = f" {plain(accepted_line(entry.acceptance))}" if entry.acceptance else ""
-    lines = [f"- {tag}{code(entry.target.path or entry.where)} on {code(entry.page.address)}.{accepted}"]
+    lines = [f"- {tag}{code(entry.target.path or entry.where)} on {code(entry.page.shown)}.{accepted}"]
     return "".join(f"{line}\n" for line in (*lines, *(f"  - {plain(merged)}" for merged in merged_of(entry))))
 
 

@@ -34,7 +34,7 @@ def lines_of(entry: Entry) -> list[str]:
     tag = [f"Start tag: {entry.target.tag}"] if entry.target.tag else []
     accepted = [accepted_line(entry.acceptance)] if entry.acceptance else []
     return [one_line(line) for line in (
-        *advice_of(entry), f"Page: {entry.page.address}", f"Where: {entry.where} (node {entry.target.number})", *tag,
+        *advice_of(entry), f"Page: {entry.page.shown}", f"Where: {entry.where} (node {entry.target.number})", *tag,
         *([f"Judged by {entry.judge}"] if entry.judge else []), *accepted)]
 
 
