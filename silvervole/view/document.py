@@ -21,10 +21,8 @@ def findings_document(table: RuleTable) -> str:
 def section(rule: Rule) -> str:
     """What stands of one rule."""
     criteria = ", ".join(f"[{one.number}]({one.link}) ({one.level})" for one in rule.criteria)
-    lines = [f"## `{rule.id}` {rule.name}", "",
-             f"[Published rule]({rule.link}). " + (f"WCAG 2.2: {criteria}." if criteria else "It counts under no criterion by itself."),
-             ""]
-    lines += [f"- `{reason}` ({outcome}): {shown(advice.means)} *What to do:* {shown(advice.mends)}"
+    lines = [f"## [`{rule.id}`]({rule.link}) {rule.name}", "", f"WCAG 2.2 {criteria}." if criteria else "It counts under no criterion by itself.", ""]
+    lines += [f"- `{reason}` ({outcome}): {shown(advice.means)} *Do:* {shown(advice.mends)}"
               for (reason, outcome), advice in rule.advice.items()]
     return "\n".join(lines) + "\n"
 
