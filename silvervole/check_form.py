@@ -21,7 +21,8 @@ class Fault(Exception):
 
 
 def folded(text):
-    return re.sub("[A-Z]", lambda found: found.group().lower(), text)
+    # Letters outside ASCII stay as they are.
+    return text.lower() if text.isascii() else re.sub("[A-Z]", lambda found: found.group().lower(), text)
 
 
 def size(text):

@@ -21,7 +21,7 @@ from silvervole.view.command import read
 from silvervole.view.findings import Findings, bring_together
 from silvervole.view.page import Page, read_page
 from silvervole.view.pictures import picture_of
-from silvervole.view.report import Report, read_report
+from silvervole.view.report import OUTCOMES, Report, read_report
 from silvervole.view.rules import RuleTable
 
 from .options import Checking
@@ -148,7 +148,8 @@ class Run:
     def brought_together(self, subject: Subject, taken: Taken, page: Page, report: Report, file: str) -> Checked:
         """All that is told of a page, whose snapshot stands in the file."""
         if self.formats is None:
-            return Checked(subject, taken.ending, bring_together(report, page, self.table, None))
+            told = OUTCOMES if self.checking.passed else OUTCOMES[:-1]
+            return Checked(subject, taken.ending, bring_together(report, page, self.table, None, told=told))
         picture = picture_of(taken.shot.picture, taken.shot.boxes, taken.data, subject.page) if taken.shot is not None else None
         listed = self.formats.listed(subject, page, report, time.monotonic() - taken.began, file, picture)
         return Checked(subject, taken.ending, self.formats.view(listed), listed)

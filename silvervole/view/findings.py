@@ -4,7 +4,7 @@ from __future__ import annotations
 import re
 from collections import Counter
 from dataclasses import dataclass, field, replace
-from typing import Mapping
+from typing import Mapping, Sequence
 
 from silvervole.collect.ends import End, Stop
 
@@ -99,15 +99,20 @@ class Findings:
     unmatched: tuple[str, ...] = ()
 
 
-def bring_together(report: Report, page: Page, table: RuleTable, picture: Picture | None, makers: TargetMaker | None = None) -> Findings:
-    """The findings of a report on this page; a Stop with the status INPUT where it is of another page."""
+def bring_together(report: Report, page: Page, table: RuleTable, picture: Picture | None, makers: TargetMaker | None = None,
+                   told: Sequence[str] = OUTCOMES) -> Findings:
+    """The findings of a report on this page; a Stop with the status INPUT where it is of another page.
+
+    Those of other outcomes than are told are counted, and no more is said of them.
+    """
     check_page(report, page)
     makers = makers or TargetMaker(page, picture)
     if page.in_frame:
         report = replace(report, findings=of_frame(report.findings, table),
                          inapplicable=tuple(identity for identity in report.inapplicable if not table.rule(identity).not_in_frames))
     count = counted(report.findings, table)
-    sections = {outcome: with_merged(parts_of(count.findings, outcome, table, makers), count, table, makers) for outcome in OUTCOMES}
+    sections = {outcome: with_merged(parts_of(count.findings, outcome, table, makers), count, table, makers) if outcome in told else ()
+                for outcome in OUTCOMES}
     by_rule: dict[str, dict[str, int]] = {}
     for finding in count.findings:
         counts = by_rule.setdefault(finding.rule, dict.fromkeys(OUTCOMES, 0))
