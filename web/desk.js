@@ -26,9 +26,9 @@ const reached = (promise) => promise.catch(() => { throw new Refusal(0, { refuse
 /** Who is signed in, as the proxy said with its last reply; empty where it named nobody. */
 export const session = { caller: '' };
 
-/** Keeps the name that a reply of the proxy brings. */
+/** Keeps the name that a reply of the proxy brings, or that it takes nobody for signed in. */
 export function noteCaller(reply) {
-  session.caller = reply.headers.get('x-caller') ?? session.caller;
+  session.caller = reply.headers.get('x-caller') ?? (reply.status === 401 ? '' : session.caller);
 }
 
 const pause = (seconds) => new Promise((done) => { setTimeout(done, seconds * 1000); });

@@ -75,16 +75,25 @@ class Answer {
     this.told.replaceChildren();
     this.isSending = true;
     form.note.readOnly = true; // what is typed while it is sent would be in no judgement
+    const { shown } = this.app;
     const all = form.alone?.checked ? this.left.slice(0, 1) : this.left;
     const { taken, refusal } = await this.sendAll(all, answer);
     this.isSending = false;
     form.note.readOnly = false;
+    if (this.bar.contains(document.activeElement)) form.querySelector('[type=submit]').focus();
     this.bar.replaceChildren();
-    this.left = this.left.filter(({ node }) => !taken.includes(node));
+    this.keep(taken, all, answer);
+    if (shown !== this.app.shown) this.app.say(takenWords(taken.length, all.length));
+    else if (taken.length === all.length) await this.goOn(taken.length);
+    else this.end(taken.length, all.length, refusal);
+  }
+
+  /** Keeps what the person began of the first finding that the desk has no answer on, where not all were taken. */
+  keep(taken, all, answer) {
     taken.forEach((node) => kept.dropDraft({ ...this.place, node }));
+    this.left = this.left.filter(({ node }) => !taken.includes(node));
     if (taken.length) kept.keepNeededRole(this.place, null);
-    if (taken.length === all.length) await this.goOn(taken.length);
-    else this.end(taken.length, all.length, answer, refusal);
+    if (taken.length < all.length) kept.keepDraft({ ...this.place, node: this.left[0].node }, answer);
   }
 
   /** Sends the answer for each finding, with progress where there are several, as long as the view is shown. */
@@ -103,8 +112,7 @@ class Answer {
   }
 
   /** Says why not all was taken: the form stays as it is, and what is left of it is kept. */
-  end(taken, all, answer, refusal) {
-    kept.keepDraft({ ...this.place, node: this.left[0].node }, answer);
+  end(taken, all, refusal) {
     const many = all > 1 ? ` ${takenWords(taken, all)}` : '';
     if (refusal?.name === 'NotAllowed') kept.keepNeededRole(this.place, refusal.body.needed);
     const moved = ['EvidenceMoved', 'NoTarget', 'NotOpen', 'NoPage'].includes(refusal?.name);

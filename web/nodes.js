@@ -4,6 +4,7 @@ import { grouped } from './dom.js';
 
 const MOST = 240;
 const AROUND = 160;
+const LINES = 5;
 // What is read along with the words around it; all else begins and ends words.
 const INLINE = new Set(['a', 'abbr', 'b', 'bdi', 'bdo', 'cite', 'code', 'data', 'del', 'dfn', 'em', 'font', 'i', 'ins', 'kbd', 'mark', 'q', 's',
   'samp', 'small', 'span', 'strong', 'sub', 'sup', 'time', 'tt', 'u', 'var', 'wbr']);
@@ -13,8 +14,16 @@ const MADE = /@(shadow|made)-/;
 
 const tidy = (text) => text.replace(/\s+/g, ' ').trim();
 const shortened = (text, most) => (text.length <= most ? text : `${text.slice(0, most - 1).trimEnd()}…`);
-/** The end of a text where it is long. */
-const lastOf = (text, most) => (text.length <= most ? text : `…${text.slice(1 - most).trimStart()}`);
+/** The end of a text, so long and of so many lines at most. */
+function lastOf(text) {
+  const lines = text.split('\n').slice(-LINES).join('\n');
+  return lines.length === text.length && text.length <= AROUND ? text : `…${lines.slice(1 - AROUND).trimStart()}`;
+}
+/** The beginning of a text, so long and of so many lines at most. */
+function firstOf(text) {
+  const lines = text.split('\n').slice(0, LINES).join('\n');
+  return lines.length === text.length && text.length <= AROUND ? text : `${lines.slice(0, AROUND - 1).trimEnd()}…`;
+}
 const isText = (row) => row.text !== undefined;
 const solid = (pieces) => pieces.filter(({ text }) => text.trim());
 const isDrawn = (row) => row.f.includes('v');
@@ -98,9 +107,9 @@ export class Nodes {
     const breaks = (piece, block) => piece !== undefined && piece.block !== block;
     const [textBefore, textAfter] = [this.lines(before).trimStart(), this.lines(after).trimEnd()];
     return {
-      before: breaks(solid(before).pop(), ownBlocks[0]) ? `${lastOf(textBefore.trimEnd(), AROUND)}\n` : lastOf(textBefore, AROUND),
+      before: breaks(solid(before).pop(), ownBlocks[0]) ? `${lastOf(textBefore.trimEnd())}\n` : lastOf(textBefore),
       own: this.text(row.n),
-      after: breaks(solid(after)[0], ownBlocks[ownBlocks.length - 1]) ? `\n${shortened(textAfter.trimStart(), AROUND)}` : shortened(textAfter, AROUND),
+      after: breaks(solid(after)[0], ownBlocks[ownBlocks.length - 1]) ? `\n${firstOf(textAfter.trimStart())}` : firstOf(textAfter),
     };
   }
 

@@ -54,8 +54,11 @@ export function facts(page, outcome) {
     isPage ? [] : fact('CSS path', code(nodes.path(outcome.node))));
 }
 
-const evidenceFacts = (outcome) => [fact('Evidence', outcome.evidence ? el('pre', {}, outcome.evidence) : quiet('none')),
-  ...(outcome.by ? [fact('Judged by', el('bdi', {}, outcome.by))] : [])];
+/** What the rule rests on, and who judged it. */
+function evidenceFacts({ evidence, by }) {
+  const shown = evidence.trim() ? el('pre', {}, evidence) : quiet(evidence ? 'blank' : 'none');
+  return [fact('Evidence', shown), ...(by ? [fact('Judged by', el('bdi', {}, by))] : [])];
+}
 
 /** What stands before and after an element, with its own text between them; where that is empty, its start tag. */
 function inPlace(nodes, number) {

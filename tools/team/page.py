@@ -7,7 +7,7 @@ from typing import Any, Callable
 
 from silvervole.collect.browser import start_browser
 from serving import ROOT, Serving
-from tests.support import SITE, expect, same
+from tests.support import SITE, collect_here, expect, same
 
 from .asking import ask
 from .proxies import Proxy
@@ -23,6 +23,9 @@ import('./kept.js').then((kept) => { kept.keepDraft(place, { note, verdict: '' }
 """
 
 
+ICON = "return document.querySelector('link[rel=icon]').getAttribute('href')"
+
+
 def fill(proxy: Proxy) -> None:
     """A site of ann's with pages of the example site, and members."""
     same("the site", ask(proxy, "PUT /sites/library", b"", signed_in("ann")).status, 201)
@@ -31,6 +34,14 @@ def fill(proxy: Proxy) -> None:
     for name in PAGES:
         put = ask(proxy, f"PUT /sites/library/pages/{name}", (SITE / f"{name}.json").read_bytes(), {**signed_in("ann"), "x-rev": "0"})
         same(f"the page {name}", put.status, 200)
+
+
+def put_picture(reader: Reader) -> None:
+    """Puts the picture of the page home beside it, as the collector takes it."""
+    shot = collect_here(reader.browser, SITE / "home.html", "--url", "https://library.example/", "--shot", "home.png").shot
+    reader.proxy.make_shots()
+    for kind, body in (("png", shot.picture), ("json", {"rev": 1, "boxes": json.loads(shot.boxes)["boxes"]})):
+        same(f"the picture's {kind}", ask(reader.proxy, f"PUT /shots/library/home.{kind}", body, signed_in("ann")).status, 201)
 
 
 def outcomes(proxy: Proxy, page: str = "home") -> list[dict[str, Any]]:
@@ -47,6 +58,8 @@ def looks_around(reader: Reader) -> None:
     reader.tab_to("the first stop", "at !== document.body")
     same("the first stop", reader.browser.execute_script("return document.activeElement.textContent"), "Skip to the main part")
     checked(reader, "the start", "start")
+    icon = ask(reader.proxy, f"GET /{reader.browser.execute_script(ICON)}", None, signed_in("bob"))
+    same("the icon is a file of the page's own", (icon.status, icon.fields["content-type"]), (200, "image/svg+xml"))
     reader.tab_to("the site's name", "at.id === 'site'")
     reader.keys("library", Keys.ENTER)
     reader.wait("the site", "return document.getElementById('title').innerText === 'Site library'")
@@ -56,6 +69,7 @@ def looks_around(reader: Reader) -> None:
     same("a site's pages", [row[0] for row in rows], sorted(PAGES))
     final = [one["outcome"] for one in outcomes(reader.proxy)]
     same("a page's counts", rows[0][:5], ["home", "1", f"{final.count('failed')} failed on home", f"{final.count('cantTell')} undecided on home", str(final.count("passed"))])
+    same("its undecided findings", rows[0][3], "11 undecided on home")
     same("a criterion's result", reader.browser.execute_script("""return [...document.querySelectorAll('section[aria-labelledby=criteria] tbody tr')]
         .map((row) => row.innerText.split('\\t')).find(([name]) => name.startsWith('4.1.2'))[2]"""), "Failed")
     checked(reader, "a site", "site")
@@ -75,6 +89,10 @@ def reads_findings(reader: Reader) -> None:
     final = [one["outcome"] for one in outcomes(reader.proxy)]
     same("all findings are shown", reader.browser.execute_script("return document.querySelectorAll('.target').length"), len(final))
     advice = next(rule for rule in json.loads(pathlib.Path(ROOT, "silvervole", "data", "rules.json").read_text(encoding="utf-8"))["rules"] if rule["id"] == "97a4e1")
+    # The title, five headings and four ways to bypass blocks are for people; the composite of those four is undecided with them.
+    expect("what is to judge", "Judge 10 questions, one after another" in reader.text("main")
+           and "For a person to judge 10 findings, and 1 composite that follows from them" in reader.text("main"), reader.text("main")[:900])
+    expect("nobody judges the composite", "follows from others" in reader.text(".rule:has(.merged)") and "Nobody judges it" in reader.text(".rule:has(.merged)"))
     expect("what mends a finding is said", next(one for one in advice["reasons"] if one["reason"] == "no-name")["mends"] in reader.text("main"))
     checked(reader, "a page", "page")
     reader.tab_to("the outcomes", "at.id === 'outcome'")
@@ -126,10 +144,13 @@ def judges(reader: Reader) -> None:
     proxy = reader.proxy
     to_judge = [f"{one['rule']}-{one['node']}" for one in outcomes(proxy) if one["automatic"] == "cantTell" and one["reason"] != "merged"]
     begin(reader, to_judge[0])
-    checked(reader, "a finding to judge", "judge")
+    expect("with a picture of the page", "This is the upper part of the page." in reader.text(".shot"), reader.text("main"))
+    checked(reader, "a finding to judge")
     submit(reader)
     reader.wait("the next finding", f"return location.search.includes('{to_judge[1]}')")
     reader.settle()
+    expect("with its part of the picture", "The frame is around the element." in reader.text(".shot"), reader.text("main"))
+    checked(reader, "the next finding", "judge")
     expect("it says that it was taken", "has your judgement" in reader.text("#status"), reader.text("#status"))
     same("the desk has it", [one["by"] for one in outcomes(proxy) if f"{one['rule']}-{one['node']}" == to_judge[0]], ["bob"])
     title = next(one for one in outcomes(proxy, "search") if one["rule"] == "c4a8a4")
@@ -215,7 +236,7 @@ def test_page() -> None:
         with Serving(connections=1_000_000) as desk, Proxy("sign-on.conf", [desk.port]) as proxy:
             fill(proxy)
             reader = Reader(browser, proxy)
-            for part in (looks_around, reads_findings, judges):
+            for part in (put_picture, looks_around, reads_findings, judges):
                 part(reader)
             desk_is_away(reader, lambda: (desk.program.terminate(), desk.program.wait()))
     finally:

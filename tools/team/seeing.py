@@ -94,7 +94,7 @@ def sees_its_picture(reader: Reader) -> None:
     put_picture(reader.proxy, {"13": BOX, "19": [0, 460, 1000, 40]})
     look_at(reader, 13)
     same("the frame", reader.browser.execute_script(FRAME), [BOX, True, around])
-    checked(reader, "a picture", "judge")
+    checked(reader, "a picture")
     size(reader.browser, 320, 640)
     same("the frame on 320 pixels", reader.browser.execute_script(FRAME), [BOX, True, around])
     size(reader.browser, 1280, 900)

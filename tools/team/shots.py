@@ -7,7 +7,7 @@ import socket
 from serving import HOST, Serving
 from tests.support import expect, same
 
-from .asking import ask
+from .asking import ask, basic
 from .many import SITES
 from .proxies import Proxy
 from .reader import signed_in
@@ -133,6 +133,17 @@ def test_shots() -> None:
         same("of a page that is dropped", [ask(proxy, "DELETE /sites/acme/pages/home", None, {**ANN, "x-rev": "1"}).status,
                                            ask(proxy, "GET " + PICTURE, None, ANN).status], [200, 403])
         faults(proxy, desk, folder)
+
+
+def test_shots_by_password() -> None:
+    """Behind HTTP basic, whose names nginx itself knows."""
+    with Serving(connections=1_000_000) as desk, Proxy("basic.conf", [desk.port]) as proxy:
+        proxy.make_shots()
+        ann, eve = basic("ann"), basic("eve")
+        ask(proxy, "PUT /sites/acme", b"", ann)
+        ask(proxy, "PUT /sites/acme/pages/home", PAGE, {**ann, "x-rev": "0"})
+        same("a picture behind a password", [ask(proxy, "PUT " + PICTURE, PNG, ann).status, ask(proxy, "GET " + PICTURE, None, ann).body,
+                                             ask(proxy, "GET " + PICTURE, None, eve).status, ask(proxy, "GET " + PICTURE).status], [201, PNG, 403, 401])
 
 
 def test_shots_of_many() -> None:

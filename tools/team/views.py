@@ -13,7 +13,7 @@ from tests.support import expect, same
 
 from .asking import ask
 from .proxies import Proxy
-from .reader import LISTEN, PATIENCE, Reader, checked, signed_in
+from .reader import LISTEN, PATIENCE, Reader, checked, signed_in, size
 
 ANN, BOB = signed_in("ann"), signed_in("bob")
 NOTE = "It says what stands below it."
@@ -101,6 +101,10 @@ const fetched = window.fetch;
 window.fetch = (...given) => { window.asked.push(given[0]); return fetched(...given); };
 """
 ROWS = "return [...document.querySelectorAll(`section[aria-labelledby=${arguments[0]}] tbody tr`)].map((row) => [...row.cells].map((cell) => cell.innerText))"
+LIST = """
+return [...document.querySelectorAll('.pages > li')].map((one) => [one.querySelector('h3').innerText,
+  ...[...one.querySelectorAll('dl > div')].map((part) => [...part.children].map((word) => word.innerText).join(' '))]);
+"""
 SAID = "return [...document.querySelectorAll('.said > li')].map((one) => [...one.firstElementChild.children].map((part) => part.innerText))"
 TARGETS = "return [...document.querySelectorAll('.target h4')].map((one) => one.innerText)"
 
@@ -135,6 +139,12 @@ def shows_criteria(reader: Reader) -> None:
     same("the pages", reader.browser.execute_script(ROWS, "pages"), PAGES)
     expect("the sums", "2 pages. Findings: 2 failed, 2 undecided, 17 passed." in reader.text("main"), reader.text("main"))
     checked(reader, "a site's criteria")
+    size(reader.browser, 320, 640)
+    same("the pages as a list", [reader.browser.execute_script(LIST), reader.browser.execute_script(ROWS, "pages")], [
+        [["ask", "Revision 2", "Failed 1 failed on ask", "Undecided 2 undecided on ask", "Passed 13", "Rules without a target 18"],
+         ["home", "Revision 1", "Failed 1 failed on home", "Undecided 0", "Passed 4", "Rules without a target 25"]], []])
+    size(reader.browser, 1280, 900)
+    same("the pages as a table again", reader.browser.execute_script(ROWS, "pages"), PAGES)
     follow(reader, "1 failed on home", "Page home of town")
     same("what failed on home", reader.browser.execute_script(TARGETS), ["The page as a whole, node 1"])
     follow(reader, "town", "Site town")
