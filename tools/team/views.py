@@ -140,10 +140,12 @@ def shows_criteria(reader: Reader) -> None:
     expect("the sums", "2 pages. Findings: 2 failed, 2 undecided, 17 passed." in reader.text("main"), reader.text("main"))
     checked(reader, "a site's criteria")
     size(reader.browser, 320, 640)
+    reader.wait("a list", "return document.querySelector('.pages')")
     same("the pages as a list", [reader.browser.execute_script(LIST), reader.browser.execute_script(ROWS, "pages")], [
         [["ask", "Revision 2", "Failed 1 failed on ask", "Undecided 2 undecided on ask", "Passed 13", "Rules without a target 18"],
          ["home", "Revision 1", "Failed 1 failed on home", "Undecided 0", "Passed 4", "Rules without a target 25"]], []])
     size(reader.browser, 1280, 900)
+    reader.wait("a table", "return !document.querySelector('.pages')")
     same("the pages as a table again", reader.browser.execute_script(ROWS, "pages"), PAGES)
     follow(reader, "1 failed on home", "Page home of town")
     same("what failed on home", reader.browser.execute_script(TARGETS), ["The page as a whole, node 1"])
