@@ -1,4 +1,4 @@
-"""The other ways to use the function, as docs/use/collecting.md shows them."""
+"""The other ways to use the function, as docs/use/collecting.md and examples/collecting have them."""
 from __future__ import annotations
 
 import json
@@ -16,6 +16,8 @@ from silvervole.collect.states import read_steps
 
 from .support import DOCS, PAGES, ROOT, SITE, SOURCE, expect, same
 
+PROGRAMS = ROOT / "examples" / "collecting"
+
 
 def block(heading: str, language: str) -> str:
     """The first code block of a language under a heading of the docs."""
@@ -29,12 +31,9 @@ def test_ways(browser: Any, base: str) -> None:
     address = f"{base}/home.html"
     wanted = {**json.loads((SITE / "home.json").read_bytes()), "url": address}
     with tempfile.TemporaryDirectory() as folder:
-        program = os.path.join(folder, "example.py")
-        with open(program, "w", encoding="utf-8") as file:
-            file.write(block("Selenium", "python"))
-        done = subprocess.run(["/usr/bin/python3", program, address], cwd=ROOT, stdin=subprocess.DEVNULL,
+        done = subprocess.run(["/usr/bin/python3", PROGRAMS / "selenium.py", address], cwd=ROOT, stdin=subprocess.DEVNULL,
                               stdout=subprocess.PIPE, stderr=subprocess.PIPE, check=False)
-        expect("the Selenium program of the docs", done.returncode == 0 and json.loads(done.stdout or b"0") == wanted,
+        expect("the Selenium program of the examples", done.returncode == 0 and json.loads(done.stdout or b"0") == wanted,
                done.stderr.decode("utf-8", "replace")[-500:])
         steps = pathlib.Path(folder, "search.toml")
         steps.write_text(block("States", "toml"), encoding="utf-8")
@@ -49,7 +48,7 @@ def test_ways(browser: Any, base: str) -> None:
         browser.execute_cdp_cmd("Runtime.evaluate", {"expression": SOURCE})
         answer = browser.execute_cdp_cmd("Runtime.evaluate", {"expression": "silvervoleSnapshot()", "returnByValue": True})
         expect("a paste into the console", json.loads(answer["result"]["value"]) == wanted)
-        done = subprocess.run(["bash", "-c", block("Bookmarklet", "sh")], cwd=ROOT, stdin=subprocess.DEVNULL,
+        done = subprocess.run(["/usr/bin/python3", PROGRAMS / "bookmarklet.py"], cwd=ROOT, stdin=subprocess.DEVNULL,
                               stdout=subprocess.PIPE, check=False)
         link = done.stdout.decode("utf-8").strip()
         expect("the bookmarklet is one line", link.startswith("javascript:") and "\n" not in link and " " not in link)
