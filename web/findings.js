@@ -36,7 +36,8 @@ function judgeLink(app, page, outcome, about) {
 
 function target(app, page, outcome) {
   const about = `${page.nodes.kind(outcome.node)}, node ${outcome.node}`;
-  return el('li', { class: 'target' }, el('div', { class: 'facts' }, el('h4', {}, about), facts(page, outcome), judgeLink(app, page, outcome, about)));
+  return el('li', { class: 'target' },
+    el('div', { class: 'facts' }, el('h4', {}, about), facts(page, outcome), judgeLink(app, page, outcome, about)));
 }
 
 /** The findings of one rule with one outcome, of which some are shown; targets with one reason stand together. */
@@ -65,7 +66,8 @@ function mergedPart(app, page, id) {
 
 /** The findings that a person judges: those of the list, and of a composite what it merges in its place. */
 function judgedOf(app, page, outcomes) {
-  const inputs = outcomes.filter(isForNobody).flatMap((one) => page.outcomes.filter(({ rule, node }) => node === one.node && (app.rules.rule(one.rule).inputs ?? []).includes(rule)));
+  const inputsOf = ({ rule, node }) => page.outcomes.filter((one) => one.node === node && (app.rules.rule(rule).inputs ?? []).includes(one.rule));
+  const inputs = outcomes.filter(isForNobody).flatMap(inputsOf);
   return [...outcomes, ...inputs].filter((one) => one.outcome === 'cantTell' && isForPeople(one));
 }
 

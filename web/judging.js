@@ -13,6 +13,9 @@ const MOST_BYTES = 2000;
 const VERDICTS = [['passed', 'Passed: it is as the rule asks'], ['failed', 'Failed: it is not'], ['cantTell', 'I can\'t tell']];
 const size = (text) => new TextEncoder().encode(text).length;
 
+/** Whether a tenth of all has just been reached: so often progress is said. */
+const isTenth = (done, all) => Math.floor((10 * done) / all) > Math.floor((10 * (done - 1)) / all);
+
 /** What a person began of a finding: its own note and verdict, or those of another of its question. */
 function begunOf(place, findings) {
   const all = [place.node, ...findings.map(({ node }) => node)].map((node) => kept.draft({ ...place, node }));
@@ -20,7 +23,8 @@ function begunOf(place, findings) {
 }
 
 function verdictField(begun) {
-  const choices = VERDICTS.map(([value, text]) => el('label', {}, el('input', { type: 'radio', name: 'verdict', value, required: true, checked: begun.verdict === value }), el('span', {}, text)));
+  const radio = (value) => el('input', { type: 'radio', name: 'verdict', value, required: true, checked: begun.verdict === value });
+  const choices = VERDICTS.map(([value, text]) => el('label', {}, radio(value), el('span', {}, text)));
   return el('fieldset', { class: 'verdict' }, el('legend', {}, 'Your verdict'), choices);
 }
 
@@ -28,7 +32,8 @@ function noteField(begun) {
   const note = el('textarea', { id: 'note', name: 'note', 'aria-describedby': 'note-hint', autocomplete: 'off' });
   note.value = begun.note;
   return el('div', { class: 'typed' }, el('label', { for: 'note' }, 'Note'), note,
-    el('p', { class: 'quiet', id: 'note-hint' }, `Why, for those who come after you. At most ${MOST_BYTES} bytes. It is kept for you in this browser until the desk has it.`));
+    el('p', { class: 'quiet', id: 'note-hint' },
+      `Why, for those who come after you. At most ${MOST_BYTES} bytes. It is kept for you in this browser until the desk has it.`));
 }
 
 /** Whether an answer is for each finding of the question, which has several. */
@@ -106,7 +111,7 @@ class Answer {
     app.say(all.length > 1 ? `Sending ${all.length} answers…` : 'Sending the judgement…');
     const told = (taken) => {
       tell(taken);
-      if (all.length > 1 && Math.floor((10 * taken) / all.length) > Math.floor((10 * (taken - 1)) / all.length)) app.say(`Sending: ${takenWords(taken, all.length)}`);
+      if (all.length > 1 && isTenth(taken, all.length)) app.say(`Sending: ${takenWords(taken, all.length)}`);
     };
     return sendEach(place, all, answer, told, () => this.isStopped || app.shown !== shown);
   }
@@ -173,7 +178,8 @@ function nothingHere(app, place, back) {
 function introOf(page, outcome) {
   const open = openQuestions(page.outcomes);
   const findings = open.flat().length;
-  return el('p', {}, `${counted(open.length, 'question', 'questions')} on this page to judge${findings > open.length ? `, on ${findings} findings` : ''}. `
+  const many = findings > open.length ? `, on ${findings} findings` : '';
+  return el('p', {}, `${counted(open.length, 'question', 'questions')} on this page to judge${many}. `
     + `This one: ${page.nodes.kind(outcome.node)}, node ${outcome.node}.`);
 }
 
@@ -194,6 +200,7 @@ export async function showJudging(app, site, name, judge, current, loaded) {
   const next = nextQuestion(page.outcomes, outcome);
   app.put(app.rules.rule(rule).name, introOf(page, outcome), ruleMeta(app.rules, rule), adviceOf(app.rules, outcome),
     placesPart(app, place, findings, outcome),
-    el('div', { class: 'card close' }, el('div', { class: 'facts' }, closeFacts(page, outcome)), picture ? pictureOf(picture, page.nodes, outcome.node, page.rev) : null),
+    el('div', { class: 'card close' }, el('div', { class: 'facts' }, closeFacts(page, outcome)),
+      picture ? pictureOf(picture, page.nodes, outcome.node, page.rev) : null),
     needed ? notOffered(app, place, needed, begunOf(place, findings).note) : new Answer(app, place, findings, outcome).form(next), back);
 }

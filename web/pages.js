@@ -21,5 +21,6 @@ export async function atOneRevision(ask) {
 export const loadPage = (site, page) => atOneRevision(async () => {
   const [reply, shown] = await Promise.all([desk.outcomes(site, page), desk.snapshot(site, page)]);
   if (reply.rev !== shown.rev) return null;
-  return { outcomes: reply.outcomes, inapplicable: reply.inapplicable, rev: reply.rev, nodes: new Nodes(shown.snapshot), address: shown.snapshot.url };
+  const { outcomes, inapplicable, rev } = reply;
+  return { outcomes, inapplicable, rev, nodes: new Nodes(shown.snapshot), address: shown.snapshot.url };
 });

@@ -35,30 +35,40 @@ function span(start, length, whole, least, most) {
   return [Math.max(0, Math.min(start - Math.floor(spare / 2), whole - wanted)), wanted];
 }
 
+/** Whether some of a box lies in the picture. */
+const isIn = (image, [x, y, width, height]) => x < image.naturalWidth && y < image.naturalHeight && x + width > 0 && y + height > 0;
+
 /** The nearest element from a node upwards that lies in the picture, with its box; null for the page as a whole. */
 function drawn({ image, boxes }, nodes, number) {
   for (let at = nodes.element(number); at && at.n !== nodes.root && at.tag.toLowerCase() !== 'body'; at = nodes.rows.get(at.p)) {
     const box = boxes[at.n];
-    if (isBox(box) && box[0] < image.naturalWidth && box[1] < image.naturalHeight && box[0] + box[2] > 0 && box[1] + box[3] > 0) return { row: at, box };
+    if (isBox(box) && isIn(image, box)) return { row: at, box };
   }
   return null;
 }
 
-/** Gives an element its place in percent, which the page's content policy allows to scripts alone. */
-function placed(element, left, top, width, height) {
-  Object.assign(element.style, { left, top, width, height });
+/** Gives an element its place in a part of the picture, in percent; the page's content policy allows that to scripts alone. */
+function placed(element, [left, top, width, height], part) {
+  Object.assign(element.style, { left: percent(left - part.left, part.width), top: percent(top - part.top, part.height),
+    width: percent(width, part.width), height: percent(height, part.height) });
   return element;
 }
 
 /** A part of the picture, with a frame around the box in it. */
-function crop(image, alt, left, top, width, height, box) {
+function crop(image, alt, part, box) {
   image.alt = alt;
-  const { naturalWidth, naturalHeight } = image;
-  placed(image, percent(-left, width), percent(-top, height), percent(naturalWidth, width), percent(naturalHeight, height));
-  const mark = box ? placed(el('div', { class: 'mark' }), percent(box[0] - left, width), percent(box[1] - top, height), percent(box[2], width), percent(box[3], height)) : null;
-  const made = el('div', { class: 'crop' }, image, mark);
-  Object.assign(made.style, { width: `${width}px`, aspectRatio: `${width} / ${height}` });
+  placed(image, [0, 0, image.naturalWidth, image.naturalHeight], part);
+  const made = el('div', { class: 'crop' }, image, box ? placed(el('div', { class: 'mark' }), box, part) : null);
+  Object.assign(made.style, { width: `${part.width}px`, aspectRatio: `${part.width} / ${part.height}` });
   return made;
+}
+
+/** The part of a picture around a box, or its upper part where there is no box. */
+function partAround({ naturalWidth, naturalHeight }, box) {
+  if (!box) return { left: 0, top: 0, width: naturalWidth, height: Math.min(naturalHeight, GREATEST_HEIGHT) };
+  const [left, width] = span(box[0], box[2], naturalWidth, LEAST_WIDTH, GREATEST_WIDTH);
+  const [top, height] = span(box[1], box[3], naturalHeight, LEAST_HEIGHT, GREATEST_HEIGHT);
+  return { left, top, width, height };
 }
 
 /** What a person has to know of a picture: whose frame it shows, and whether it is of another revision. */
@@ -67,7 +77,8 @@ function caption(picture, row, own, isPage, rev) {
   if (!row) said.push(`${isPage ? '' : 'The element is not drawn. '}This is the upper part of the page.`);
   else if (row.n !== own.n) said.push(`The element itself is not drawn: the frame is around the ${row.tag} that it stands in.`);
   else said.push('The frame is around the element.');
-  if (picture.rev !== rev) said.push(`This picture is of ${picture.rev < rev ? 'an older' : 'a newer'} revision, ${picture.rev}: what you judge, of revision ${rev}, may look different.`);
+  const age = picture.rev < rev ? 'an older' : 'a newer';
+  if (picture.rev !== rev) said.push(`This picture is of ${age} revision, ${picture.rev}: what you judge, of revision ${rev}, may look different.`);
   return said.join(' ');
 }
 
@@ -76,9 +87,8 @@ export function pictureOf(picture, nodes, number, rev) {
   const { image } = picture;
   const own = nodes.element(number);
   const { row, box } = drawn(picture, nodes, number) ?? {};
-  const [left, width] = box ? span(box[0], box[2], image.naturalWidth, LEAST_WIDTH, GREATEST_WIDTH) : [0, image.naturalWidth];
-  const [top, height] = box ? span(box[1], box[3], image.naturalHeight, LEAST_HEIGHT, GREATEST_HEIGHT) : [0, Math.min(image.naturalHeight, GREATEST_HEIGHT)];
   const alt = row ? `The page around ${row.tag}, node ${row.n}, as it looked` : 'The upper part of the page, as it looked';
-  return el('figure', { class: 'shot' }, crop(image, alt, left, top, width, height, box),
-    el('figcaption', { class: picture.rev === rev ? null : 'older' }, caption(picture, row, own, number === nodes.root, rev), ' ', el('a', { href: picture.address }, 'The whole picture')));
+  return el('figure', { class: 'shot' }, crop(image, alt, partAround(image, box), box),
+    el('figcaption', { class: picture.rev === rev ? null : 'older' },
+      caption(picture, row, own, number === nodes.root, rev), ' ', el('a', { href: picture.address }, 'The whole picture')));
 }

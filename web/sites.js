@@ -47,7 +47,8 @@ function pagesList(app, site, pages) {
   const part = el('div');
   const show = () => part.replaceChildren(narrow.matches ? el('ul', { class: 'pages' }, pages.map((page) => pageEntry(app, site, page)))
     : table('Pages with their outcomes', COLUMNS, pages.map((page) => pageRow(app, site, page))));
-  narrow.addEventListener('change', () => { if (part.isConnected) show(); });
+  const turn = () => (part.isConnected ? show() : narrow.removeEventListener('change', turn));
+  narrow.addEventListener('change', turn);
   show();
   return part;
 }

@@ -48,10 +48,11 @@ function headingFact(nodes, number) {
 export function facts(page, outcome) {
   const { nodes } = page;
   const isPage = outcome.node === nodes.root;
-  const isImage = !isPage && /^(img|input)$/i.test(nodes.element(outcome.node).tag);
-  return el('dl', {}, isPage ? [] : headingFact(nodes, outcome.node), fact('Start tag', code(nodes.startTag(outcome.node))),
-    isPage ? [] : fact('Text', quote(nodes.text(outcome.node))), isImage ? imageFacts(page, outcome.node, 1) : [], evidenceFacts(outcome),
-    isPage ? [] : fact('CSS path', code(nodes.path(outcome.node))));
+  const isImage = /^(img|input)$/i.test(nodes.element(outcome.node).tag);
+  if (isPage) return el('dl', {}, fact('Start tag', code(nodes.startTag(outcome.node))), evidenceFacts(outcome));
+  return el('dl', {}, headingFact(nodes, outcome.node), fact('Start tag', code(nodes.startTag(outcome.node))),
+    fact('Text', quote(nodes.text(outcome.node))), isImage ? imageFacts(page, outcome.node, 1) : [], evidenceFacts(outcome),
+    fact('CSS path', code(nodes.path(outcome.node))));
 }
 
 /** What the rule rests on, and who judged it. */
