@@ -10,7 +10,7 @@ import pytest
 
 from samples import ROOT
 from silvervole import __version__
-from silvervole.collect.ends import End
+from silvervole.collect.ends import End, run_command
 from silvervole.main import WORDS
 from standin import COMMAND, desk, plain_environment, shop_file, silvervole
 
@@ -65,6 +65,13 @@ def test_statuses() -> None:
     for first, last in re.findall(r"^\| ([0-9]+)(?: to ([0-9]+))? \|", table, re.MULTILINE):
         told |= set(range(int(first), int(last or first) + 1))
     assert told == {end.value for end in End}
+
+
+def test_a_fault_of_its_own(capsys: pytest.CaptureFixture[str]) -> None:
+    """It isn't taken for something that failed on a page."""
+    assert run_command("check", lambda: [][0]) == End.OWN_FAULT
+    error = capsys.readouterr().err
+    assert error.startswith("check: a fault of the command itself") and error.endswith("IndexError: list index out of range\n")
 
 
 def test_words_of_the_documents() -> None:

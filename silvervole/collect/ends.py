@@ -7,6 +7,7 @@ import os
 import signal
 import sys
 import threading
+import traceback
 import warnings
 from typing import Callable
 
@@ -40,6 +41,7 @@ class End(enum.IntEnum):
     STEP = 20
     PROGRAM = 21
     SIGN_IN = 22
+    OWN_FAULT = 70
     DESK = 23
     INTERRUPTED = 130
 
@@ -146,3 +148,7 @@ def run_command(program: str, work: Callable[[], int]) -> int:
     except KeyboardInterrupt:
         say(program, "interrupted")
         return End.INTERRUPTED
+    except Exception:  # Python would end with 1, as where something failed on a page
+        say(program, "a fault of the command itself; please report it with these lines:")
+        traceback.print_exc()
+        return End.OWN_FAULT
