@@ -12,6 +12,7 @@ from serving import HOST, PROGRAM, Serving
 from tests.support import SITE
 
 from .asking import ask, basic
+from .packages import BROWSER, missing
 from .pages import command
 from .proxies import Proxy
 from .questions import print_speed
@@ -56,5 +57,6 @@ def print_speeds(snapshots: int) -> None:
         for jobs in (1, 4):
             rate = snapshots_a_second(folder, jobs, snapshots)
             print(f"{snapshots} times the page home by parallel, {jobs} at once: {rate:.0f} snapshots a second", flush=True)
-    print_speed()
+    if not missing(BROWSER):
+        print_speed()
     print(f"on a machine with a load of {os.getloadavg()[0]:.1f} of {os.cpu_count()} processors")
