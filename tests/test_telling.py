@@ -6,6 +6,8 @@ import pathlib
 
 import pytest
 
+from silvervole.view.counting import FRAME
+
 from samples import SHOP, TABLE, element, words
 from standin import at_terminal, desk, shop_file, silvervole
 
@@ -34,6 +36,15 @@ def test_passed(tmp_path: pathlib.Path) -> None:
     out = silvervole("check", shop_file(tmp_path), "--passed", env=desk(tmp_path))[1]
     assert out.index("FOR A PERSON TO JUDGE: 1") < out.index("PASSED: 2") < out.index(SUMS)
     assert '<a href="/books"> "Books"' in out
+
+
+def test_frame(tmp_path: pathlib.Path) -> None:
+    """Of what stands in a frame the rules on whole pages are left out, and a line says so."""
+    path = shop_file(tmp_path)
+    path.write_text(json.dumps({**json.loads(path.read_text(encoding="utf-8")), "frame": 2}), encoding="utf-8")
+    status, out, _ = silvervole("check", path, "--json", tmp_path / "found.json", env=desk(tmp_path))
+    assert (status, out.splitlines()[1]) == (1, FRAME) and "2 failed, 0 to judge, 1 passed" in out and "cf77f2" not in out
+    assert FRAME in (tmp_path / "found.json").read_text(encoding="utf-8")
 
 
 @pytest.mark.parametrize("options, status, last", [

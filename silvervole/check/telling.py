@@ -5,6 +5,7 @@ import enum
 from typing import Iterator, NamedTuple, Sequence
 
 from silvervole.collect.ends import one_line
+from silvervole.view.counting import FRAME
 from silvervole.view.findings import Findings, ReasonPart, RulePart, Target
 from silvervole.view.page import shortened
 from silvervole.view.report import OUTCOMES
@@ -44,6 +45,8 @@ def page_lines(checked: Checked, with_passed: bool) -> Iterator[Line]:
     """All that is told of a page: the worst first."""
     found = checked.findings
     yield Line(Kind.PAGE, 0, title(checked))
+    if found.in_frame:
+        yield Line(Kind.PLAIN, 0, FRAME)
     sections = {**found.sections, "accepted": found.accepted}
     for outcome, heading in HEADINGS.items():
         number = sum(part.count for part in sections[outcome])

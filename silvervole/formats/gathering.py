@@ -8,7 +8,7 @@ from silvervole.check.subjects import file_of
 from silvervole.compare.changes import Change, PageChanges
 from silvervole.compare.places import Place, Places
 from silvervole.compare.reading import Audit
-from silvervole.view.counting import counted, of_frame
+from silvervole.view.counting import FRAME, counted, of_frame
 from silvervole.view.findings import NOTHING, Target, TargetMaker, advice_on, bring_together
 from silvervole.view.page import Page
 from silvervole.view.pictures import Picture
@@ -60,7 +60,8 @@ class EntryMaker:
 def about_page(page: Page, report: Report, name: str = "", file: str = "", snapshot: str = "", seconds: float | None = None) -> AboutPage:
     """What is said of a page as a whole."""
     address = report.address or page.address
-    return AboutPage(name or address, address, page.title, page.state, report.revision, len(page.nodes), file, snapshot, seconds)
+    note = FRAME if page.in_frame else ""
+    return AboutPage(name or address, address, page.title, page.state, report.revision, len(page.nodes), file, snapshot, seconds, note)
 
 
 def listed_page(about: AboutPage, page: Page, report: Report, table: RuleTable, picture: Picture | None = None) -> ListedPage:
@@ -96,11 +97,11 @@ def entry_of(change: Change, olds: EntryMaker | None, news: EntryMaker | None) -
 
 def about_audit(changes: PageChanges, audit: Audit, with_file: bool = False) -> AboutPage:
     """What is said of the page of an audit; the page's own file, where it has one, is as the later audit had it."""
-    page = audit.page
+    page, note = audit.page, "; ".join(filter(None, (changes.note, changes.frame)))
     if page is None:
-        return AboutPage(changes.name, audit.name, note=changes.note)
+        return AboutPage(changes.name, audit.name, note=note)
     file = file_of(page.address) if with_file and not page.in_frame else ""
-    return AboutPage(changes.name, page.address, page.title, page.state, page.revision, len(page.nodes), file, audit.snapshot, None, changes.note)
+    return AboutPage(changes.name, page.address, page.title, page.state, page.revision, len(page.nodes), file, audit.snapshot, None, note)
 
 
 def compared(changes: Sequence[PageChanges], olds: Mapping[str, Audit], news: Mapping[str, Audit], table: RuleTable,
