@@ -11,7 +11,7 @@ from typing import NamedTuple
 
 from silvervole.collect.ends import End
 
-from .support import COLLECTOR, expect, refused, run, same
+from .support import COLLECTOR, ROOT, expect, refused, run, same
 
 COMPARE = COLLECTOR / "compare"
 NEW_FAILURE = 1

@@ -30,7 +30,7 @@ def test_ways(browser: Any, base: str) -> None:
     address = f"{base}/home.html"
     wanted = {**json.loads((SITE / "home.json").read_bytes()), "url": address}
     with tempfile.TemporaryDirectory() as folder:
-        done = subprocess.run(["/usr/bin/python3", PROGRAMS / "selenium.py", address], cwd=ROOT, stdin=subprocess.DEVNULL,
+        done = subprocess.run(["/usr/bin/python3", PROGRAMS / "with_selenium.py", address], cwd=ROOT, stdin=subprocess.DEVNULL,
                               stdout=subprocess.PIPE, stderr=subprocess.PIPE, check=False)
         expect("the Selenium program of the examples", done.returncode == 0 and json.loads(done.stdout or b"0") == wanted,
                done.stderr.decode("utf-8", "replace")[-500:])

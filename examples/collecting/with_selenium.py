@@ -1,4 +1,4 @@
-"""Collects a page by Selenium: /usr/bin/python3 examples/collecting/selenium.py ADDRESS [ADDRESS-TO-WRITE] > page.json
+"""Collects a page by Selenium: /usr/bin/python3 examples/collecting/with_selenium.py ADDRESS [ADDRESS-TO-WRITE] > page.json
 
 Run it at the top of the repository.
 """
