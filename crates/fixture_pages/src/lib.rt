@@ -19,8 +19,7 @@
 //! so is refused, but for other letters behind `!`, which say nothing. The rows may be such that they make no
 //! tree, with tags and names that are empty.
 //!
-//! [`row_in`] reads one row, and [`cut`], [`number`], [`spaced`] and [`facts`] what else a test's table has in
-//! these words.
+//! [`row_in`] reads one row, and [`facts`] the letters of facts.
 #![tactic(auto)]
 
 mod fault;
@@ -35,4 +34,3 @@ pub use grammar::{page_in, row_in};
 pub use letters::facts;
 pub use node::{Attrs, Node};
 pub use pages::{ADDRESS, built, page, raw, row};
-pub use words::{cut, number, spaced};

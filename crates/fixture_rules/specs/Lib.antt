@@ -1,4 +1,3 @@
-pub mod Told
 pub mod Judged
 pub mod Marks
 pub mod Local

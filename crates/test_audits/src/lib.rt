@@ -1,9 +1,13 @@
-//! Tests of audits: of a page, of many pages by any number of books, and after judgements. There is no call of
-//! its own.
+//! Tests of audits: of a page, of many pages by any number of books, and after judgements; of copies of outcomes; and
+//! of the texts that pages of tests are read from. There is no call of its own.
 #![tactic(auto)]
 
 #[cfg(test)]
 mod audits;
+#[cfg(test)]
+mod copies;
+#[cfg(test)]
+mod no_rows;
 #[cfg(test)]
 mod samples;
 #[cfg(test)]

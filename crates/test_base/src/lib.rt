@@ -1,11 +1,7 @@
-//! Tests of the crates that stand on no page: rows by name, web addresses, ARIA's tables, frames of replies, words
-//! of the command line. There is no call of its own.
+//! Tests of the crates that stand on no page: rows by name, frames of replies, words of the command line. There is no
+//! call of its own.
 #![tactic(auto)]
 
-#[cfg(test)]
-mod addresses;
-#[cfg(test)]
-mod aria;
 #[cfg(test)]
 mod frames;
 #[cfg(test)]

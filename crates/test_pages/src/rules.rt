@@ -1,0 +1,180 @@
+//! What rules say of a page.
+
+use crate::trouble::Trouble;
+use crate::words::{cut, number, push_quoted};
+use rule_book::{Thirty, infos};
+use rule_core::{Auto, NodeVerdict, RuleBook, RuleInfo, RuleNo, Verdict};
+use snap_tree::{NodeId, Tree};
+use std::alloc::Global;
+
+/// What the rule of an id says of a page: a line for each target, as `3 passed ok "button\nGo"`.
+pub(crate) fn rule(alloc: Global, tree: &Tree, id: &str) -> Result<Vec<String>, Trouble> {
+    let mut book = Thirty::new();
+    for info in infos() {
+        if info.id.as_slice() == id.as_bytes() {
+            return judged(alloc, &mut book, tree, info.no);
+        }
+    }
+    Err(Trouble::NotInForm)
+}
+
+/// What all rules of the book say of a page, each line behind the rule's number; at the end how many judgings
+/// that took, by nodes and by pages.
+pub(crate) fn book(alloc: Global, tree: &Tree) -> Result<Vec<String>, Trouble> {
+    let mut nodes = Thirty::new();
+    let mut lines = Vec::new(alloc);
+    for info in infos() {
+        let no = info.no.0;
+        for line in by_nodes(alloc, &mut nodes, tree, info.no)? {
+            lines.push(format!(in alloc; "{no}: {line}")?)?;
+        }
+    }
+    let judgings = nodes.calls();
+    lines.push(format!(in alloc; "{judgings} judgings")?)?;
+    Ok(lines)
+}
+
+/// What rules say of nodes by their numbers, as `30 1`, with the number of judgings of one book so far.
+pub(crate) fn judge(alloc: Global, tree: &Tree, asked: &str) -> Result<Vec<String>, Trouble> {
+    let mut book = Thirty::new();
+    let mut lines = Vec::new(alloc);
+    for ask in asked.split(',') {
+        let (rule, node) = cut(ask.trim(), ' ');
+        let rule = u16::try_from(number(rule)?).map_err(|_| Trouble::NotInForm)?;
+        let node = NodeId(number(node)?);
+        let verdict = book.judge(alloc, tree, RuleNo(rule), node)?;
+        let calls = book.calls();
+        let mut line = format!(in alloc; "{calls}")?;
+        match &verdict {
+            Some(verdict) => push_verdict(alloc, &mut line, verdict)?,
+            None => line.push_str(" nothing")?,
+        }
+        lines.push(line)?;
+    }
+    Ok(lines)
+}
+
+// What a rule says of each node of a page by itself, of numbers that are no nodes, and of the page as a whole,
+// where that is something else.
+fn judged(
+    alloc: Global,
+    book: &mut Thirty,
+    tree: &Tree,
+    rule: RuleNo,
+) -> Result<Vec<String>, Trouble> {
+    let mut lines = by_nodes(alloc, book, tree, rule)?;
+    for stranger in [0, u32::MAX] {
+        add(alloc, &mut lines, book, tree, rule, NodeId(stranger))?;
+    }
+    let of_page = by_page(alloc, book, tree, rule)?;
+    if of_page.as_slice() != lines.as_slice() {
+        lines.push(String::from_str(alloc, "but of the page as a whole:")?)?;
+        for line in of_page {
+            lines.push(line)?;
+        }
+    }
+    Ok(lines)
+}
+
+fn by_nodes(
+    alloc: Global,
+    book: &mut Thirty,
+    tree: &Tree,
+    rule: RuleNo,
+) -> Result<Vec<String>, Trouble> {
+    let mut lines = Vec::new(alloc);
+    for row in tree.rows() {
+        add(alloc, &mut lines, book, tree, rule, row.id)?;
+    }
+    Ok(lines)
+}
+
+fn add(
+    alloc: Global,
+    lines: &mut Vec<String>,
+    book: &mut Thirty,
+    tree: &Tree,
+    rule: RuleNo,
+    node: NodeId,
+) -> Result<(), Trouble> {
+    if let Some(verdict) = book.judge(alloc, tree, rule, node)? {
+        lines.push(verdict_line(alloc, node, &verdict)?)?;
+    }
+    Ok(())
+}
+
+fn by_page(
+    alloc: Global,
+    book: &mut Thirty,
+    tree: &Tree,
+    rule: RuleNo,
+) -> Result<Vec<String>, Trouble> {
+    let mut lines = Vec::new(alloc);
+    for found in book.judge_page(alloc, tree, rule)? {
+        let NodeVerdict { node, verdict } = found;
+        lines.push(verdict_line(alloc, node, &verdict)?)?;
+    }
+    Ok(lines)
+}
+
+fn verdict_line(alloc: Global, node: NodeId, verdict: &Verdict) -> Result<String, Trouble> {
+    let NodeId(number) = node;
+    let mut line = format!(in alloc; "{number}")?;
+    push_verdict(alloc, &mut line, verdict)?;
+    Ok(line)
+}
+
+/// Adds the outcome, the reason and the evidence of a verdict, behind a space.
+pub(crate) fn push_verdict(
+    alloc: Global,
+    line: &mut String,
+    verdict: &Verdict,
+) -> Result<(), Trouble> {
+    line.push(' ')?;
+    line.push_str(outcome(verdict.auto))?;
+    line.push(' ')?;
+    line.push_str(verdict.reason.word())?;
+    line.push(' ')?;
+    push_quoted(alloc, line, verdict.evidence.as_str())
+}
+
+/// The word of an outcome.
+pub(crate) fn outcome(auto: Auto) -> &'static str {
+    match auto {
+        Auto::Passed => "passed",
+        Auto::Failed => "failed",
+        Auto::CantTell => "cantTell",
+    }
+}
+
+/// What all rules say of themselves: the number, the id, what applicability and expectations look at, and the inputs.
+pub(crate) fn table(alloc: Global) -> Result<Vec<String>, Trouble> {
+    let book = Thirty::new();
+    let mut lines = Vec::new(alloc);
+    for place in 0..infos().len().saturating_add(1) {
+        if let Some(info) = book.info(place) {
+            lines.push(info_line(alloc, &info)?)?;
+        }
+        if book.info(place) != infos().get(place).copied() {
+            lines.push(String::from_str(alloc, "but the book has another")?)?;
+        }
+    }
+    Ok(lines)
+}
+
+fn info_line(alloc: Global, info: &RuleInfo) -> Result<String, Trouble> {
+    let no = info.no.0;
+    let applies = info.applies;
+    let expects = info.expects;
+    let mut line = format!(in alloc; "{no} ")?;
+    for byte in info.id {
+        line.push(char::from(byte))?;
+    }
+    line.push_str(format!(in alloc; " {applies:?} {expects:?}")?.as_str())?;
+    for input in info.inputs {
+        if input != 0 {
+            line.push_str(format!(in alloc; " {input}")?.as_str())?;
+        }
+    }
+    Ok(line)
+}

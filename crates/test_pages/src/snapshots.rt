@@ -1,0 +1,111 @@
+//! What is said of bytes as a snapshot.
+
+use crate::trouble::Trouble;
+use serde_json::Value;
+use snap_json::{SnapFault, raw_of, read_kept, read_raw, read_snapshot, rows_of, write_snapshot};
+use snap_tree::{Raw, Tree};
+use std::alloc::Global;
+
+/// What is said of bytes that are sent: as a snapshot, as a list of rows, as a page, as a snapshot that was kept; or
+/// how the page that they are is written.
+pub(crate) fn read(alloc: Global, bytes: &[u8], word: &str) -> Result<String, Trouble> {
+    match word {
+        "sent" => sent(alloc, bytes),
+        "rows" => rows(alloc, bytes),
+        "built" => said(alloc, read_snapshot(alloc, bytes).err()),
+        "kept" => said(alloc, read_kept(alloc, bytes).err()),
+        "written" => written(alloc, bytes),
+        _ => Err(Trouble::NotInForm),
+    }
+}
+
+// A fault as it is printed; `ok` where there is none.
+fn said(alloc: Global, fault: Option<SnapFault>) -> Result<String, Trouble> {
+    match fault {
+        None => Ok(String::from_str(alloc, "ok")?),
+        Some(fault) => Ok(format!(in alloc; "{fault}")?),
+    }
+}
+
+fn value_of(alloc: Global, bytes: &[u8]) -> Option<Value> {
+    match str::from_utf8(bytes) {
+        Ok(text) => Value::from_str(alloc, text).ok(),
+        Err(_) => None,
+    }
+}
+
+// What is said of a snapshot as bytes, and of the JSON value that they are where that is something else. The length
+// of the bytes is no matter of the value.
+fn sent(alloc: Global, bytes: &[u8]) -> Result<String, Trouble> {
+    let of_bytes = said(alloc, read_raw(alloc, bytes).err())?;
+    let of_value = match value_of(alloc, bytes) {
+        Some(value) => said(alloc, raw_of(alloc, &value).err())?,
+        None => return Ok(of_bytes),
+    };
+    if of_bytes.as_str() == of_value.as_str() {
+        return Ok(of_bytes);
+    }
+    Ok(format!(in alloc; "{of_bytes}, but as a value {of_value}")?)
+}
+
+fn rows(alloc: Global, bytes: &[u8]) -> Result<String, Trouble> {
+    match value_of(alloc, bytes) {
+        Some(value) => said(alloc, rows_of(alloc, &value).err()),
+        None => Ok(String::from_str(alloc, "no value")?),
+    }
+}
+
+// How the page is written that bytes are, read in each way; the first one that differs is shown behind the first.
+fn written(alloc: Global, bytes: &[u8]) -> Result<String, Trouble> {
+    let tree = tree_of(read_snapshot(alloc, bytes))?;
+    let first = written_of(alloc, &tree)?;
+    let mut others = Vec::new(alloc);
+    others.push(written_of(alloc, &tree.copy()?)?)?;
+    others.push(written_of(alloc, &tree_of(read_snapshot(alloc, first.as_bytes()))?)?)?;
+    others.push(written_of(alloc, &tree_of(read_kept(alloc, first.as_bytes()))?)?)?;
+    others.push(written_of(alloc, &by_value(alloc, bytes, false)?)?)?;
+    others.push(written_of(alloc, &by_value(alloc, bytes, true)?)?)?;
+    for other in others {
+        if other.as_str() != first.as_str() {
+            return Ok(format!(in alloc; "{first}, but otherwise {other}")?);
+        }
+    }
+    Ok(first)
+}
+
+fn tree_of(read: Result<Tree, SnapFault>) -> Result<Tree, Trouble> {
+    match read {
+        Ok(tree) => Ok(tree),
+        Err(SnapFault::OutOfMemory) => Err(Trouble::OutOfMemory),
+        Err(_) => Err(Trouble::NoPage),
+    }
+}
+
+fn written_of(alloc: Global, tree: &Tree) -> Result<String, Trouble> {
+    let bytes = write_snapshot(alloc, tree)?;
+    match str::from_utf8(bytes.as_slice()) {
+        Ok(text) => Ok(String::from_str(alloc, text)?),
+        Err(_) => Err(Trouble::NotInForm),
+    }
+}
+
+// The page of the JSON value that bytes are, or of its rows by themselves.
+fn by_value(alloc: Global, bytes: &[u8], is_by_rows: bool) -> Result<Tree, Trouble> {
+    let Some(value) = value_of(alloc, bytes) else {
+        return Err(Trouble::NotInForm);
+    };
+    let raw = match raw_of(alloc, &value) {
+        Ok(raw) => raw,
+        Err(_) => return Err(Trouble::NoPage),
+    };
+    let rows = match value.get("nodes").map(|nodes| rows_of(alloc, nodes)) {
+        Some(Ok(rows)) if is_by_rows => rows,
+        Some(Ok(_)) => raw.rows,
+        _ => return Err(Trouble::NoPage),
+    };
+    let address = raw.address;
+    match Tree::build(alloc, Raw { address, rows }) {
+        Ok(tree) => Ok(tree),
+        Err(_) => Err(Trouble::NoPage),
+    }
+}

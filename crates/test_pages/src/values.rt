@@ -1,0 +1,71 @@
+//! What is said of texts and numbers by themselves.
+
+use crate::trouble::Trouble;
+use crate::words::{cut, number, push_quoted, quoted, unquoted};
+use acc_tree::whole_number;
+use made_pages::made_pages;
+use snap_tree::{BuildFault, Text, blank, next_word, tidy};
+use std::alloc::Global;
+use web_address::{is_web_address, read_address};
+
+/// A text by its words, with one space between; `blank` where it has none.
+pub(crate) fn tidied(alloc: Global, rest: &str) -> Result<String, Trouble> {
+    let text = Text::from_string(unquoted(alloc, rest)?);
+    let tidied = tidy(alloc, &text)?;
+    match (blank(&text), tidied.as_str()) {
+        (true, "") => Ok(String::from_str(alloc, "blank")?),
+        (false, words) => quoted(alloc, words),
+        (true, words) => Ok(format!(in alloc; "blank, but {words}")?),
+    }
+}
+
+/// The first word of a text, and what stands behind it.
+pub(crate) fn first_word(alloc: Global, rest: &str) -> Result<String, Trouble> {
+    let text = unquoted(alloc, rest)?;
+    let mut line = String::new(alloc);
+    if let Some((word, behind)) = next_word(text.as_str()) {
+        push_quoted(alloc, &mut line, word)?;
+        line.push(' ')?;
+        push_quoted(alloc, &mut line, behind)?;
+    }
+    Ok(line)
+}
+
+/// The number that a text is in digits.
+pub(crate) fn digits(alloc: Global, rest: &str) -> Result<String, Trouble> {
+    let text = unquoted(alloc, rest)?;
+    match whole_number(text.as_str()) {
+        Some(number) => Ok(format!(in alloc; "{number}")?),
+        None => Ok(String::new(alloc)),
+    }
+}
+
+/// How many nodes the pages of a seed have together, and how many pages there are.
+pub(crate) fn made(alloc: Global, rest: &str) -> Result<String, Trouble> {
+    let (seed, pages) = cut(rest, ' ');
+    let trees = match made_pages(alloc, number(seed)?, number(pages)?) {
+        Ok(trees) => trees,
+        Err(BuildFault::OutOfMemory) => return Err(Trouble::OutOfMemory),
+        Err(BuildFault::Tree(_)) => return Err(Trouble::NoPage),
+    };
+    let mut nodes = 0usize;
+    for tree in &trees {
+        nodes = nodes.saturating_add(tree.rows().len());
+    }
+    let pages = trees.len();
+    Ok(format!(in alloc; "{nodes} nodes in {pages} pages")?)
+}
+
+/// The web address that a text stands for; `itself` where it is one.
+pub(crate) fn address(alloc: Global, rest: &str) -> Result<String, Trouble> {
+    let text = unquoted(alloc, rest)?;
+    let is_one = is_web_address(alloc, text.as_str())?;
+    match read_address(alloc, text.as_str())? {
+        Some(address) if is_one && address.as_str() == text.as_str() => {
+            Ok(String::from_str(alloc, "itself")?)
+        }
+        Some(address) if !is_one => quoted(alloc, address.as_str()),
+        None if !is_one => Ok(String::new(alloc)),
+        _ => Ok(String::from_str(alloc, "two answers")?),
+    }
+}
