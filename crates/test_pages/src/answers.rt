@@ -14,6 +14,7 @@
 //! | `above N` | what the ancestors say: section, list, hidden, disabled, table, label |
 //! | `row N`, `kids N`, `labels N`, `attribute N NAME` | the row, the children, the labels, a value |
 //! | `aria N`, `looked N`, `sight N ..` | the attributes `aria-`; title, alt and aria-owns; whether it is such a node |
+//! | `cells N` | where the cells of a table are placed |
 //! | `tagged TAG`, `id ".."`, `find ".."` | the nodes of a tag, of an id, of the words of a reference |
 //! | `nodes`, `address` | the number of nodes, the address |
 //! | `sent`, `rows`, `built`, `kept`, `written` | what is said of bytes as a snapshot, as a list of rows, as a page, as kept ones; how they are written |
@@ -24,7 +25,7 @@
 
 use crate::aria::from_table;
 use crate::judgings::{digested, evidence, finally, finding, kind_of_inputs, merged, reason};
-use crate::looks::{looked_up, page_lines};
+use crate::looks::{cells, looked_up, page_lines};
 use crate::rules::{book, judge, rule, table};
 use crate::snapshots::read;
 use crate::sources::State;
@@ -45,6 +46,7 @@ pub(crate) fn answer(
         "rules" => table(alloc),
         "gives" => page_lines(alloc, state.tree()?),
         "rule" => rule(alloc, state.tree()?, rest),
+        "cells" => cells(alloc, state.tree()?, rest),
         "book" => book(alloc, state.tree()?),
         "judge" => judge(alloc, state.tree()?, rest),
         "tidy" => one(alloc, tidied(alloc, rest)?),

@@ -71,15 +71,25 @@ fn push_times(alloc: Global, text: &mut String, times: usize, piece: &str) -> Re
         return Ok(());
     }
     for number in 0..times {
-        text.push_str(numbered(alloc, piece, number)?.as_str())?;
+        push_numbered(alloc, text, piece, number)?;
     }
     Ok(())
 }
 
-// A text with a number in place of each `%`.
-fn numbered(alloc: Global, text: &str, number: usize) -> Result<String, Trouble> {
+// Adds a text with a number in place of each `%`.
+fn push_numbered(
+    alloc: Global,
+    text: &mut String,
+    piece: &str,
+    number: usize,
+) -> Result<(), Trouble> {
+    if !piece.contains('%') {
+        text.push_str(piece)?;
+        return Ok(());
+    }
     let digits = format!(in alloc; "{number}")?;
-    Ok(text.replace(alloc, '%', digits.as_str())?)
+    text.push_str(piece.replace(alloc, '%', digits.as_str())?.as_str())?;
+    Ok(())
 }
 
 // Adds a line: one that isn't indented begins a step, one that is belongs to the last.
@@ -125,8 +135,8 @@ fn add_to(alloc: Global, block: &mut Vec<Line>, at: usize, line: &str) -> Result
     let indented = line.strip_suffix(text).unwrap_or("");
     let (times, piece) = cut(rest, ':');
     for number in 0..count(times)? {
-        let piece = numbered(alloc, piece.trim_start(), number)?;
-        let text = format!(in alloc; "{indented}{piece}")?;
+        let mut text = String::from_str(alloc, indented)?;
+        push_numbered(alloc, &mut text, piece.trim_start(), number)?;
         block.push(Line { at, text })?;
     }
     Ok(())

@@ -9,6 +9,7 @@ use acc_tree::{
 };
 use aria_tables::{AriaAttr, Role};
 use rule_sights::{row_of, sight_as, sight_of_html, sight_with};
+use rules_tables::{Area, cell_places};
 use snap_tree::{NodeId, Text, Tree};
 use std::alloc::Global;
 
@@ -226,6 +227,22 @@ fn attribute(alloc: Global, tree: &Tree, node: NodeId, name: &str) -> Result<Str
         },
         None => Ok(String::new(alloc)),
     }
+}
+
+/// Where the cells of a table are placed: a line for each, with the rows and the columns that it covers.
+pub(crate) fn cells(alloc: Global, tree: &Tree, rest: &str) -> Result<Vec<String>, Trouble> {
+    let mut lines = Vec::new(alloc);
+    for place in cell_places(alloc, tree, NodeId(number(rest)?))?.as_slice() {
+        let NodeId(cell) = place.cell;
+        let Area {
+            top,
+            bottom,
+            left,
+            right,
+        } = place.area;
+        lines.push(format!(in alloc; "{cell} rows {top}..{bottom} columns {left}..{right}")?)?;
+    }
+    Ok(lines)
 }
 
 /// The lines of a page, where a copy and copies of its rows have the same.

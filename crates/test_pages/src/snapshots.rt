@@ -34,10 +34,16 @@ fn value_of(alloc: Global, bytes: &[u8]) -> Option<Value> {
     }
 }
 
-// What is said of a snapshot as bytes, and of the JSON value that they are where that is something else. The length
-// of the bytes is no matter of the value.
+// How many bytes are read as a value too.
+const MOST_READ_TWICE: usize = 100_000;
+
+// What is said of a snapshot as bytes, and of the JSON value that they are where that is something else and they aren't
+// very many.
 fn sent(alloc: Global, bytes: &[u8]) -> Result<String, Trouble> {
     let of_bytes = said(alloc, read_raw(alloc, bytes).err())?;
+    if bytes.len() > MOST_READ_TWICE {
+        return Ok(of_bytes);
+    }
     let of_value = match value_of(alloc, bytes) {
         Some(value) => said(alloc, raw_of(alloc, &value).err())?,
         None => return Ok(of_bytes),
