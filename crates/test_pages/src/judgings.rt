@@ -56,8 +56,8 @@ pub(crate) fn merged(alloc: Global, rest: &str) -> Result<String, Trouble> {
     for word in rest.split_whitespace() {
         inputs.push(auto(word)?)?;
     }
-    let merged = merge_composite(inputs.as_slice());
-    let mut is_same = merge_composite([merged].as_slice()) == merged;
+    let merged = merge_some(inputs.as_slice())?;
+    let mut is_same = merge_some([merged].as_slice())? == merged;
     for start in 0..inputs.len() {
         is_same &= merge_from(alloc, inputs.as_slice(), start)? == merged;
     }
@@ -78,7 +78,14 @@ fn merge_from(alloc: Global, inputs: &[Auto], start: usize) -> Result<Auto, Trou
     for input in inputs.iter().take(start) {
         turned.push(*input)?;
     }
-    Ok(merge_composite(turned.as_slice()))
+    merge_some(turned.as_slice())
+}
+
+fn merge_some(inputs: &[Auto]) -> Result<Auto, Trouble> {
+    if inputs.is_empty() {
+        return Err(Trouble::NotInForm);
+    }
+    Ok(merge_composite(inputs))
 }
 
 /// A judgement in a line, as `16 7 "Hours" passed`: the rule, the node, the evidence that was judged, the verdict.

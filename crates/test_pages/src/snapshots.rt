@@ -3,7 +3,7 @@
 use crate::trouble::Trouble;
 use serde_json::Value;
 use snap_json::{SnapFault, raw_of, read_kept, read_raw, read_snapshot, rows_of, write_snapshot};
-use snap_tree::{Raw, Tree};
+use snap_tree::{List, Raw, Row, Tree};
 use std::alloc::Global;
 
 /// What is said of bytes that are sent: as a snapshot, as a list of rows, as a page, as a snapshot that was kept; or
@@ -100,17 +100,29 @@ fn by_value(alloc: Global, bytes: &[u8], is_by_rows: bool) -> Result<Tree, Troub
     let Some(value) = value_of(alloc, bytes) else {
         return Err(Trouble::NotInForm);
     };
-    let raw = match raw_of(alloc, &value) {
-        Ok(raw) => raw,
-        Err(_) => return Err(Trouble::NoPage),
+    let Ok(raw) = raw_of(alloc, &value) else {
+        return Err(Trouble::NoPage);
     };
-    let rows = match value.get("nodes").map(|nodes| rows_of(alloc, nodes)) {
-        Some(Ok(rows)) if is_by_rows => rows,
-        Some(Ok(_)) => raw.rows,
-        _ => return Err(Trouble::NoPage),
+    let Raw { address, rows } = raw;
+    if is_by_rows {
+        let rows = rows_by_themselves(alloc, &value)?;
+        return built(alloc, Raw { address, rows });
+    }
+    built(alloc, Raw { address, rows })
+}
+
+fn rows_by_themselves(alloc: Global, value: &Value) -> Result<List<Row>, Trouble> {
+    let Some(nodes) = value.get("nodes") else {
+        return Err(Trouble::NoPage);
     };
-    let address = raw.address;
-    match Tree::build(alloc, Raw { address, rows }) {
+    match rows_of(alloc, nodes) {
+        Ok(rows) => Ok(rows),
+        Err(_) => Err(Trouble::NoPage),
+    }
+}
+
+fn built(alloc: Global, raw: Raw) -> Result<Tree, Trouble> {
+    match Tree::build(alloc, raw) {
         Ok(tree) => Ok(tree),
         Err(_) => Err(Trouble::NoPage),
     }
