@@ -2,6 +2,7 @@
 //! then. Start with [`audit`]; [`tell`] writes what was found, and gives the status.
 #![tactic(auto)]
 
+mod arguments;
 mod auditing;
 mod fault_lines;
 mod found;

@@ -1,14 +1,7 @@
 -- How the program starts: the words of a command among its arguments.
 use Rattle.std.specs.Prelude.{◌≡◌, ℕ, ◌<◌, List, ◌∷◌, length, Result, Ok, Err}
-use Rattle.std.specs.declared.io.ErrorKind.{ErrorKind}
-use Rattle.std.specs.declared.io.ErrorKind.TheVariants.{OutOfMemory}
 use Rattle.audit_run.specs.declared.found.Found.{Found}
 use Rattle.audit_run.specs.declared.found.Found.TheVariants.{Usage, StoreFault, NoMemory}
-
--- what is found where the arguments can't be had: want of memory, or a word is no text
-abbrev pub found_by : ErrorKind → Found
-found_by OutOfMemory = NoMemory
-found_by kind = Usage
 
 -- what the program may find before it runs a command
 abbrev pub IsRefusal : Found → Type 0

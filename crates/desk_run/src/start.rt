@@ -1,30 +1,16 @@
 ghost use Rattle.std.specs.Prelude.{◌≡◌, ◌<◌, map, vec_len, IfOk};
 ghost use Rattle.std.specs.String.{string_bytes};
-ghost use Rattle.std.specs.IoError.{error_kind};
 ghost use Rattle.std.specs.Vec.Iter.{into_iter_items};
-ghost use Rattle.desk_run.specs.Start.{found_by, Starts};
+ghost use Rattle.desk_run.specs.Start.{Starts};
 
 use audit_run::Found;
 use rule_book::Thirty;
 use snap_tree::{List, OutOfMemory, Text};
 use std::alloc::{AllocError, Global};
 use std::env::Args;
-use std::io;
-use std::io::ErrorKind;
 
 // How many books the program has, and so how many workers it may be told.
 const MOST_WORKERS: usize = 16;
-
-impl From<io::Error> for Found {
-    ghost from_gives = { λ error found. found ≡ found_by (error_kind error) };
-
-    fn from(error: io::Error) -> Self {
-        match error.kind() {
-            ErrorKind::OutOfMemory => Found::NoMemory,
-            _ => Found::Usage,
-        }
-    }
-}
 
 /// The words of a command among a program's arguments, which stand after the program's name and the store's.
 /// `Usage` comes where none stand there, and `NoMemory` for want of memory.
