@@ -11,16 +11,16 @@ use Rattle.acc_name.specs.declared.named.How.TheVariants as how
 use Rattle.acc_name.specs.declared.named.Name.{Name}
 use Rattle.acc_name.specs.Names.{spoken, told_by, no_name, own_text, named, name_of}
 use Rattle.acc_name.specs.Local.{NameLooks}
-use Rattle.keys.specs.Same.{all_same}
-use Rattle.keys.specs.Nodes.{self_keys, tree_keys, node_keys}
-use Rattle.keys.specs.References.{references_of, references_in, reference_keys}
-use Rattle.keys.specs.Classes.{sub_keys}
-use Rattle.keys.specs.Standing.{spot_with, Stand, IsPage}
-use Rattle.keys.proofs.Stands.{all_stand, stand_below, spot_number}
-use Rattle.keys.proofs.Agreeing.{parts, spot_sight, no_sight}
-use Rattle.keys.proofs.Trails.{same_above}
-use Rattle.keys.proofs.Again.{LooksAtPages, looks, NodeAgain, node_again}
-use Rattle.keys.proofs.Classes.{sub_sight, referring}
+use Rattle.page_keys.specs.Same.{all_same}
+use Rattle.page_keys.specs.Nodes.{self_keys, tree_keys, node_keys}
+use Rattle.page_keys.specs.References.{references_of, references_in, reference_keys}
+use Rattle.page_keys.specs.Classes.{sub_keys}
+use Rattle.page_keys.specs.Standing.{spot_with, Stand, IsPage}
+use Rattle.page_keys.proofs.Stands.{all_stand, stand_below, spot_number}
+use Rattle.page_keys.proofs.Agreeing.{parts, spot_sight, no_sight}
+use Rattle.page_keys.proofs.Trails.{same_above}
+use Rattle.page_keys.proofs.Again.{LooksAtPages, looks, NodeAgain, node_again}
+use Rattle.page_keys.proofs.Classes.{sub_sight, referring}
 use Rattle.acc_name.proofs.SaidAgain.{asked, spoken_same}
 use Rattle.acc_name.proofs.ToldAgain.{told_at, told_in}
 

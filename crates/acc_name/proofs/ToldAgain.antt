@@ -11,12 +11,12 @@ use Rattle.acc_tree.specs.Inclusion.{exposed}
 use Rattle.acc_tree.specs.Sights.{Sight}
 use Rattle.acc_name.specs.declared.named.How.TheVariants as how
 use Rattle.acc_name.specs.Names.{untold, spoken, referred, told_of, told_by}
-use Rattle.keys.specs.Same.{all_same}
-use Rattle.keys.specs.References.{references_of, references_in}
-use Rattle.keys.specs.Standing.{spot_with, Stand, IsPage}
-use Rattle.keys.proofs.Agreeing.{parts}
-use Rattle.keys.proofs.Trails.{trail}
-use Rattle.keys.proofs.Referring.{TellsBySight, same_references, labelled_by_same, labels_same}
+use Rattle.page_keys.specs.Same.{all_same}
+use Rattle.page_keys.specs.References.{references_of, references_in}
+use Rattle.page_keys.specs.Standing.{spot_with, Stand, IsPage}
+use Rattle.page_keys.proofs.Agreeing.{parts}
+use Rattle.page_keys.proofs.Trails.{trail}
+use Rattle.page_keys.proofs.Referring.{TellsBySight, same_references, labelled_by_same, labels_same}
 use Rattle.acc_name.proofs.SaidAgain.{TellSame, asked}
 
 -- what a node says where it is referred to depends on its sight alone

@@ -1,6 +1,6 @@
 -- What a name looks at: the node, its subtree, and what references find.
-use Rattle.keys.specs.Classes.{sub_keys}
-use Rattle.keys.specs.Laws.{LooksAt}
+use Rattle.page_keys.specs.Classes.{sub_keys}
+use Rattle.page_keys.specs.Laws.{LooksAt}
 use Rattle.acc_name.specs.Names.{name_of}
 
 -- the name, with the clause that gave it

@@ -5,8 +5,8 @@ ghost use Rattle.audit_run.specs.Audit.{report_of, has_failed, fails, IsFoundIn,
 
 use crate::fault_lines::fault_line;
 use crate::found::Found;
+use audit::audit_page;
 use judge_core::{OutRow, infos_of};
-use reaudit::audit_page;
 use reports::{is_outcome, text_report};
 use rule_core::{Auto, RuleBook};
 use snap_json::{MOST_SNAPSHOT_BYTES, SnapFault, read_snapshot};

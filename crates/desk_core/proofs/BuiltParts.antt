@@ -4,7 +4,7 @@ use Rattle.std.proofs.lemmas.List.{map-append}
 use Rattle.std.specs.Option.{option_or, option_map}
 use Rattle.std.specs.declared.alloc.Global.{Global}
 use Rattle.snap_tree.specs.Faults.{tree_fault}
-use Rattle.reaudit.specs.declared.pages.PageWork.{PageWork}
+use Rattle.audit.specs.declared.pages.PageWork.{PageWork}
 use Rattle.desk_core.specs.declared.placed.Placed.{Placed}
 use Rattle.desk_core.specs.declared.refusal.Refusal.{Refusal}
 use Rattle.desk_core.specs.declared.refusal.Refusal.TheVariants as refusal

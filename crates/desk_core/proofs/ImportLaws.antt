@@ -12,8 +12,8 @@ use Rattle.rule_core.specs.Books.{Book}
 use Rattle.judge_core.specs.declared.judgement.Judgement.{Judgement}
 use Rattle.judge_core.specs.declared.outcomes.Outcomes.{Outcomes}
 use Rattle.judge_core.specs.Outcomes.{judgings}
-use Rattle.reaudit.specs.declared.pages.PageWork.{PageWork}
-use Rattle.reaudit.specs.Pages.{pages_judgings, pages_outcomes}
+use Rattle.audit.specs.declared.pages.PageWork.{PageWork}
+use Rattle.audit.specs.Pages.{pages_judgings, pages_outcomes}
 use Rattle.named_rows.specs.ByName.{at}
 use Rattle.named_rows.proofs.Views.{at_map}
 use Rattle.keep_core.specs.declared.page.PageHead.{PageHead}

@@ -1,7 +1,7 @@
 -- The pages of an import, as they are built by many threads.
 use Rattle.std.specs.Prelude.{◌≡◌, List, map, None, Result, Vec, IfOk, IfErr, OnOk}
 use Rattle.std.specs.declared.alloc.Global.{Global}
-use Rattle.reaudit.specs.declared.pages.PageWork.{PageWork}
+use Rattle.audit.specs.declared.pages.PageWork.{PageWork}
 use Rattle.desk_core.specs.declared.placed.Placed.{Placed}
 use Rattle.desk_core.specs.declared.refusal.Refusal.{Refusal}
 use Rattle.desk_core.specs.Refusals.{Decision, unless_refused}

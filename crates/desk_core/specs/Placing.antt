@@ -4,8 +4,8 @@ use Rattle.std.specs.List.{find, zip}
 use Rattle.snap_tree.specs.Grown.{page_of}
 use Rattle.rule_core.specs.Books.{Book}
 use Rattle.judge_core.specs.declared.outcomes.Outcomes.{Outcomes}
-use Rattle.reaudit.specs.declared.pages.PageWork.{PageWork}
-use Rattle.reaudit.specs.Pages.{pages_outcomes}
+use Rattle.audit.specs.declared.pages.PageWork.{PageWork}
+use Rattle.audit.specs.Pages.{pages_outcomes}
 use Rattle.named_rows.specs.ByName.{at}
 use Rattle.keep_core.specs.declared.site.Site.{Site}
 use Rattle.keep_core.specs.declared.page.PageHead.{PageHead}

@@ -15,7 +15,7 @@ use crate::command::Entry;
 use crate::placed::Placed;
 use crate::put_page::build;
 use crate::refusal::Refusal;
-use reaudit::{PageWork, share};
+use audit::{PageWork, share};
 use std::alloc::Global;
 use std::collections::VecDeque;
 use std::thread::{Threads, join};

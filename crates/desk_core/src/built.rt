@@ -4,9 +4,9 @@ ghost use Rattle.judge_core.specs.declared.outcomes.Outcomes.{Outcomes};
 ghost use Rattle.desk_core.specs.Placing.{heads_from, put_of};
 
 use crate::placed::Placed;
+use audit::PageWork;
 use judge_core::Outcomes;
 use keep_core::{MOST_REVISION, Page, PageHead, PagePut};
-use reaudit::PageWork;
 use snap_tree::{List, OutOfMemory, Text};
 use std::alloc::Global;
 

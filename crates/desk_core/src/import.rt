@@ -1,5 +1,5 @@
 ghost use Rattle.std.specs.Prelude.{◌≡◌, ◌+◌, ◌<◌, ◌≤◌, length, sum_by, true, None, is_none, IsTrue, IfOk, IfErr, OnOk};
-ghost use Rattle.reaudit.specs.Pages.{pages_judgings};
+ghost use Rattle.audit.specs.Pages.{pages_judgings};
 ghost use Rattle.keep_core.specs.Names.{is_name};
 ghost use Rattle.desk_core.specs.declared.command.Command.TheVariants.{Import};
 ghost use Rattle.desk_core.specs.Refusals.{Decision, unless_refused};
@@ -22,8 +22,8 @@ use crate::refusal::{Limit, Refusal};
 use crate::reply::Reply;
 use crate::room::{due, has_revisions, has_room_for};
 use crate::store::stored_all;
+use audit::{audit_pages, busy};
 use keep_core::{Change, Keeper};
-use reaudit::{audit_pages, busy};
 use rule_core::RuleBook;
 use snap_tree::{List, Text};
 use std::alloc::Global;

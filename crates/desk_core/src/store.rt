@@ -6,10 +6,10 @@ ghost use Rattle.desk_core.specs.Serving.{IsTrueTo};
 
 use crate::reply::Stored;
 use crate::summaries::summary_of;
-use engine::reaudit;
+use audit::audit_page;
 use judge_core::{Judgement, Outcomes, infos_of};
 use keep_core::{KeptPage, Page, PageHead, PagePut};
-use reaudit::audit_page;
+use reaudit::reaudit;
 use rule_core::{RuleBook, RuleInfo};
 use snap_tree::{OutOfMemory, Text, Tree};
 use std::alloc::Global;
@@ -47,7 +47,7 @@ pub fn reaudit_by_first<B: RuleBook>(
     ensures most { sum_by B.calls books.new ≤ sum_by B.calls books.old + judgings B.book new.now }
     ensures others { drop 1 books.new ≡ drop 1 books.old }
 {
-    reaudit(alloc, &mut books[0], old, new, rows, js)
+    reaudit(alloc, &mut books[0], old, rows, new, js)
 }
 
 /// A page as it is put where its tree was edited: its outcomes come of those that are kept.

@@ -1,7 +1,7 @@
 -- The command `generate`: why it ends with each status, and what it writes then.
 use Rattle.std.specs.Prelude.{◌≡◌, ℕ, ◌+◌, ◌≤◌, List, [], ◌∷◌, ◌⊎◌, sum}
 use Rattle.rule_core.specs.Books.{Book}
-use Rattle.reaudit.specs.Pages.{pages_judgings}
+use Rattle.audit.specs.Pages.{pages_judgings}
 use Rattle.made_audit.specs.Line.{made_line, made_works}
 use Rattle.desk_words.specs.declared.command.Generating.{Generating}
 use Rattle.audit_run.specs.declared.status.Status.{Status}

@@ -5,8 +5,8 @@ use Rattle.acc_tree.specs.declared.attributes.Attribute.TheVariants as attribute
 use Rattle.rule_core.specs.declared.info.RuleInfo.{RuleInfo}
 use Rattle.rule_core.specs.Books.{book_of}
 use Rattle.rule_core.specs.Local.{IsLocal, IsLocalBook}
-use Rattle.law_forms.proofs.Resting.{kept_alone, by_applicability}
-use Rattle.law_forms.proofs.Tables.{table_local}
+use Rattle.rule_sights.proofs.Resting.{kept_alone, by_applicability}
+use Rattle.rule_sights.proofs.Tables.{table_local}
 use Rattle.fixture_rules.specs.Marks.{mark_verdict, marked, alt_info, title_info, lang_info, marks}
 
 mark_local : (info : RuleInfo) (name : Attribute) → IsLocal info (marked name)

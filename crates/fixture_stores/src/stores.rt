@@ -5,8 +5,8 @@ use keep_sql::{Prepared, SqlKeeper};
 use sqlite::{Connection, Error, ErrorCode, FileStore, Files, Options};
 use sqlite_disk::Memory;
 use std::alloc::Global;
+use store_statements::make_tables;
 use store_tables::StoreFault;
-use store_texts::make_tables;
 
 /// A store whose file and log are in memory.
 pub type MemStore = FileStore<Memory>;

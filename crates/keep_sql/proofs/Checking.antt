@@ -11,7 +11,7 @@ use Rattle.judge_core.specs.declared.outcomes.OutRow.{OutRow}
 use Rattle.judge_core.specs.declared.outcomes.Outcomes.{Outcomes}
 use Rattle.keep_core.specs.declared.site.Site.{Site}
 use Rattle.keep_core.specs.declared.page.Page.{Page}
-use Rattle.store_texts.specs.Stored.{Stored, stored, sites_in, pages_of, site_at, members_at, page_at, heads_at, judgements_at, outcomes_at}
+use Rattle.store_statements.specs.Stored.{Stored, stored, sites_in, pages_of, site_at, members_at, page_at, heads_at, judgements_at, outcomes_at}
 use Rattle.store_tables.specs.Reading.{read_counted}
 use Rattle.store_tables.specs.Rows.{judgement_from, outcome_from}
 use Rattle.store_tables.specs.Told.{is_site, is_page, site_shown, page_shown, judgements_shown, outcomes_shown}

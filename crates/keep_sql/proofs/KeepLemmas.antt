@@ -12,8 +12,8 @@ use Rattle.keep_core.specs.Changes.{changed}
 use Rattle.keep_core.specs.Fits.{Fits}
 use Rattle.keep_core.specs.Keeping.{Stays, Reads, Makes}
 use Rattle.keep_core.specs.Tables.{Tables}
-use Rattle.store_texts.specs.Stored.{stored}
-use Rattle.store_texts.specs.Changes.{IsStore}
+use Rattle.store_statements.specs.Stored.{stored}
+use Rattle.store_statements.specs.Changes.{IsStore}
 use Rattle.store_tables.specs.Told.{tables_in}
 use Rattle.store_tables.specs.Numbers.{IsNumbered}
 use Rattle.store_tables.proofs.Applied.{applied}

@@ -7,9 +7,9 @@ use Rattle.sql_rows.specs.Tables.{name_at}
 use Rattle.sqlite_trees.specs.Tree.{Trees}
 use Rattle.sqlite.specs.Effect.{Database}
 use Rattle.sqlite.specs.State.{State}
-use Rattle.store_texts.specs.Stored.{Stored, stored, editions_in, editions_at}
-use Rattle.store_texts.specs.Changes.{IsStore, AddsEdition}
-use Rattle.store_texts.specs.Making.{nothing}
+use Rattle.store_statements.specs.Stored.{Stored, stored, editions_in, editions_at}
+use Rattle.store_statements.specs.Changes.{IsStore, AddsEdition}
+use Rattle.store_statements.specs.Making.{nothing}
 use Rattle.keep_core.specs.declared.limits.TheConstants.{MOST_REVISION}
 use Rattle.store_tables.specs.Cells.{number_in}
 use Rattle.store_tables.specs.Told.{last_number, edition_shown}

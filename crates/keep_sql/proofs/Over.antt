@@ -11,8 +11,8 @@ use Rattle.judge_core.specs.declared.judgement.Judgement.{Judgement}
 use Rattle.judge_core.specs.declared.outcomes.Outcomes.{Outcomes}
 use Rattle.keep_core.specs.declared.page.PagePut.{PagePut}
 use Rattle.keep_core.specs.declared.change.Change.TheVariants.{AddJudgement}
-use Rattle.store_texts.specs.Stored.{Stored, stored, judgements_at, outcomes_at}
-use Rattle.store_texts.specs.Changes.{Makes, PutsSite, ChangesPages, ChangesJudgements, ChangesOutcomes}
+use Rattle.store_statements.specs.Stored.{Stored, stored, judgements_at, outcomes_at}
+use Rattle.store_statements.specs.Changes.{Makes, PutsSite, ChangesPages, ChangesJudgements, ChangesOutcomes}
 use Rattle.store_tables.specs.Told.{outcomes_shown}
 use Rattle.store_tables.specs.Batches.{Applies, ReadsPage, ReadsJudged, page_cells, judgement_cells, outcome_rows}
 use Rattle.keep_sql.specs.declared.known.Known.{Known}

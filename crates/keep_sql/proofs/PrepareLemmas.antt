@@ -11,11 +11,11 @@ use Rattle.sqlite.specs.Held.{Held, state}
 use Rattle.sqlite.specs.State.{State, HasCleanDisk, Survives}
 use Rattle.sqlite.proofs.StateLemmas.{survives_weaker}
 use Rattle.sql_rows.specs.Tables.{Rise}
-use Rattle.store_texts.specs.Schema.{schema_of, the_schema}
-use Rattle.store_texts.specs.Stored.{Stored, stored, editions_at}
-use Rattle.store_texts.specs.Changes.{IsStore, AddsEdition}
-use Rattle.store_texts.specs.Making.{nothing}
-use Rattle.store_texts.specs.Opening.{OpensAgain}
+use Rattle.store_statements.specs.Schema.{schema_of, the_schema}
+use Rattle.store_statements.specs.Stored.{Stored, stored, editions_at}
+use Rattle.store_statements.specs.Changes.{IsStore, AddsEdition}
+use Rattle.store_statements.specs.Making.{nothing}
+use Rattle.store_statements.specs.Opening.{OpensAgain}
 use Rattle.store_tables.specs.Told.{tables_in, edition_shown}
 use Rattle.keep_sql.specs.Reading.{rows_in, edition_in}
 use Rattle.keep_sql.specs.Preparing.{IsSound, IsBare, HasNone, HasSix, IsPrepared, Prepares, Notes, NotesFirst}

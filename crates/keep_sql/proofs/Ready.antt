@@ -5,8 +5,8 @@ use Rattle.sqlite.specs.Effect.{Database, IsDatabase}
 use Rattle.sqlite.specs.State.{State, IsUnchanged}
 use Rattle.sqlite_schema.specs.declared.schema.Table.{Table}
 use Rattle.sql_rows.specs.Tables.{Rise}
-use Rattle.store_texts.specs.Schema.{the_schema}
-use Rattle.store_texts.specs.Changes.{IsStore, IsReady}
+use Rattle.store_statements.specs.Schema.{the_schema}
+use Rattle.store_statements.specs.Changes.{IsStore, IsReady}
 
 pub store_same : (old new : State) → new.now ≡ old.now → IsStore old → IsStore new
 store_same old new same h = record {

@@ -8,8 +8,8 @@ use Rattle.sqlite.specs.State.{State, HasCleanDisk}
 use Rattle.keep_core.specs.declared.change.Change.{Change}
 use Rattle.keep_core.specs.Changes.{changed}
 use Rattle.keep_core.specs.Tables.{Tables}
-use Rattle.store_texts.specs.Stored.{stored}
-use Rattle.store_texts.specs.Making.{nothing}
+use Rattle.store_statements.specs.Stored.{stored}
+use Rattle.store_statements.specs.Making.{nothing}
 use Rattle.store_tables.specs.Told.{tables_in}
 use Rattle.store_tables.proofs.Steps.{some_same}
 use Rattle.keep_sql.specs.Reading.{rows_in}

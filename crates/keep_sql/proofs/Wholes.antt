@@ -9,10 +9,10 @@ use Rattle.sql_rows.specs.Tables.{name_at}
 use Rattle.sql_rows.proofs.Canon.{put_rows_append}
 use Rattle.judge_core.specs.declared.outcomes.OutRow.{OutRow}
 use Rattle.judge_core.specs.declared.outcomes.Outcomes.{Outcomes}
-use Rattle.store_texts.specs.Stored.{Stored}
-use Rattle.store_texts.specs.declared.outcomes.OutcomeRow.{OutcomeRow}
-use Rattle.store_texts.specs.Changes.{IsReady, Makes, ChangesMembers, ChangesOutcomes, DropsOutcomes, PutsOutcome}
-use Rattle.store_texts.specs.Changes as texts
+use Rattle.store_statements.specs.Stored.{Stored}
+use Rattle.store_statements.specs.declared.outcomes.OutcomeRow.{OutcomeRow}
+use Rattle.store_statements.specs.Changes.{IsReady, Makes, ChangesMembers, ChangesOutcomes, DropsOutcomes, PutsOutcome}
+use Rattle.store_statements.specs.Changes as texts
 use Rattle.store_tables.specs.Batches.{outcome_cells, outcomes_cells, outcome_rows}
 use Rattle.store_tables.proofs.Steps.{some_same}
 use Rattle.store_tables.proofs.Stepping.{outcomes_through}

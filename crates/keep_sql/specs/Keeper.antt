@@ -12,8 +12,8 @@ use Rattle.keep_core.specs.declared.fault.KeepFault.TheVariants.{Failed}
 use Rattle.keep_core.specs.declared.change.Change.{Change}
 use Rattle.keep_core.specs.Tables.{Tables}
 use Rattle.keep_core.specs.Changes.{changed}
-use Rattle.store_texts.specs.Stored.{stored}
-use Rattle.store_texts.specs.Changes.{IsStore}
+use Rattle.store_statements.specs.Stored.{stored}
+use Rattle.store_statements.specs.Changes.{IsStore}
 use Rattle.store_tables.specs.Told.{tables_in}
 use Rattle.keep_sql.specs.declared.known.Known.{Known}
 use Rattle.keep_sql.specs.declared.keeper.Prepared.{Prepared}

@@ -4,10 +4,10 @@ use Rattle.sqlite_trees.specs.Tree.{Trees}
 use Rattle.sqlite.specs.Effect.{IsDatabase}
 use Rattle.sqlite.specs.State.{State}
 use Rattle.sql_rows.specs.Opened.{AllRise}
-use Rattle.store_texts.specs.Schema.{schema_of, the_schema}
-use Rattle.store_texts.specs.Stored.{Stored, stored, editions_at}
-use Rattle.store_texts.specs.Changes.{IsStore, IsReady, AddsEdition}
-use Rattle.store_texts.specs.Making.{nothing}
+use Rattle.store_statements.specs.Schema.{schema_of, the_schema}
+use Rattle.store_statements.specs.Stored.{Stored, stored, editions_at}
+use Rattle.store_statements.specs.Changes.{IsStore, IsReady, AddsEdition}
+use Rattle.store_statements.specs.Making.{nothing}
 use Rattle.store_tables.specs.Told.{edition_shown}
 use Rattle.keep_sql.specs.Reading.{rows_in, edition_in}
 

@@ -6,8 +6,8 @@ use Rattle.judge_core.specs.declared.outcomes.Outcomes.{Outcomes}
 use Rattle.keep_core.specs.declared.site.Site.{Site}
 use Rattle.keep_core.specs.declared.page.PageHead.{PageHead}
 use Rattle.keep_core.specs.declared.page.Page.{Page}
-use Rattle.store_texts.specs.Stored.{Stored, stored, site_at, members_at, page_at, heads_at, judgements_at, outcomes_at, editions_at}
-use Rattle.store_texts.specs.Changes.{IsStore, IsReady}
+use Rattle.store_statements.specs.Stored.{Stored, stored, site_at, members_at, page_at, heads_at, judgements_at, outcomes_at, editions_at}
+use Rattle.store_statements.specs.Changes.{IsStore, IsReady}
 use Rattle.store_tables.specs.Told.{site_shown, page_shown, heads_shown, judgements_shown, outcomes_shown, edition_shown}
 use Rattle.keep_sql.specs.declared.known.Known.{Known}
 

@@ -6,7 +6,7 @@ use Rattle.sqlite.specs.Held.{state}
 use Rattle.keep_core.specs.declared.change.Change.{Change}
 use Rattle.keep_core.specs.Changes.{changed}
 use Rattle.keep_core.specs.Tables.{Tables}
-use Rattle.store_texts.specs.Stored.{stored}
+use Rattle.store_statements.specs.Stored.{stored}
 use Rattle.store_tables.specs.Told.{tables_in}
 use Rattle.keep_sql.specs.Keeper.{Keeper, tables, held, LeftBy, LeavesTables, LeavesPrepared, Across, IsToldOf}
 

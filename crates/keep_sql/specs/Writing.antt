@@ -8,9 +8,9 @@ use Rattle.judge_core.specs.declared.outcomes.OutRow.{OutRow}
 use Rattle.judge_core.specs.Equality.{same_row}
 use Rattle.keep_core.specs.declared.page.PagePut.{PagePut}
 use Rattle.keep_core.specs.declared.change.Change.{Change}
-use Rattle.store_texts.specs.Stored.{Stored, stored}
-use Rattle.store_texts.specs.Changes.{IsStore, IsReady, Makes}
-use Rattle.store_texts.specs.declared.outcomes.OutcomeRow.{OutcomeRow}
+use Rattle.store_statements.specs.Stored.{Stored, stored}
+use Rattle.store_statements.specs.Changes.{IsStore, IsReady, Makes}
+use Rattle.store_statements.specs.declared.outcomes.OutcomeRow.{OutcomeRow}
 use Rattle.store_tables.specs.Cells.{auto_number}
 use Rattle.store_tables.specs.Batches.{Applies, ReadsPage, PutsOne, outcome_cells}
 use Rattle.keep_sql.specs.declared.known.Known.{Known}

@@ -20,8 +20,8 @@ use keep_core::{Change, PagePut, Site};
 use snap_tree::Text;
 use sqlite::{Alter, Connection, Transaction};
 use std::alloc::Global;
+use store_statements::{drop_judgements, drop_outcomes, drop_page};
 use store_tables::{Memo, StoreFault};
-use store_texts::{drop_judgements, drop_outcomes, drop_page};
 
 fn put_site<S: Alter>(
     alloc: Global,

@@ -4,8 +4,8 @@ ghost use Rattle.std.specs.Prelude.{◌≡◌, [], suc, length, IfOk, OnOk, IsTr
 ghost use Rattle.sqlite.specs.Held.{state};
 ghost use Rattle.sqlite.specs.State.{HasCleanDisk, Survives, IsUnchanged};
 ghost use Rattle.sql_rows.specs.Inside.{StaysInside};
-ghost use Rattle.store_texts.specs.Stored.{site_at, members_at, heads_at, judgements_at};
-ghost use Rattle.store_texts.specs.Changes.{IsReady};
+ghost use Rattle.store_statements.specs.Stored.{site_at, members_at, heads_at, judgements_at};
+ghost use Rattle.store_statements.specs.Changes.{IsReady};
 ghost use Rattle.store_tables.specs.Batches.{ReadsSite, ReadsPage, ReadsJudged};
 ghost use Rattle.store_tables.specs.Told.{is_site, is_page, site_shown, judgements_shown};
 ghost use Rattle.keep_sql.specs.Reading.{rows_in, outcomes_in, Recalls};
@@ -18,8 +18,8 @@ use keep_core::Page;
 use snap_tree::{List, Text};
 use sqlite::{Alter, Transaction};
 use std::alloc::Global;
+use store_statements::{heads, page_judgements, page_row, site_members, site_row};
 use store_tables::{Memo, StoreFault};
-use store_texts::{heads, page_judgements, page_row, site_members, site_row};
 
 /// Whether there is a site of this name.
 pub fn has_site<S: Alter>(tx: &mut Transaction<'_, S>, site: &str) -> Result<bool, StoreFault>

@@ -7,19 +7,19 @@ ghost use Rattle.sqlite.specs.Held.{state};
 ghost use Rattle.sqlite.specs.State.{HasCleanDisk, Survives, IsUnchanged};
 ghost use Rattle.sql_rows.specs.Inside.{StaysInside};
 ghost use Rattle.sql_rows.specs.Stores as rows;
-ghost use Rattle.store_texts.specs.Schema.{schema_of};
-ghost use Rattle.store_texts.specs.Stored.{stored};
-ghost use Rattle.store_texts.specs.Changes.{IsStore, IsReady, AddsEdition};
-ghost use Rattle.store_texts.specs.Making.{HasTables, nothing};
-ghost use Rattle.store_texts.specs.Opening.{OpensAgain};
+ghost use Rattle.store_statements.specs.Schema.{schema_of};
+ghost use Rattle.store_statements.specs.Stored.{stored};
+ghost use Rattle.store_statements.specs.Changes.{IsStore, IsReady, AddsEdition};
+ghost use Rattle.store_statements.specs.Making.{HasTables, nothing};
+ghost use Rattle.store_statements.specs.Opening.{OpensAgain};
 ghost use Rattle.keep_sql.specs.Reading.{ReadsInside, edition_in, rows_in};
 ghost use Rattle.keep_sql.specs.Preparing.{IsBare, IsSound, IsPrepared, Prepares, Notes, NotesFirst, NotesInside, NotesStore};
 
 use sqlite::{Alter, Connection, Transaction};
 use sqlite_schema::schema::Schema;
 use std::alloc::Global;
+use store_statements::{add_edition, edition_rows, is_ours, make_tables, reopen};
 use store_tables::StoreFault;
-use store_texts::{add_edition, edition_rows, is_ours, make_tables, reopen};
 
 const FIRST: u64 = 1;
 

@@ -6,7 +6,7 @@ ghost use Rattle.sqlite.specs.Held.{state};
 ghost use Rattle.sqlite.specs.State.{HasCleanDisk, Survives, IsUnchanged};
 ghost use Rattle.sql_rows.specs.Inside.{StaysInside};
 ghost use Rattle.keep_core.specs.Fits.{FitsSite, FitsPage, FitsHeads};
-ghost use Rattle.store_texts.specs.Changes.{IsReady};
+ghost use Rattle.store_statements.specs.Changes.{IsReady};
 ghost use Rattle.keep_sql.specs.Reading.{site_in, page_in, heads_in, judgements_in, outcomes_in, ReadsInside};
 
 use crate::fitting;
@@ -15,8 +15,8 @@ use keep_core::{Page, PageHead, Site};
 use snap_tree::{List, Text};
 use sqlite::{Alter, Transaction};
 use std::alloc::Global;
+use store_statements::{heads, page_judgements, page_outcomes, page_row, site_members, site_row};
 use store_tables::{Memo, StoreFault};
-use store_texts::{heads, page_judgements, page_outcomes, page_row, site_members, site_row};
 
 /// The site of a name with its members; None where there is none.
 pub fn site_in<S: Alter>(

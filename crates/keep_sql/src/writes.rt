@@ -10,7 +10,7 @@ ghost use Rattle.sql_rows.specs.Inside.{StaysInside};
 ghost use Rattle.sql_rows.specs.Tables.{name_at};
 ghost use Rattle.judge_core.specs.Equality.{same_row};
 ghost use Rattle.keep_core.specs.Fits.{FitsPage};
-ghost use Rattle.store_texts.specs.Changes.{PutsSite, ChangesMembers, ChangesPages, ChangesJudgements, ChangesOutcomes};
+ghost use Rattle.store_statements.specs.Changes.{PutsSite, ChangesMembers, ChangesPages, ChangesJudgements, ChangesOutcomes};
 ghost use Rattle.store_tables.specs.Cells.{role_number, auto_number};
 ghost use Rattle.store_tables.specs.Batches.{member_cells, page_cells, judgement_cells, outcome_cells, outcomes_cells, outcome_rows};
 ghost use Rattle.keep_sql.specs.Reading.{outcomes_in};
@@ -22,11 +22,11 @@ use rule_core::Auto;
 use snap_json::write_snapshot;
 use sqlite::{Alter, Transaction};
 use std::alloc::Global;
-use store_tables::{Memo, StoreFault};
-use store_texts::{
+use store_statements::{
     JudgementRow, OutcomeRow, add_judgement, add_member, drop_members, drop_outcomes, put_outcome,
     put_page, put_site,
 };
+use store_tables::{Memo, StoreFault};
 
 fn role_number(role: MemberRole) -> i64
     ensures { result ≡ pos (role_number role) }

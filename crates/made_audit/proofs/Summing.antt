@@ -5,7 +5,7 @@ use Rattle.std.proofs.lemmas.List.Sums.{sum_by_more}
 use Rattle.snap_tree.specs.Trees.{rows_of}
 use Rattle.rule_core.specs.declared.info.RuleInfo.{RuleInfo}
 use Rattle.judge_core.specs.declared.outcomes.Outcomes.{Outcomes}
-use Rattle.reaudit.specs.declared.pages.PageWork.{PageWork}
+use Rattle.audit.specs.declared.pages.PageWork.{PageWork}
 use Rattle.reports.specs.declared.sums.Sums.{Sums}
 use Rattle.reports.specs.declared.sums.TheConstants.{MOST_SUM}
 use Rattle.reports.specs.SiteReport.{page_sums}

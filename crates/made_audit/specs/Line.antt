@@ -6,8 +6,8 @@ use Rattle.snap_tree.specs.Grown.{page_of}
 use Rattle.rule_core.specs.declared.info.RuleInfo.{RuleInfo}
 use Rattle.rule_core.specs.Books.{Book}
 use Rattle.judge_core.specs.declared.outcomes.Outcomes.{Outcomes}
-use Rattle.reaudit.specs.declared.pages.PageWork.{PageWork}
-use Rattle.reaudit.specs.Pages.{pages_outcomes}
+use Rattle.audit.specs.declared.pages.PageWork.{PageWork}
+use Rattle.audit.specs.Pages.{pages_outcomes}
 use Rattle.reports.specs.declared.sums.Sums.{Sums}
 use Rattle.reports.specs.declared.sums.TheConstants.{MOST_SUM}
 use Rattle.reports.specs.SiteReport.{page_sums}

@@ -1,6 +1,6 @@
 ghost use Rattle.std.specs.Prelude.{◌≡◌, ◌+◌, ◌<◌, ◌≤◌, length, sum_by, IfOk};
 ghost use Rattle.std.specs.String.{string_bytes};
-ghost use Rattle.reaudit.specs.Pages.{pages_judgings};
+ghost use Rattle.audit.specs.Pages.{pages_judgings};
 ghost use Rattle.reports.specs.Summary.{summary_line};
 ghost use Rattle.made_audit.specs.Line.{made_line, made_works};
 

@@ -3,8 +3,8 @@ ghost use Rattle.snap_tree.specs.Trees.{rows_of};
 ghost use Rattle.reports.specs.declared.sums.TheConstants.{MOST_SUM};
 ghost use Rattle.made_audit.specs.Line.{nodes_of, sums_of};
 
+use audit::PageWork;
 use judge_core::Outcomes;
-use reaudit::PageWork;
 use reports::{Sums, page_sums};
 use rule_core::RuleInfo;
 

@@ -1,13 +1,13 @@
 ghost use Rattle.std.specs.Prelude.{◌≡◌, ◌+◌, ◌<◌, ◌≤◌, ◌^◌, [], ◌∷◌, length, sum_by, IfOk};
 ghost use Rattle.std.specs.Thread.{IsSend, IsSync};
-ghost use Rattle.reaudit.specs.Pages.{pages_judgings};
+ghost use Rattle.audit.specs.Pages.{pages_judgings};
 ghost use Rattle.made_audit.specs.Line.{Numbered, come_to, made_work, span_works};
 
 use crate::counted::{Counted, joined};
 use crate::span::Span;
 use crate::sums::{nodes_of, sums_of};
+use audit::{PageWork, audit_pages, busy, share};
 use made_pages::made_tree;
-use reaudit::{PageWork, audit_pages, busy, share};
 use rule_core::{RuleBook, RuleInfo};
 use snap_tree::{List, OutOfMemory};
 use std::alloc::Global;

@@ -5,11 +5,11 @@ use Rattle.std.specs.Option.{option_map_or}
 use Rattle.snap_tree.specs.declared.row.NodeId.{NodeId}
 use Rattle.snap_tree.specs.declared.row.Row.{Row}
 use Rattle.snap_tree.specs.Trees.{Trees}
-use Rattle.keys.specs.Keys.{Key}
-use Rattle.keys.specs.Same.{same, all_same}
-use Rattle.keys.specs.Nodes.{self_keys, tree_keys, node_keys, keys_in}
-use Rattle.keys.specs.References.{reference_keys}
-use Rattle.keys.specs.Classes.{sub_keys, table_of, table_keys, is_root, titles, is_meta, metas}
+use Rattle.page_keys.specs.Keys.{Key}
+use Rattle.page_keys.specs.Same.{same, all_same}
+use Rattle.page_keys.specs.Nodes.{self_keys, tree_keys, node_keys, keys_in}
+use Rattle.page_keys.specs.References.{reference_keys}
+use Rattle.page_keys.specs.Classes.{sub_keys, table_of, table_keys, is_root, titles, is_meta, metas}
 use Rattle.page_changes.specs.declared.flags.Common.{Common}
 use Rattle.page_changes.specs.Marks.{marks_of}
 use Rattle.page_changes.specs.Flags.{flags_of, IsCommon, flags_at, joined}

@@ -12,10 +12,10 @@ use Rattle.snap_tree.specs.Labels.{first_with_id, labels_naming}
 use Rattle.snap_tree.specs.Lookups.{tagged}
 use Rattle.snap_tree.specs.Trees.{Trees}
 use Rattle.acc_tree.specs.References.{named_by, reference_words}
-use Rattle.keys.specs.Keys.{Key, own_key, id_key, label_key, tagged_key}
-use Rattle.keys.specs.Same.{same_node, same, all_same}
-use Rattle.keys.specs.Nodes.{tree_keys}
-use Rattle.keys.specs.Classes.{titles, metas}
+use Rattle.page_keys.specs.Keys.{Key, own_key, id_key, label_key, tagged_key}
+use Rattle.page_keys.specs.Same.{same_node, same, all_same}
+use Rattle.page_keys.specs.Nodes.{tree_keys}
+use Rattle.page_keys.specs.Classes.{titles, metas}
 use Rattle.page_changes.specs.References.{nodes_same, word_same, words_same, named_same}
 
 -- ---- keys

@@ -10,12 +10,12 @@ use Rattle.snap_tree.specs.Spots.{Spot, spot}
 use Rattle.snap_tree.specs.Trees.{Trees, empty, tree, rows_of}
 use Rattle.acc_tree.specs.Frames.{frame, above_of}
 use Rattle.acc_tree.specs.Sights.{Sight}
-use Rattle.keys.specs.Keys.{frame_key, own_key, kids_key, own, root_numbers, frame_at, own_at, kids_at}
-use Rattle.keys.specs.Same.{same_node, same_frame, same_own, same, all_same}
-use Rattle.keys.specs.Nodes.{frames_of, frames_above, keys_in, keys_below}
-use Rattle.keys.specs.Classes.{table_in, table_of, is_root, is_meta}
-use Rattle.keys.specs.Standing.{spot_with, Stand}
-use Rattle.keys.proofs.Agreeing.{spot_sight}
+use Rattle.page_keys.specs.Keys.{frame_key, own_key, kids_key, own, root_numbers, frame_at, own_at, kids_at}
+use Rattle.page_keys.specs.Same.{same_node, same_frame, same_own, same, all_same}
+use Rattle.page_keys.specs.Nodes.{frames_of, frames_above, keys_in, keys_below}
+use Rattle.page_keys.specs.Classes.{table_in, table_of, is_root, is_meta}
+use Rattle.page_keys.specs.Standing.{spot_with, Stand}
+use Rattle.page_keys.proofs.Agreeing.{spot_sight}
 use Rattle.page_changes.specs.Here.{frame_here, own_here, kids_here, tree_here, marks_at, marks_here}
 use Rattle.page_changes.specs.Marks.{marks_of}
 

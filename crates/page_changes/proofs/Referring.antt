@@ -14,11 +14,11 @@ use Rattle.snap_tree.specs.Trees.{Trees, empty, tree, rows_of}
 use Rattle.acc_tree.specs.References.{found, reference_words}
 use Rattle.acc_tree.specs.Seen.{seen_row, seen}
 use Rattle.acc_tree.proofs.Finding.{rows_seen}
-use Rattle.keys.specs.Keys.{id_key, label_key}
-use Rattle.keys.specs.Same.{same, all_same}
-use Rattle.keys.specs.Nodes.{node_keys}
-use Rattle.keys.specs.References.{keys_of_id, label_keys, word_keys, labels_of_id, nearest_label, labels_found, words_found, references_of, references_in, reference_keys}
-use Rattle.keys.specs.Standing.{Stand}
+use Rattle.page_keys.specs.Keys.{id_key, label_key}
+use Rattle.page_keys.specs.Same.{same, all_same}
+use Rattle.page_keys.specs.Nodes.{node_keys}
+use Rattle.page_keys.specs.References.{keys_of_id, label_keys, word_keys, labels_of_id, nearest_label, labels_found, words_found, references_of, references_in, reference_keys}
+use Rattle.page_keys.specs.Standing.{Stand}
 use Rattle.page_changes.specs.References.{naming, nodes_same, word_same, words_same, id_same, labels_same, row_same, label_under, rows_same, below_same}
 
 -- ---- labels of a page

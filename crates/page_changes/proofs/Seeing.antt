@@ -11,7 +11,7 @@ use Rattle.snap_tree.specs.declared.row.Body.TheVariants.{Element, Words}
 use Rattle.snap_tree.specs.Rows.{is_html, is_html_body}
 use Rattle.acc_tree.specs.Attributes.{is_looked_at}
 use Rattle.acc_tree.specs.Seen.{seen_body, seen_row}
-use Rattle.keys.specs.Same.{same_attr}
+use Rattle.page_keys.specs.Same.{same_attr}
 
 html_body_seen : (name : List ℕ) (body : Body) → is_html_body name body ≡ is_html_body name (seen_body body)
 html_body_seen name (Element space tag attrs) = refl

@@ -14,10 +14,10 @@ use Rattle.snap_tree.proofs.Spotting.{spot_row}
 use Rattle.acc_tree.specs.Seen.{seen_row}
 use Rattle.acc_tree.specs.Frames.{frame}
 use Rattle.acc_tree.specs.Sights.{Sight, sight_of}
-use Rattle.keys.specs.Keys.{frame_key, own_key, kids_key, own, root_numbers, frame_at, own_at, kids_at}
-use Rattle.keys.specs.Same.{same_node, same_frame, same_own, same, all_same}
-use Rattle.keys.specs.Nodes.{frames_of, frames_above, self_keys, keys_in, keys_below, tree_keys}
-use Rattle.keys.proofs.Agreeing.{no_sight}
+use Rattle.page_keys.specs.Keys.{frame_key, own_key, kids_key, own, root_numbers, frame_at, own_at, kids_at}
+use Rattle.page_keys.specs.Same.{same_node, same_frame, same_own, same, all_same}
+use Rattle.page_keys.specs.Nodes.{frames_of, frames_above, self_keys, keys_in, keys_below, tree_keys}
+use Rattle.page_keys.proofs.Agreeing.{no_sight}
 use Rattle.page_changes.specs.declared.by_number.Agreement.{Agreement}
 use Rattle.page_changes.specs.Marks.{marks_of}
 use Rattle.page_changes.specs.ByNumber.{agreed, first_agreed, strange}

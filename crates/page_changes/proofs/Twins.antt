@@ -22,13 +22,13 @@ use Rattle.acc_tree.specs.declared.above.TableAbove.{TableAbove}
 use Rattle.acc_tree.specs.Frames.{frame, under, above_of, is_table}
 use Rattle.acc_tree.specs.Sights.{Sight, sight_of, summed}
 use Rattle.acc_tree.specs.Tags.{space_in, tag_in, html_tag}
-use Rattle.keys.specs.Keys.{frame_key, own_key, own, text_in, root_numbers, frame_at}
-use Rattle.keys.specs.Same.{same_node, same_frame, same_own}
-use Rattle.keys.specs.Classes.{table_in}
-use Rattle.keys.specs.Standing.{spot_with}
-use Rattle.keys.proofs.Agreeing.{spot_sight, no_sight}
-use Rattle.keys.proofs.Stands.{spot_number}
-use Rattle.keys.proofs.Tests.{same_tells, agree}
+use Rattle.page_keys.specs.Keys.{frame_key, own_key, own, text_in, root_numbers, frame_at}
+use Rattle.page_keys.specs.Same.{same_node, same_frame, same_own}
+use Rattle.page_keys.specs.Classes.{table_in}
+use Rattle.page_keys.specs.Standing.{spot_with}
+use Rattle.page_keys.proofs.Agreeing.{spot_sight, no_sight}
+use Rattle.page_keys.proofs.Stands.{spot_number}
+use Rattle.page_keys.proofs.Tests.{same_tells, agree}
 use Rattle.page_changes.specs.Here.{frame_here, own_here, kids_here}
 use Rattle.page_changes.specs.Beside.{same_table, same_above, AreTwins}
 use Rattle.page_changes.proofs.Passing.{frame_is, own_is}

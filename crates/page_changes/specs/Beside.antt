@@ -13,8 +13,8 @@ use Rattle.acc_tree.specs.declared.above.Above.{Above}
 use Rattle.acc_tree.specs.declared.above.TableAbove.{TableAbove}
 use Rattle.acc_tree.specs.Frames.{frame, under, above_of}
 use Rattle.acc_tree.specs.Seen.{seen_row, seen}
-use Rattle.keys.specs.Same.{same_node, same_frame}
-use Rattle.keys.specs.Standing.{spot_with, Stand}
+use Rattle.page_keys.specs.Same.{same_node, same_frame}
+use Rattle.page_keys.specs.Standing.{spot_with, Stand}
 use Rattle.page_changes.specs.declared.beside.Pair.{Pair}
 use Rattle.page_changes.specs.declared.beside.Framed.{Framed}
 use Rattle.page_changes.specs.declared.met.Met.{Met}

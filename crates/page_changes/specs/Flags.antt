@@ -3,9 +3,9 @@ use Rattle.std.specs.Prelude.{◌≡◌, ◌&&◌, ◌||◌, not, List, [], ◌�
 use Rattle.std.specs.Option.{option_map_or}
 use Rattle.snap_tree.specs.declared.row.NodeId.{NodeId}
 use Rattle.snap_tree.specs.Trees.{Trees, rows_of}
-use Rattle.keys.specs.Same.{all_same}
-use Rattle.keys.specs.Nodes.{self_keys, tree_keys, keys_in}
-use Rattle.keys.specs.Classes.{sub_keys, table_keys, titles, title_keys, metas, metas_keys, whole_keys}
+use Rattle.page_keys.specs.Same.{all_same}
+use Rattle.page_keys.specs.Nodes.{self_keys, tree_keys, keys_in}
+use Rattle.page_keys.specs.Classes.{sub_keys, table_keys, titles, title_keys, metas, metas_keys, whole_keys}
 use Rattle.page_changes.specs.declared.flags.Flags.{Flags}
 use Rattle.page_changes.specs.declared.flags.Common.{Common}
 use Rattle.page_changes.specs.declared.marks.Marks.{Marks}

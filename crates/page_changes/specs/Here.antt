@@ -7,9 +7,9 @@ use Rattle.snap_tree.specs.Rows.{is_html}
 use Rattle.snap_tree.specs.Trees.{Trees, empty, tree}
 use Rattle.acc_tree.specs.declared.above.Above.{Above}
 use Rattle.acc_tree.specs.Frames.{frame, under}
-use Rattle.keys.specs.Keys.{own, root_numbers, frame_at, own_at, kids_at}
-use Rattle.keys.specs.Same.{same_node, same_frame, same_own}
-use Rattle.keys.specs.Classes.{table_in}
+use Rattle.page_keys.specs.Keys.{own, root_numbers, frame_at, own_at, kids_at}
+use Rattle.page_keys.specs.Same.{same_node, same_frame, same_own}
+use Rattle.page_keys.specs.Classes.{table_in}
 use Rattle.page_changes.specs.declared.marks.Marks.{Marks}
 
 -- the other page has this frame, these own parts, these children at the node's number

@@ -2,10 +2,10 @@
 use Rattle.std.specs.Prelude.{◌≡◌, map}
 use Rattle.snap_tree.specs.declared.row.NodeId.{NodeId}
 use Rattle.snap_tree.specs.Trees.{Trees, rows_of}
-use Rattle.keys.specs.Keys.{own_key}
-use Rattle.keys.specs.Same.{same, all_same}
-use Rattle.keys.specs.Nodes.{self_keys, tree_keys, keys_in}
-use Rattle.keys.specs.Classes.{table_of, is_root, is_meta}
+use Rattle.page_keys.specs.Keys.{own_key}
+use Rattle.page_keys.specs.Same.{same, all_same}
+use Rattle.page_keys.specs.Nodes.{self_keys, tree_keys, keys_in}
+use Rattle.page_keys.specs.Classes.{table_of, is_root, is_meta}
 use Rattle.page_changes.specs.declared.marks.Marks.{Marks}
 use Rattle.page_changes.specs.declared.marks.PageMarks.{PageMarks}
 

@@ -13,9 +13,9 @@ use Rattle.snap_tree.specs.Rows.{is_key}
 use Rattle.snap_tree.specs.Trees.{Trees, empty, tree}
 use Rattle.acc_tree.specs.References.{reference_words}
 use Rattle.acc_tree.specs.Seen.{seen_row, seen}
-use Rattle.keys.specs.Keys.{id_key, label_key}
-use Rattle.keys.specs.Same.{same, all_same}
-use Rattle.keys.specs.Nodes.{node_keys}
+use Rattle.page_keys.specs.Keys.{id_key, label_key}
+use Rattle.page_keys.specs.Same.{same, all_same}
+use Rattle.page_keys.specs.Nodes.{node_keys}
 use Rattle.page_changes.specs.declared.pages.Pages.{Pages}
 use Rattle.page_changes.specs.ByNumber.{AreByNumber}
 

@@ -9,7 +9,7 @@ ghost use Rattle.acc_tree.specs.Frames.{under, above_of};
 ghost use Rattle.acc_tree.specs.Sights.{Sight, sight_of};
 ghost use Rattle.page_changes.specs.Here.{frame_here, own_here};
 ghost use Rattle.page_changes.specs.Beside.{same_table, same_above, IsPair, IsFramedBy, IsFramed, AreTwins};
-ghost use Rattle.keys.specs.Standing.{spot_with};
+ghost use Rattle.page_keys.specs.Standing.{spot_with};
 
 use crate::same::{same_frames, same_role, same_shape};
 use acc_tree::{Above, TableAbove, sight_of, under};

@@ -1,8 +1,8 @@
 ghost use Rattle.std.specs.Prelude.{◌≡◌, IfOk};
 ghost use Rattle.acc_tree.specs.Seen.{seen};
 ghost use Rattle.page_changes.specs.References.{AreCompared};
-ghost use Rattle.keys.specs.Same.{all_same};
-ghost use Rattle.keys.specs.Nodes.{keys_in};
+ghost use Rattle.page_keys.specs.Same.{all_same};
+ghost use Rattle.page_keys.specs.Nodes.{keys_in};
 ghost use Rattle.page_changes.specs.Marks.{AreMarks};
 ghost use Rattle.page_changes.specs.ByNumber.{AreByNumber};
 ghost use Rattle.page_changes.specs.Flags.{AreFlags, IsCommon, flags_at, joined};

@@ -1,5 +1,5 @@
-//! What of a page is the same after an edit: for each node of the old page, whether the two pages agree on what
-//! each class of rules looks at. Start with [`changes`].
+//! Which nodes an edit reaches: for each node of the old page and each class of rules, whether the old and the new page
+//! agree on all that the class looks at. Start with [`changes`].
 #![tactic(auto)]
 
 mod beside;

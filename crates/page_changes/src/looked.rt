@@ -4,7 +4,7 @@ ghost use Rattle.std.specs.Str.{bytes_eq};
 ghost use Rattle.std.specs.Cmp.Lexicographic.{pointwise};
 ghost use Rattle.texts.specs.Words.{folded};
 ghost use Rattle.acc_tree.specs.Attributes.{is_aria, is_looked_at};
-ghost use Rattle.keys.specs.Same.{same_attr};
+ghost use Rattle.page_keys.specs.Same.{same_attr};
 
 use snap_tree::{Attr, same_folded};
 

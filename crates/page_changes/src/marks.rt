@@ -5,7 +5,7 @@ ghost use Rattle.snap_tree.specs.Well.{IsWell};
 ghost use Rattle.acc_tree.specs.declared.above.Above.{Above};
 ghost use Rattle.acc_tree.specs.Frames.{above_of, under};
 ghost use Rattle.acc_tree.specs.Seen.{seen, seen_row};
-ghost use Rattle.keys.specs.Classes.{table_in};
+ghost use Rattle.page_keys.specs.Classes.{table_in};
 ghost use Rattle.page_changes.specs.Beside.{AreBeside, ahead_of};
 ghost use Rattle.page_changes.specs.Here.{tree_here, marks_here};
 ghost use Rattle.page_changes.specs.Marks.{AreMarks};

@@ -6,7 +6,7 @@ ghost use Rattle.snap_tree.specs.Spots.{spot};
 ghost use Rattle.acc_tree.specs.Frames.{above_of};
 ghost use Rattle.acc_tree.specs.Seen.{seen_row, seen};
 ghost use Rattle.acc_tree.specs.Sights.{sight_of, seen_sight};
-ghost use Rattle.keys.specs.Standing.{spot_with, Stand};
+ghost use Rattle.page_keys.specs.Standing.{spot_with, Stand};
 ghost use Rattle.page_changes.specs.Beside.{IsPair, Leads, Meets, ahead_of};
 
 use crate::beside::{Pair, framed_apart, framed_under, is_alike, under_old};

@@ -8,9 +8,9 @@ ghost use Rattle.snap_tree.specs.Labels.{first_with_id};
 ghost use Rattle.snap_tree.specs.Trees.{Trees, rows_of};
 ghost use Rattle.acc_tree.specs.References.{named_by, reference_words};
 ghost use Rattle.acc_tree.specs.Seen.{seen, seen_row};
-ghost use Rattle.keys.specs.Keys.{id_key};
-ghost use Rattle.keys.specs.Same.{same_node, same, all_same};
-ghost use Rattle.keys.specs.References.{reference_keys};
+ghost use Rattle.page_keys.specs.Keys.{id_key};
+ghost use Rattle.page_keys.specs.Same.{same_node, same, all_same};
+ghost use Rattle.page_keys.specs.References.{reference_keys};
 ghost use Rattle.page_changes.specs.References.{AreCompared, IsMemory, Remembers, nodes_same, word_same, words_same, named_same, id_same, labels_same, row_same, rows_same, below_same};
 
 use crate::by_number::agreed_at;

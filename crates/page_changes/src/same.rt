@@ -11,8 +11,8 @@ ghost use Rattle.acc_tree.specs.Tags.{space_in, tag_in};
 ghost use Rattle.acc_tree.specs.Seen.{seen_row, seen, attr};
 ghost use Rattle.acc_tree.specs.Roles.{role_at};
 ghost use Rattle.acc_tree.specs.Frames.{frame};
-ghost use Rattle.keys.specs.Keys.{own, text_in, root_numbers};
-ghost use Rattle.keys.specs.Same.{same_node, same_facts, same_frame, same_own};
+ghost use Rattle.page_keys.specs.Keys.{own, text_in, root_numbers};
+ghost use Rattle.page_keys.specs.Same.{same_node, same_facts, same_frame, same_own};
 
 use crate::looked::same_attrs;
 use acc_tree::{Above, Attribute, attr, role_at};

@@ -3,10 +3,10 @@ ghost use Rattle.std.specs.List.{flat_map};
 ghost use Rattle.std.specs.Option.{option_map_or};
 ghost use Rattle.snap_tree.specs.Lookups.{tagged};
 ghost use Rattle.acc_tree.specs.Seen.{seen};
-ghost use Rattle.keys.specs.Keys.{own_key};
-ghost use Rattle.keys.specs.Same.{all_same};
-ghost use Rattle.keys.specs.Nodes.{tree_keys};
-ghost use Rattle.keys.specs.Classes.{titles, metas};
+ghost use Rattle.page_keys.specs.Keys.{own_key};
+ghost use Rattle.page_keys.specs.Same.{all_same};
+ghost use Rattle.page_keys.specs.Nodes.{tree_keys};
+ghost use Rattle.page_keys.specs.Classes.{titles, metas};
 ghost use Rattle.page_changes.specs.References.{AreCompared};
 
 use crate::by_number::agreed_at;

@@ -1,4 +1,10 @@
-pub mod Judgings
-pub mod AgainLaws
-pub mod Shares
-pub mod Verdicts
+pub mod Counts
+pub mod Placing
+pub mod Earlier
+pub mod Kept
+pub mod Sums
+pub mod InOrder
+mod Reaching
+mod Along
+pub mod Marking
+mod Live

@@ -1,1 +1,6 @@
-pub mod Pages
+pub mod Known
+pub mod ByNumber
+pub mod Before
+pub mod Costs
+pub mod Marks
+pub mod Nodes

@@ -1,12 +1,17 @@
-//! The audit of pages by a book of rules (ACT Rules Format 1.1): every rule on every node, judgements
-//! and composite rules included. Start with `audit_page`.
+//! The audit of a page after an edit: what the edit doesn't reach stays as it was found, and the rest is judged. Start
+//! with [`reaudit`]. The audit of whole pages, and of a page under other judgements, is handed on from the crate `audit`.
 #![tactic(auto)]
 
-mod atomic;
-mod judged;
-mod page;
-mod pages;
+mod again;
+mod before;
+mod by_number;
+mod edited;
+mod known;
+mod marks;
+mod nodes;
 
-pub use judged::after_judgement;
-pub use page::audit_page;
-pub use pages::{PageWork, audit_pages, busy, share};
+pub use again::atomic_again;
+pub use audit::{PageWork, after_judgement, audit_page, audit_pages};
+pub use edited::reaudit;
+pub use known::{Known, Placed, known_nodes};
+pub use nodes::{Nodes, nodes_of};

@@ -2,7 +2,7 @@
 use Rattle.std.proofs.Common.{refl}
 use Rattle.rule_core.specs.Books.{book_of}
 use Rattle.rule_core.specs.Local.{IsLocalBook}
-use Rattle.law_forms.proofs.Tables.{table_local}
+use Rattle.rule_sights.proofs.Tables.{table_local}
 use Rattle.rules_page.proofs.Local.{title_local, descriptive_local as title_descriptive_local, language_local, known_local, parts_local, viewport_local, delay_local}
 use Rattle.rules_bypass.proofs.Local.{heading_local as heading_to_start_local, landmark_local, skip_link_local, collapse_local}
 use Rattle.rules_names.proofs.Local.{button_local, link_local, image_local, image_button_local, form_field_local, iframe_local, heading_local, svg_image_local, descriptive_local}

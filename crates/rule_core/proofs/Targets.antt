@@ -11,11 +11,11 @@ use Rattle.rule_core.specs.declared.info.Class.{Class}
 use Rattle.rule_core.specs.declared.info.Class.TheVariants.{SelfOnly}
 use Rattle.rule_core.specs.declared.info.RuleInfo.{RuleInfo}
 use Rattle.rule_core.specs.declared.verdict.Verdict.{Verdict}
-use Rattle.keys.specs.Same.{all_same}
-use Rattle.keys.specs.Nodes.{self_keys}
-use Rattle.keys.proofs.Agreeing.{parts}
-use Rattle.keys.proofs.Again.{said_same}
-use Rattle.keys.proofs.Pages.{page_seen}
+use Rattle.page_keys.specs.Same.{all_same}
+use Rattle.page_keys.specs.Nodes.{self_keys}
+use Rattle.page_keys.proofs.Agreeing.{parts}
+use Rattle.page_keys.proofs.Again.{said_same}
+use Rattle.page_keys.proofs.Pages.{page_seen}
 use Rattle.rule_core.specs.Reach.{Says, class_keys}
 use Rattle.rule_core.specs.Local.{AreVersions, IsLocal}
 

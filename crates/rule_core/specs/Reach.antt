@@ -13,10 +13,10 @@ use Rattle.rule_core.specs.declared.info.RuleNo.{RuleNo}
 use Rattle.rule_core.specs.declared.verdict.Verdict.{Verdict}
 use Rattle.rule_core.specs.Books.{Book}
 use Rattle.rule_core.specs.Infos.{is_atomic}
-use Rattle.keys.specs.Keys.{Key}
-use Rattle.keys.specs.Same.{all_same}
-use Rattle.keys.specs.Nodes.{self_keys}
-use Rattle.keys.specs.Classes.{sub_keys, table_keys, title_keys, metas_keys, whole_keys}
+use Rattle.page_keys.specs.Keys.{Key}
+use Rattle.page_keys.specs.Same.{all_same}
+use Rattle.page_keys.specs.Nodes.{self_keys}
+use Rattle.page_keys.specs.Classes.{sub_keys, table_keys, title_keys, metas_keys, whole_keys}
 
 -- what each class looks at
 unfoldable pub class_keys : Class → Trees → NodeId → List Key

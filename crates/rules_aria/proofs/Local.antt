@@ -7,8 +7,8 @@ use Rattle.acc_tree.specs.Sights.{sight_of}
 use Rattle.rule_core.specs.declared.info.Class.TheVariants.{SelfOnly, Sub}
 use Rattle.rule_sights.specs.Nodes.{if_row}
 use Rattle.rule_core.specs.Local.{IsLocal}
-use Rattle.law_forms.proofs.Told.{sight_told}
-use Rattle.law_forms.proofs.Resting.{kept, kept_alone, kept_where, by_applicability, by_rows}
+use Rattle.rule_sights.proofs.Told.{sight_told}
+use Rattle.rule_sights.proofs.Resting.{kept, kept_alone, kept_where, by_applicability, by_rows}
 use Rattle.rules_aria.specs.Autocomplete.{autocomplete_verdict, autocomplete_is_valid, autocomplete_is_valid_info}
 use Rattle.rules_aria.specs.Role.{role_verdict, role_is_valid, role_is_valid_info}
 use Rattle.rules_aria.specs.AriaAttribute.{attribute_verdict, aria_attribute_is_defined, aria_attribute_is_defined_info}

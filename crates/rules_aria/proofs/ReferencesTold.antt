@@ -20,12 +20,12 @@ use Rattle.rule_core.specs.declared.info.Class.TheVariants.{Sub}
 use Rattle.rule_core.specs.declared.reason.Reason.TheVariants.{BadValue, DeadReference}
 use Rattle.rule_core.specs.Findings.{met, failed, verdict_of}
 use Rattle.rule_sights.specs.Nodes.{if_row}
-use Rattle.keys.specs.Laws.{words_find}
-use Rattle.keys.proofs.Looking.{words_look}
+use Rattle.page_keys.specs.Laws.{words_find}
+use Rattle.page_keys.proofs.Looking.{words_look}
 use Rattle.rule_core.specs.Reach.{class_keys}
 use Rattle.rule_core.proofs.Targets.{IsKept}
-use Rattle.law_forms.specs.Telling.{Tells}
-use Rattle.law_forms.proofs.Told.{sight_told}
+use Rattle.rule_sights.specs.Telling.{Tells}
+use Rattle.rule_sights.proofs.Told.{sight_told}
 use Rattle.rules_aria.specs.AriaLines.{aria_lines}
 use Rattle.rules_aria.specs.AriaValue.{filled_attr, is_bad, is_dead, has_filled, value_verdict, aria_value_is_valid}
 use Rattle.rules_aria.proofs.AttributesTold.{IsValue, aria_values}

@@ -25,9 +25,9 @@ use Rattle.acc_tree.proofs.Finding.{rows_seen}
 use Rattle.acc_tree.proofs.Sighting.{sight_is_spot}
 use Rattle.acc_name.specs.Names.{name_of}
 use Rattle.rule_core.specs.Brief.{brief}
-use Rattle.keys.specs.Standing.{Stand}
-use Rattle.keys.proofs.Pages.{page_seen}
-use Rattle.keys.proofs.Stands.{all_stand}
+use Rattle.page_keys.specs.Standing.{Stand}
+use Rattle.page_keys.proofs.Pages.{page_seen}
+use Rattle.page_keys.proofs.Stands.{all_stand}
 use Rattle.rules_bypass.specs.declared.bypass.Bypass.{Bypass}
 use Rattle.rules_bypass.specs.declared.bypass.Bypass.TheVariants as bypass
 use Rattle.rules_bypass.specs.Bypass.{collapses, heading_line, is_button, is_heading, is_link, is_mark, is_summary, landmark_line, leads_inside, line_at, line_in, lines, may_count, one, row_lines, skip_line, with_name}

@@ -5,11 +5,11 @@ use Rattle.acc_tree.specs.Seen.{seen}
 use Rattle.rule_core.specs.declared.info.Class.TheVariants.{Whole}
 use Rattle.rule_core.specs.declared.verdict.Verdict.{Verdict}
 use Rattle.rule_sights.specs.Pages.{said_of_root}
-use Rattle.keys.specs.Laws.{page_at}
+use Rattle.page_keys.specs.Laws.{page_at}
 use Rattle.rule_core.specs.Local.{IsLocal}
 use Rattle.rule_core.proofs.Targets.{IsKept}
-use Rattle.law_forms.proofs.Told.{whole_told}
-use Rattle.law_forms.proofs.Resting.{kept_at_root, by_applicability}
+use Rattle.rule_sights.proofs.Told.{whole_told}
+use Rattle.rule_sights.proofs.Resting.{kept_at_root, by_applicability}
 use Rattle.rules_bypass.specs.Bypass.{trees_verdict, bypassed_by, has_heading, has_heading_info, has_landmark, has_landmark_info, has_skip_link, has_skip_link_info, has_collapse, has_collapse_info}
 
 -- what is said, at its root, of all that is seen of a page

@@ -1,5 +1,5 @@
-//! The rules on by what a repeated block can be bypassed, each a published ACT rule restated: a heading, a landmark,
-//! a skip link, or that it collapses. One file a rule. Start with `HasLandmark`.
+//! The rules on ways past repeated content, each a published ACT rule restated: a heading, a landmark, a skip link, or
+//! content that collapses. One file a rule. Start with `HasLandmark`.
 #![tactic(auto)]
 
 mod bypass;

@@ -18,10 +18,10 @@ use Rattle.rule_core.specs.declared.verdict.Verdict.{Verdict}
 use Rattle.rule_sights.specs.Nodes.{if_row, if_role}
 use Rattle.rule_sights.specs.Targets.{JudgesRows}
 use Rattle.rules_names.specs.Named.{of_target}
-use Rattle.keys.specs.Same.{all_same}
-use Rattle.keys.specs.Classes.{sub_keys}
-use Rattle.keys.proofs.Again.{looks}
-use Rattle.keys.proofs.Classes.{sub_sight}
+use Rattle.page_keys.specs.Same.{all_same}
+use Rattle.page_keys.specs.Classes.{sub_keys}
+use Rattle.page_keys.proofs.Again.{looks}
+use Rattle.page_keys.proofs.Classes.{sub_sight}
 use Rattle.rule_core.specs.Reach.{Says, class_keys}
 use Rattle.rule_core.specs.Local.{IsLocal}
 use Rattle.rule_core.proofs.Targets.{IsKept, by_classes, by_target}

@@ -10,8 +10,8 @@ use Rattle.acc_tree.specs.declared.attributes.Attribute.TheVariants as attribute
 use Rattle.acc_tree.specs.Attributes.{attribute_name}
 use Rattle.acc_tree.specs.Seen.{attr, is_keyword}
 use Rattle.rule_core.specs.declared.verdict.Verdict.{Verdict}
-use Rattle.keys.specs.Keys.{Own}
-use Rattle.keys.specs.Classes.{is_meta}
+use Rattle.page_keys.specs.Keys.{Own}
+use Rattle.page_keys.specs.Classes.{is_meta}
 use Rattle.rules_page.specs.Refresh.{seconds, is_number, refresh_time, time_verdict}
 
 -- of a `meta`, which elements are metas

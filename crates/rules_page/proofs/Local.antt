@@ -5,11 +5,11 @@ use Rattle.acc_tree.specs.Seen.{seen, attr, has}
 use Rattle.acc_tree.specs.Sights.{sight_of}
 use Rattle.rule_core.specs.declared.info.Class.TheVariants.{SelfOnly, Sub, Title, Metas}
 use Rattle.rule_sights.specs.Nodes.{if_row}
-use Rattle.keys.specs.Laws.{root_titles}
-use Rattle.keys.proofs.Pages.{page_seen}
+use Rattle.page_keys.specs.Laws.{root_titles}
+use Rattle.page_keys.proofs.Pages.{page_seen}
 use Rattle.rule_core.specs.Local.{IsLocal}
-use Rattle.law_forms.proofs.Told.{sight_told, titles_told}
-use Rattle.law_forms.proofs.Resting.{kept, kept_as, kept_alone, kept_of_root, kept_at_root, by_applicability, by_rows}
+use Rattle.rule_sights.proofs.Told.{sight_told, titles_told}
+use Rattle.rule_sights.proofs.Resting.{kept, kept_as, kept_alone, kept_of_root, kept_at_root, by_applicability, by_rows}
 use Rattle.rules_page.specs.PageTitle.{page_title, title_verdict, page_has_title, page_has_title_target, page_has_title_info}
 use Rattle.rules_page.specs.TitleDescriptive.{asks_a_person, title_is_descriptive, title_is_descriptive_info}
 use Rattle.rules_page.specs.Language.{lang_verdict, page_has_lang, page_has_lang_info}

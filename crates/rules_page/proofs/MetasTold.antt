@@ -14,20 +14,20 @@ use Rattle.acc_tree.specs.Seen.{seen, attr, is_word_at}
 use Rattle.acc_tree.specs.Sights.{Sight, sight_of}
 use Rattle.rule_core.specs.declared.info.Class.TheVariants.{Metas}
 use Rattle.rule_core.specs.declared.verdict.Verdict.{Verdict}
-use Rattle.keys.specs.Keys.{Own, own, own_at, tagged_key}
-use Rattle.keys.specs.Same.{same, all_same}
-use Rattle.keys.specs.Nodes.{self_keys}
-use Rattle.keys.specs.Classes.{is_meta, metas, metas_keys}
-use Rattle.keys.specs.Laws.{LooksAt, itself, alone, meta_owns}
-use Rattle.keys.specs.Standing.{spot_with, Stand, IsPage}
-use Rattle.keys.proofs.Tests.{agree}
-use Rattle.keys.proofs.Agreeing.{parts, spot_sight}
-use Rattle.keys.proofs.Again.{said_same}
-use Rattle.keys.proofs.Pages.{page_seen}
-use Rattle.keys.proofs.Stands.{all_stand}
+use Rattle.page_keys.specs.Keys.{Own, own, own_at, tagged_key}
+use Rattle.page_keys.specs.Same.{same, all_same}
+use Rattle.page_keys.specs.Nodes.{self_keys}
+use Rattle.page_keys.specs.Classes.{is_meta, metas, metas_keys}
+use Rattle.page_keys.specs.Laws.{LooksAt, itself, alone, meta_owns}
+use Rattle.page_keys.specs.Standing.{spot_with, Stand, IsPage}
+use Rattle.page_keys.proofs.Tests.{agree}
+use Rattle.page_keys.proofs.Agreeing.{parts, spot_sight}
+use Rattle.page_keys.proofs.Again.{said_same}
+use Rattle.page_keys.proofs.Pages.{page_seen}
+use Rattle.page_keys.proofs.Stands.{all_stand}
 use Rattle.rule_core.specs.Reach.{class_keys}
-use Rattle.law_forms.specs.Telling.{Tells}
-use Rattle.law_forms.proofs.Told.{alone_told, metas_told, both_told}
+use Rattle.rule_sights.specs.Telling.{Tells}
+use Rattle.rule_sights.proofs.Told.{alone_told, metas_told, both_told}
 use Rattle.rules_page.specs.Refresh.{refreshes, first_refresh, is_number, refresh_time, refresh_verdict, seconds, time_verdict}
 use Rattle.rules_page.proofs.FirstMeta.{metas_at, time_of, refreshes_by, first_of, said_of_first}
 

@@ -9,11 +9,11 @@ use Rattle.snap_tree.specs.Lookups.{tagged}
 use Rattle.snap_tree.specs.Rows.{is_html}
 use Rattle.snap_tree.specs.Trees.{Trees, empty, tree, rows_of}
 use Rattle.texts.specs.Words.{tidy}
-use Rattle.keys.specs.Classes.{is_root}
-use Rattle.keys.specs.Laws.{inner, subtree, root_titles}
-use Rattle.keys.specs.Standing.{spot_with, Stand, IsPage}
-use Rattle.keys.proofs.Agreeing.{spot_sight}
-use Rattle.keys.proofs.Stands.{all_stand}
+use Rattle.page_keys.specs.Classes.{is_root}
+use Rattle.page_keys.specs.Laws.{inner, subtree, root_titles}
+use Rattle.page_keys.specs.Standing.{spot_with, Stand, IsPage}
+use Rattle.page_keys.proofs.Agreeing.{spot_sight}
+use Rattle.page_keys.proofs.Stands.{all_stand}
 use Rattle.rules_page.specs.PageTitle.{first_title, texts, page_title}
 use Rattle.rules_page.proofs.TitleAmong.{first_below, title_among}
 

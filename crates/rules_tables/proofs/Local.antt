@@ -12,12 +12,12 @@ use Rattle.acc_tree.specs.Sights.{Sight, sight_of}
 use Rattle.rule_core.specs.declared.info.Class.TheVariants.{Table}
 use Rattle.rule_core.specs.declared.verdict.Verdict.{Verdict}
 use Rattle.rule_sights.specs.Nodes.{if_row}
-use Rattle.keys.specs.Classes.{table_in}
-use Rattle.keys.specs.Laws.{itself, alone, table_sight}
+use Rattle.page_keys.specs.Classes.{table_in}
+use Rattle.page_keys.specs.Laws.{itself, alone, table_sight}
 use Rattle.rule_core.specs.Local.{IsLocal}
 use Rattle.rule_core.proofs.Targets.{IsKept}
-use Rattle.law_forms.proofs.Told.{alone_told, table_told, both_told}
-use Rattle.law_forms.proofs.Resting.{kept, kept_as, by_rows}
+use Rattle.rule_sights.proofs.Told.{alone_told, table_told, both_told}
+use Rattle.rule_sights.proofs.Resting.{kept, kept_as, by_rows}
 use Rattle.rules_tables.specs.HeaderHasCells.{header_verdict, header_has_cells, header_has_cells_info}
 use Rattle.rules_tables.specs.HeadersReferToCells.{headers_verdict, headers_refer_to_cells, headers_refer_to_cells_info}
 use Rattle.rules_tables.specs.Tables.{below, below_table, said_in_table}

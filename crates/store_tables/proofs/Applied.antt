@@ -8,7 +8,7 @@ use Rattle.keep_core.specs.declared.change.Change.TheVariants.{PutSite, PutPages
 use Rattle.keep_core.specs.Fits.{Fits}
 use Rattle.keep_core.specs.Tables.{Tables, site_name}
 use Rattle.keep_core.specs.Changes.{changed, without_page}
-use Rattle.store_texts.specs.Stored.{Stored, sites_in}
+use Rattle.store_statements.specs.Stored.{Stored, sites_in}
 use Rattle.store_tables.specs.Reading.{read_found}
 use Rattle.store_tables.specs.Told.{of_site, read_site, is_site, tables_in}
 use Rattle.store_tables.specs.Batches.{Applies}

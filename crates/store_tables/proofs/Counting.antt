@@ -16,8 +16,8 @@ use Rattle.keep_core.specs.declared.tables.KeptSite.{KeptSite}
 use Rattle.keep_core.specs.declared.change.Change.TheVariants.{PutPages}
 use Rattle.keep_core.specs.Tables.{Tables, site_name, page_name, judgements_in}
 use Rattle.keep_core.specs.Changes.{changed, put_over}
-use Rattle.store_texts.specs.Stored.{Stored, sites_in, site_at, members_at}
-use Rattle.store_texts.specs.Changes.{PutsSite}
+use Rattle.store_statements.specs.Stored.{Stored, sites_in, site_at, members_at}
+use Rattle.store_statements.specs.Changes.{PutsSite}
 use Rattle.store_tables.specs.Reading.{read_found}
 use Rattle.store_tables.specs.Rows.{site_from}
 use Rattle.store_tables.specs.Told.{OfSite, of_site, read_site, is_site, tables_in, site_shown}

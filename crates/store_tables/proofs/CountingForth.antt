@@ -16,8 +16,8 @@ use Rattle.keep_core.specs.Fits.{FitsPage, FitsPages}
 use Rattle.keep_core.specs.Names.{is_name}
 use Rattle.keep_core.specs.Tables.{Tables, site_name}
 use Rattle.keep_core.specs.Changes.{changed}
-use Rattle.store_texts.specs.Stored.{Stored, sites_in}
-use Rattle.store_texts.specs.Changes.{PutsSite}
+use Rattle.store_statements.specs.Stored.{Stored, sites_in}
+use Rattle.store_statements.specs.Changes.{PutsSite}
 use Rattle.store_tables.specs.Reading.{read_found}
 use Rattle.store_tables.specs.Rows.{site_from}
 use Rattle.store_tables.specs.Told.{OfSite, of_site, read_site, is_site, tables_in}

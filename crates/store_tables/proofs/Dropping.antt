@@ -15,7 +15,7 @@ use Rattle.keep_core.specs.declared.tables.KeptSite.{KeptSite}
 use Rattle.keep_core.specs.declared.change.Change.TheVariants.{DropPage}
 use Rattle.keep_core.specs.Tables.{Tables, site_name, page_name}
 use Rattle.keep_core.specs.Changes.{changed, without_page}
-use Rattle.store_texts.specs.Stored.{Stored, sites_in, page_at, judgements_at, outcomes_at}
+use Rattle.store_statements.specs.Stored.{Stored, sites_in, page_at, judgements_at, outcomes_at}
 use Rattle.store_tables.specs.Reading.{read_each, read_found}
 use Rattle.store_tables.specs.Rows.{page_from}
 use Rattle.store_tables.specs.Told.{OfSite, of_site, read_page, read_site, is_site, is_page, tables_in, page_shown, judgements_shown, outcomes_shown}

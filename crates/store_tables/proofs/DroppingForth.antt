@@ -11,7 +11,7 @@ use Rattle.keep_core.specs.declared.tables.KeptPage.{KeptPage}
 use Rattle.keep_core.specs.declared.change.Change.TheVariants.{DropPage}
 use Rattle.keep_core.specs.Tables.{Tables, page_name}
 use Rattle.keep_core.specs.Changes.{changed}
-use Rattle.store_texts.specs.Stored.{Stored}
+use Rattle.store_statements.specs.Stored.{Stored}
 use Rattle.store_tables.specs.Reading.{read_found}
 use Rattle.store_tables.specs.Told.{OfSite, of_site, read_page, is_site, is_page, tables_in}
 use Rattle.store_tables.specs.Batches.{DropsWhole}

@@ -8,8 +8,8 @@ use Rattle.sql_rows.specs.Tables.{name_at}
 use Rattle.sql_rows.specs.Changes.{Changes}
 use Rattle.sql_rows.proofs.Groups.{other_group, stays}
 use Rattle.keep_core.specs.declared.tables.KeptSite.{KeptSite}
-use Rattle.store_texts.specs.Stored.{Stored, sites_in, judgements_at, outcomes_at}
-use Rattle.store_texts.specs.Changes.{ChangesSites, ChangesMembers, ChangesPages, ChangesJudgements, ChangesOutcomes}
+use Rattle.store_statements.specs.Stored.{Stored, sites_in, judgements_at, outcomes_at}
+use Rattle.store_statements.specs.Changes.{ChangesSites, ChangesMembers, ChangesPages, ChangesJudgements, ChangesOutcomes}
 use Rattle.store_tables.specs.Reading.{read_found}
 use Rattle.store_tables.specs.Told.{OfSite, of_site, read_site, is_page}
 use Rattle.store_tables.proofs.Groups.{not_led_by_site}

@@ -8,7 +8,7 @@ use Rattle.sql_rows.proofs.Canon.{same_or_not, same_rows}
 use Rattle.sql_rows.proofs.Sorting.{all_had}
 use Rattle.keep_core.specs.declared.tables.KeptSite.{KeptSite}
 use Rattle.keep_core.specs.Tables.{Tables, site_name}
-use Rattle.store_texts.specs.Stored.{Stored, sites_in}
+use Rattle.store_statements.specs.Stored.{Stored, sites_in}
 use Rattle.store_tables.specs.Reading.{read_each, read_found}
 use Rattle.store_tables.specs.Told.{tables_in}
 use Rattle.store_tables.proofs.Steps.{some_same, found_reads}

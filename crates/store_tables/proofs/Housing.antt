@@ -10,7 +10,7 @@ use Rattle.sql_rows.specs.InOrder.{in_order}
 use Rattle.sql_rows.specs.Tables.{name_at, same_name, leads, name_in, rows_of}
 use Rattle.sql_rows.proofs.Canon.{name_is, is_in_order}
 use Rattle.keep_core.specs.Tables.{Tables}
-use Rattle.store_texts.specs.Stored.{Stored, sites_in, pages_of}
+use Rattle.store_statements.specs.Stored.{Stored, sites_in, pages_of}
 use Rattle.store_tables.specs.Reading.{read_each}
 use Rattle.store_tables.specs.Told.{of_site, read_site, is_site, is_page, has_site, has_page, are_housed, tables_in}
 use Rattle.store_tables.proofs.Steps.{none_some}

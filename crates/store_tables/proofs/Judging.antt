@@ -14,7 +14,7 @@ use Rattle.keep_core.specs.declared.tables.KeptPage.{KeptPage}
 use Rattle.keep_core.specs.declared.change.Change.TheVariants.{AddJudgement}
 use Rattle.keep_core.specs.Tables.{Tables, page_name}
 use Rattle.keep_core.specs.Changes.{with_judgement, changed}
-use Rattle.store_texts.specs.Stored.{Stored, judgements_of, judgements_at, outcomes_at}
+use Rattle.store_statements.specs.Stored.{Stored, judgements_of, judgements_at, outcomes_at}
 use Rattle.store_tables.specs.Reading.{read_counted, read_found}
 use Rattle.store_tables.specs.Rows.{judgement_from, outcome_from}
 use Rattle.store_tables.specs.Told.{OfSite, of_site, read_page, tables_in, judgements_shown, outcomes_shown}

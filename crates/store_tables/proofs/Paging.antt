@@ -10,7 +10,7 @@ use Rattle.sql_rows.proofs.Canon.{same_or_not}
 use Rattle.keep_core.specs.declared.tables.KeptPage.{KeptPage}
 use Rattle.keep_core.specs.declared.tables.KeptSite.{KeptSite}
 use Rattle.keep_core.specs.Tables.{Tables, site_name, page_name}
-use Rattle.store_texts.specs.Stored.{Stored, sites_in, members_at, pages_of, judgements_at, outcomes_at}
+use Rattle.store_statements.specs.Stored.{Stored, sites_in, members_at, pages_of, judgements_at, outcomes_at}
 use Rattle.store_tables.specs.Reading.{read_each, read_found}
 use Rattle.store_tables.specs.Rows.{site_from}
 use Rattle.store_tables.specs.Told.{OfSite, of_site, read_page, read_site, is_site, is_page, tables_in, judgements_shown, outcomes_shown}

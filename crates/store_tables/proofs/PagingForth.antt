@@ -7,7 +7,7 @@ use Rattle.sql_rows.specs.Tables.{name_at}
 use Rattle.keep_core.specs.declared.tables.KeptPage.{KeptPage}
 use Rattle.keep_core.specs.declared.tables.KeptSite.{KeptSite}
 use Rattle.keep_core.specs.Tables.{Tables, site_name, page_name}
-use Rattle.store_texts.specs.Stored.{Stored, sites_in}
+use Rattle.store_statements.specs.Stored.{Stored, sites_in}
 use Rattle.store_tables.specs.Reading.{read_each, read_found}
 use Rattle.store_tables.specs.Rows.{site_from}
 use Rattle.store_tables.specs.Told.{OfSite, of_site, read_page, read_site, is_site, tables_in}

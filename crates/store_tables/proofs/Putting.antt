@@ -17,7 +17,7 @@ use Rattle.keep_core.specs.declared.page.PagePut.{PagePut}
 use Rattle.keep_core.specs.declared.tables.KeptPage.{KeptPage}
 use Rattle.keep_core.specs.Tables.{Tables, site_name, page_name, judgements_in}
 use Rattle.keep_core.specs.Changes.{put_over}
-use Rattle.store_texts.specs.Stored.{Stored, page_at, judgements_at, outcomes_at}
+use Rattle.store_statements.specs.Stored.{Stored, page_at, judgements_at, outcomes_at}
 use Rattle.store_tables.specs.Reading.{read_counted, read_found}
 use Rattle.store_tables.specs.Rows.{page_from, outcome_from}
 use Rattle.store_tables.specs.Told.{OfSite, of_site, read_page, is_site, is_page, tables_in, page_shown, judgements_shown, outcomes_shown}

@@ -11,7 +11,7 @@ use Rattle.keep_core.specs.declared.page.PagePut.{PagePut}
 use Rattle.keep_core.specs.declared.tables.KeptPage.{KeptPage}
 use Rattle.keep_core.specs.Fits.{FitsPage}
 use Rattle.keep_core.specs.Tables.{Tables, site_name, judgements_in}
-use Rattle.store_texts.specs.Stored.{Stored, judgements_at}
+use Rattle.store_statements.specs.Stored.{Stored, judgements_at}
 use Rattle.store_tables.specs.Reading.{read_found}
 use Rattle.store_tables.specs.Told.{OfSite, of_site, read_page, is_site, tables_in, judgements_shown, outcomes_shown}
 use Rattle.store_tables.specs.Batches.{page_cells, outcome_rows, PutsOne, ReadsPage}

@@ -11,9 +11,9 @@ use Rattle.rule_core.specs.declared.verdict.Auto.TheVariants.{Passed, Failed, Ca
 use Rattle.rule_core.specs.Words.{word_of}
 use Rattle.rule_core.proofs.WordLaws.{known}
 use Rattle.judge_core.specs.declared.outcomes.OutRow.{OutRow}
-use Rattle.store_texts.specs.Stored.{stored, outcomes_of, outcomes_at}
-use Rattle.store_texts.specs.Changes.{IsStore}
-use Rattle.store_texts.proofs.OutcomeRows.{shown_outcome, named_outcome, outcomes_whole}
+use Rattle.store_statements.specs.Stored.{stored, outcomes_of, outcomes_at}
+use Rattle.store_statements.specs.Changes.{IsStore}
+use Rattle.store_statements.proofs.OutcomeRows.{shown_outcome, named_outcome, outcomes_whole}
 use Rattle.store_tables.specs.Reading.{◌>>=◌, read_counted}
 use Rattle.store_tables.specs.Cells.{number_in, place_in, text_in, auto_of, auto_in, auto_number, reason_in}
 use Rattle.store_tables.specs.Rows.{outcome_from}

@@ -9,7 +9,7 @@ use Rattle.keep_core.specs.declared.tables.KeptPage.{KeptPage}
 use Rattle.keep_core.specs.declared.tables.KeptSite.{KeptSite}
 use Rattle.keep_core.specs.Tables.{Tables, site_name, page_name, pages_in, judgements_in, outcomes_in, site_of, page_of, heads_of, judgements_of, outcomes_of}
 use Rattle.keep_core.specs.Tables as keep
-use Rattle.store_texts.specs.Stored.{Stored, sites_in, site_at, members_at, page_at, pages_of, heads_at, judgements_at, outcomes_at}
+use Rattle.store_statements.specs.Stored.{Stored, sites_in, site_at, members_at, page_at, pages_of, heads_at, judgements_at, outcomes_at}
 use Rattle.store_tables.specs.Reading.{read_each, read_found}
 use Rattle.store_tables.specs.Rows.{site_from, page_from}
 use Rattle.store_tables.specs.Told.{OfSite, of_site, read_page, read_site, tables_in, site_shown, page_shown, heads_shown, judgements_shown, outcomes_shown}

@@ -23,7 +23,7 @@ use Rattle.keep_core.specs.Fits.{FitsSite}
 use Rattle.keep_core.specs.Tables.{Tables, site_name, pages_in, kept_site}
 use Rattle.keep_core.specs.Tables as keep
 use Rattle.keep_core.specs.Changes.{changed, put_site}
-use Rattle.store_texts.specs.Stored.{Stored, sites_in, site_at, members_at, pages_of}
+use Rattle.store_statements.specs.Stored.{Stored, sites_in, site_at, members_at, pages_of}
 use Rattle.store_tables.specs.Reading.{◌>>=◌, read_each, read_found}
 use Rattle.store_tables.specs.Cells.{number_in, named, role_in, role_of, role_number}
 use Rattle.store_tables.specs.Rows.{member_from, site_from}

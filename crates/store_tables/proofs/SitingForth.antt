@@ -14,7 +14,7 @@ use Rattle.keep_core.specs.Fits.{FitsSite}
 use Rattle.keep_core.specs.Names.{is_name}
 use Rattle.keep_core.specs.Tables.{Tables, pages_in}
 use Rattle.keep_core.specs.Changes.{changed, put_site}
-use Rattle.store_texts.specs.Stored.{Stored, sites_in, pages_of}
+use Rattle.store_statements.specs.Stored.{Stored, sites_in, pages_of}
 use Rattle.store_tables.specs.Reading.{read_each, read_found}
 use Rattle.store_tables.specs.Rows.{member_from}
 use Rattle.store_tables.specs.Told.{OfSite, of_site, read_page, read_site, tables_in}

@@ -2,8 +2,8 @@
 use Rattle.std.proofs.Common.{ℕ, List, [], ◌∷◌, ap, ◌∙◌}
 use Rattle.sqlite_value.specs.Order.{Row}
 use Rattle.sql_rows.specs.Changes.{Changes}
-use Rattle.store_texts.specs.Stored.{Stored}
-use Rattle.store_texts.specs.Changes.{ChangesOutcomes}
+use Rattle.store_statements.specs.Stored.{Stored}
+use Rattle.store_statements.specs.Changes.{ChangesOutcomes}
 
 changes_through : (group : List (List ℕ)) (f g : List Row → List Row) (a b c : List Row) → Changes group f a b → Changes group g b c → Changes group (λ rows. g (f rows)) a c
 changes_through group f g a b c first second = record { there = second.there ∙ ap g first.there; elsewhere = second.elsewhere ∙ first.elsewhere }

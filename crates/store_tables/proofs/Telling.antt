@@ -9,7 +9,7 @@ use Rattle.sql_rows.specs.Tables.{name_at}
 use Rattle.sql_rows.proofs.Canon.{same_or_not}
 use Rattle.keep_core.specs.declared.tables.KeptSite.{KeptSite}
 use Rattle.keep_core.specs.Tables.{Tables, site_name}
-use Rattle.store_texts.specs.Stored.{Stored, sites_in}
+use Rattle.store_statements.specs.Stored.{Stored, sites_in}
 use Rattle.store_tables.specs.Reading.{read_each, read_found}
 use Rattle.store_tables.specs.Told.{of_site, read_site, is_site, is_page, has_site, has_page, tables_in}
 use Rattle.store_tables.proofs.Each.{reads_at, ChangesAt, turned}

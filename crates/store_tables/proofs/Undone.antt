@@ -4,7 +4,7 @@ use Rattle.sqlite_value.specs.Order.{Row}
 use Rattle.named_rows.specs.ByName.{put_row}
 use Rattle.sql_rows.specs.Tables.{name_at, rows_of}
 use Rattle.sql_rows.specs.Changes.{Changes}
-use Rattle.store_texts.specs.Stored.{Stored}
+use Rattle.store_statements.specs.Stored.{Stored}
 use Rattle.store_tables.proofs.Elsewhere.{StaysElsewhere, put_site_by}
 
 -- the group is as it was

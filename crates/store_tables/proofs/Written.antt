@@ -26,7 +26,7 @@ use Rattle.keep_core.specs.declared.page.PageHead.{PageHead}
 use Rattle.keep_core.specs.declared.page.Page.{Page}
 use Rattle.sql_rows.specs.Tables.{name_at, number_letters, letters}
 use Rattle.sql_rows.proofs.Letters.{numbers_rise}
-pub use Rattle.store_texts.proofs.OutcomeRows.{shown_outcome}
+pub use Rattle.store_statements.proofs.OutcomeRows.{shown_outcome}
 use Rattle.store_tables.specs.Reading.{◌>>=◌, read_counted}
 use Rattle.store_tables.specs.Cells.{number_in, place_in, named, auto_in, auto_number, reason_in, read_back}
 use Rattle.store_tables.specs.Rows.{head_from, page_from, judgement_from, outcome_from}

@@ -16,8 +16,8 @@ use Rattle.keep_core.specs.declared.change.Change.{Change}
 use Rattle.keep_core.specs.declared.change.Change.TheVariants.{PutSite, PutPages, DropPage, AddJudgement}
 use Rattle.sql_rows.specs.Tables.{name_at}
 use Rattle.sql_rows.specs.Changes.{Changes}
-use Rattle.store_texts.specs.Stored.{Stored, site_at, members_at, page_at, heads_at, judgements_at, outcomes_at}
-use Rattle.store_texts.specs.Changes.{PutsSite}
+use Rattle.store_statements.specs.Stored.{Stored, site_at, members_at, page_at, heads_at, judgements_at, outcomes_at}
+use Rattle.store_statements.specs.Changes.{PutsSite}
 use Rattle.store_tables.specs.Cells.{role_number, auto_number}
 use Rattle.store_tables.specs.Told.{is_site, is_page, site_shown, page_shown, judgements_shown, outcomes_shown}
 

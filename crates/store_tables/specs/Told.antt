@@ -13,7 +13,7 @@ use Rattle.keep_core.specs.declared.tables.KeptPage.{KeptPage}
 use Rattle.keep_core.specs.declared.tables.KeptSite.{KeptSite}
 use Rattle.keep_core.specs.Tables.{Tables}
 use Rattle.sql_rows.specs.Tables.{name_at}
-use Rattle.store_texts.specs.Stored.{Stored, sites_in, members_at, pages_of, judgements_at, outcomes_at}
+use Rattle.store_statements.specs.Stored.{Stored, sites_in, members_at, pages_of, judgements_at, outcomes_at}
 use Rattle.store_tables.specs.Reading.{◌>>=◌, read_each, read_counted}
 use Rattle.store_tables.specs.Cells.{number_in}
 use Rattle.store_tables.specs.Rows.{site_from, head_from, page_from, judgement_from, outcome_from}

@@ -3,7 +3,7 @@ ghost use Rattle.keep_core.specs.declared.change.Change.{Change};
 ghost use Rattle.keep_core.specs.Fits.{Fits};
 ghost use Rattle.keep_core.specs.Changes.{changed};
 ghost use Rattle.keep_core.specs.Tables.{Tables, site_of, page_of, heads_of, judgements_of, outcomes_of};
-ghost use Rattle.store_texts.specs.Stored.{Stored, site_at, members_at, page_at, heads_at, judgements_at, outcomes_at};
+ghost use Rattle.store_statements.specs.Stored.{Stored, site_at, members_at, page_at, heads_at, judgements_at, outcomes_at};
 ghost use Rattle.store_tables.specs.Batches.{Applies};
 ghost use Rattle.store_tables.specs.Numbers.{IsNumbered};
 ghost use Rattle.store_tables.specs.Told.{tables_in, site_shown, page_shown, heads_shown, judgements_shown, outcomes_shown};

@@ -1,7 +1,7 @@
 use crate::samples::{Node, lines, page, work};
+use audit::{after_judgement, audit_page, audit_pages};
 use fixture_rules::{Judged, Marks, judgements};
 use judge_core::infos_of;
-use reaudit::{after_judgement, audit_page, audit_pages};
 use rule_core::Auto::{CantTell, Failed, Passed};
 use rule_core::RuleBook;
 use std::test::Fail;

@@ -1,8 +1,8 @@
+use audit::PageWork;
 use fixture_pages::Node::Html;
 use fixture_pages::{Attrs, built, row};
 use fixture_rules::{Judged, judgements};
 use judge_core::Outcomes;
-use reaudit::PageWork;
 use snap_tree::Tree;
 use std::alloc::Global;
 use std::test::Fail;

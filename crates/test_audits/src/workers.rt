@@ -1,8 +1,8 @@
 //! Two workers are at work at once: each finds the flag that the other sets. None is made that has no page.
 
 use crate::samples::{Node, work};
+use audit::{audit_pages, busy};
 use fixture_books::meeting_books;
-use reaudit::{audit_pages, busy};
 use std::test::Fail;
 
 // A page of one node.

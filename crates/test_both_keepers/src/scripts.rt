@@ -4,7 +4,7 @@ use crate::asking::{
     CONFLICT, CREATED, FORBIDDEN, KEEPER_FAULT, NOT_FOUND, OK, list_of, memory_failing,
     must_keep_alike, reply_alike,
 };
-use failing_keeper::FailingKeeper;
+use fixture_failing_keeper::FailingKeeper;
 use fixture_requests::{HOME, request};
 use fixture_stores::ready_keeper;
 use keep_core::{Keeper, MemoryKeeper};

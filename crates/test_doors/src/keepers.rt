@@ -1,4 +1,4 @@
-use failing_keeper::FailingKeeper;
+use fixture_failing_keeper::FailingKeeper;
 use keep_core::{Keeper, MemoryKeeper};
 use snap_tree::{List, Text};
 use std::alloc::Global;

@@ -4,7 +4,7 @@ ghost use Rattle.std.specs.Prelude.{◌≡◌, None, IfOk};
 
 use crate::running::{Met, Span, bytes_of, keeper_after, link, list, sink, source, status_of};
 use crate::watched::WatchedDoor;
-use failing_keeper::FailingKeeper;
+use fixture_failing_keeper::FailingKeeper;
 use fixture_script::look;
 use links::{MemDoor, MemLink};
 use std::alloc::Global;

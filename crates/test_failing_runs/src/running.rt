@@ -6,7 +6,7 @@ ghost use Rattle.links.specs.Memory.{IsUntouchedLink};
 use crate::watched::{WatchedDoor, WatchedSink, WatchedSource};
 use desk_http::serve_link;
 use desk_run::run;
-use failing_keeper::FailingKeeper;
+use fixture_failing_keeper::FailingKeeper;
 use fixture_rules::Marks;
 use fixture_script::SCRIPT;
 use keep_core::MemoryKeeper;

@@ -2,7 +2,7 @@
 
 use crate::asking::{empty_keeper, is_told, list, served, states};
 use desk_http::LinkEnd;
-use failing_keeper::FailingKeeper;
+use fixture_failing_keeper::FailingKeeper;
 use fixture_script::{KEEPER_CALLS, Kept, SCRIPT, Step, is_state, look};
 use keep_core::MemoryKeeper;
 use std::alloc::Global;

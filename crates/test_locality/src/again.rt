@@ -1,9 +1,9 @@
 ghost use Rattle.std.specs.Prelude.{◌≡◌, IfOk};
 
-use engine::reaudit;
+use audit::audit_page;
 use fixture_pages::page_in;
 use judge_core::{Judgement, OutRow};
-use reaudit::audit_page;
+use reaudit::reaudit;
 use rule_book::Thirty;
 use rule_core::{Auto, RuleBook};
 use snap_tree::{Text, Tree};
@@ -51,6 +51,6 @@ pub(crate) fn audited_again(alloc: Global, old: &Tree, new: &Tree) -> Result<(u6
     let js = judged(alloc, before.rows.as_slice())?;
     let anew = audit_page(alloc, &mut full, new, js.as_slice())?;
     let mut book = Thirty::new();
-    let again = reaudit(alloc, &mut book, old, new, &before, js.as_slice())?;
+    let again = reaudit(alloc, &mut book, old, &before, new, js.as_slice())?;
     Ok((book.calls(), again == anew))
 }

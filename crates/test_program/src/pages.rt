@@ -1,6 +1,6 @@
 //! Reports of pages by the book of the thirty rules, with what people judged.
+use audit::audit_page;
 use judge_core::Judgement;
-use reaudit::audit_page;
 use reports::text_report;
 use rule_book::{Thirty, infos};
 use rule_core::Auto::Passed;

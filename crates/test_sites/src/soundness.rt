@@ -1,10 +1,10 @@
 //! Whether what is kept of a site is sound, found by looking at it anew.
 
+use audit::audit_page;
 use fixture_rules::Marks;
 use judge_core::{Judgement, Outcomes};
 use keep_core::{Keeper, Member, MemberRole, PageHead, Site, is_name};
 use named_rows::Named;
-use reaudit::audit_page;
 use snap_tree::{OutOfMemory, Text, Tree, tree_fault};
 use std::alloc::Global;
 use std::test::Fail;

@@ -3,7 +3,7 @@ use sqlite::{Alter, Connection, Error, FileStore, Files, Options, Row, Transacti
 use sqlite_disk::Memory;
 use std::alloc::Global;
 use std::test::Fail;
-use store_texts::{
+use store_statements::{
     JudgementRow, OutcomeRow, add_edition, add_judgement, add_member, drop_judgements,
     drop_members, drop_outcomes, drop_page, edition_rows, heads, make_tables, page_judgements,
     page_outcomes, page_row, put_outcome, put_page, put_site, site_members, site_row,

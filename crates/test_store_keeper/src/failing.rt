@@ -4,7 +4,7 @@ ghost use Rattle.std.specs.Prelude.{IfOk};
 ghost use Rattle.keep_core.specs.Fits.{Fits};
 
 use crate::keeping::go;
-use failing_keeper::FailingKeeper;
+use fixture_failing_keeper::FailingKeeper;
 use fixture_sites::Ask::Get;
 use fixture_sites::{Case, KEEPER_FAULT, Unasked, View, named};
 use fixture_stores::{MemStore, ready_keeper, waiting_keeper};

@@ -1,7 +1,7 @@
 use Rattle.std.proofs.Common.{arith, ap₂, subst, ◌∙◌}
 use Rattle.sqlite.specs.Held.{state}
 use Rattle.sqlite.specs.State.{HasCleanDisk}
-use Rattle.store_texts.specs.Changes.{Makes}
+use Rattle.store_statements.specs.Changes.{Makes}
 use Rattle.keep_sql.specs.Reading.{outcomes_in}
 use Rattle.keep_sql.proofs.Ready.{ready_same}
 use Rattle.keep_sql.proofs.Wholes.{onward, of_ok}

@@ -2,7 +2,7 @@ use Rattle.std.proofs.Common.{arith, refl, sym, ap, ◌∙◌}
 use Rattle.sqlite.specs.Effect.{Database}
 use Rattle.sqlite.specs.Held.{state}
 use Rattle.sqlite.specs.State.{HasCleanDisk}
-use Rattle.store_texts.specs.Stored.{judgements_at, outcomes_at, stored}
+use Rattle.store_statements.specs.Stored.{judgements_at, outcomes_at, stored}
 use Rattle.store_tables.specs.Told.{judgements_shown, outcomes_shown}
 use Rattle.keep_sql.specs.Reading.{rows_in}
 use Rattle.keep_sql.proofs.Ready.{ready_same}

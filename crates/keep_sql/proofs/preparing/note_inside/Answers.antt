@@ -2,8 +2,8 @@ use Rattle.std.proofs.Common.{arith, Some, pos, subst, ap, ◌∙◌}
 use Rattle.sqlite.specs.Effect.{Database}
 use Rattle.sqlite.specs.Held.{state}
 use Rattle.sqlite.specs.State.{HasCleanDisk}
-use Rattle.store_texts.specs.Stored.{stored}
-use Rattle.store_texts.specs.Changes.{AddsEdition}
+use Rattle.store_statements.specs.Stored.{stored}
+use Rattle.store_statements.specs.Changes.{AddsEdition}
 use Rattle.keep_sql.specs.Reading.{rows_in}
 use Rattle.keep_sql.proofs.Ready.{ready_same}
 use Rattle.keep_sql.proofs.preparing.note_inside.Goals as goal

@@ -1,7 +1,7 @@
 use Rattle.std.proofs.Common.{arith, ◌≡◌, refl, sym, ◌∙◌}
 use Rattle.sqlite.specs.Held.{state}
 use Rattle.sqlite.specs.State.{HasCleanDisk}
-use Rattle.store_texts.specs.Schema.{the_schema}
+use Rattle.store_statements.specs.Schema.{the_schema}
 use Rattle.keep_sql.proofs.PrepareLemmas.{store_of, left_of_six, prepared_store, prepared_made}
 use Rattle.keep_sql.proofs.preparing.prepare.Goals as goal
 

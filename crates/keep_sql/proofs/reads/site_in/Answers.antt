@@ -2,7 +2,7 @@ use Rattle.std.proofs.Common.{arith, ◌≡◌, Some, IfOk, ap, subst, ◌∙◌
 use Rattle.sqlite.specs.Effect.{Database}
 use Rattle.sqlite.specs.Held.{state}
 use Rattle.sqlite.specs.State.{HasCleanDisk}
-use Rattle.store_texts.specs.Stored.{stored, site_at, members_at}
+use Rattle.store_statements.specs.Stored.{stored, site_at, members_at}
 use Rattle.store_tables.specs.Told.{site_shown}
 use Rattle.keep_sql.proofs.Ready.{ready_same}
 use Rattle.keep_sql.proofs.Checking.{always, unchanged_through}

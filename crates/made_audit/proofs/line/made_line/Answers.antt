@@ -1,5 +1,5 @@
 use Rattle.std.proofs.Common.{arith, ap}
-use Rattle.reaudit.specs.Pages.{pages_judgings}
+use Rattle.audit.specs.Pages.{pages_judgings}
 use Rattle.made_audit.proofs.Spans.{line_so, all_works}
 use Rattle.made_audit.proofs.line.made_line.Goals as goal
 

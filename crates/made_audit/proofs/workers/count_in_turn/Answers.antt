@@ -1,6 +1,6 @@
 use Rattle.std.proofs.Common.{◌≡◌, ◌+◌, arith, refl, ap, ◌∙◌}
 use Rattle.std.specs.List.{sum_by}
-use Rattle.reaudit.specs.Pages.{pages_judgings}
+use Rattle.audit.specs.Pages.{pages_judgings}
 use Rattle.made_audit.specs.Line.{come_to}
 use Rattle.made_audit.proofs.Spans.{works, counted_none, counted_more, judged_more, judged_within}
 use Rattle.made_audit.proofs.workers.count_in_turn.Goals as goal

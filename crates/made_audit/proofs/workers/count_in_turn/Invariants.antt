@@ -1,6 +1,6 @@
 use Rattle.std.proofs.Common.{◌≡◌, ◌+◌, ◌<◌, ◌≤◌, length}
 use Rattle.std.specs.List.{sum_by}
-use Rattle.reaudit.specs.Pages.{pages_judgings}
+use Rattle.audit.specs.Pages.{pages_judgings}
 use Rattle.made_audit.specs.Line.{come_to, span_works}
 use Rattle.made_audit.proofs.workers.count_in_turn.Given as goal
 

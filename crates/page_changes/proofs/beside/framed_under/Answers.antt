@@ -3,9 +3,9 @@ use Rattle.std.specs.Option.{option_copied}
 use Rattle.acc_tree.specs.Frames.{frame, under, above_of}
 use Rattle.acc_tree.specs.Seen.{seen_row, seen}
 use Rattle.acc_tree.specs.Sights.{summed}
-use Rattle.keys.specs.Same.{same_frame}
-use Rattle.keys.specs.Standing.{spot_with}
-use Rattle.keys.proofs.Agreeing.{spot_sight}
+use Rattle.page_keys.specs.Same.{same_frame}
+use Rattle.page_keys.specs.Standing.{spot_with}
+use Rattle.page_keys.proofs.Agreeing.{spot_sight}
 use Rattle.page_changes.specs.Beside.{IsPair}
 use Rattle.page_changes.proofs.Twins.{frame_there}
 use Rattle.page_changes.proofs.beside.framed_under.Goals as goal

@@ -3,8 +3,8 @@ use Rattle.std.specs.Option.{option_copied}
 use Rattle.acc_tree.specs.Frames.{under, above_of}
 use Rattle.acc_tree.specs.Seen.{seen_row, seen}
 use Rattle.acc_tree.specs.Sights.{summed}
-use Rattle.keys.specs.Standing.{spot_with}
-use Rattle.keys.proofs.Agreeing.{spot_sight}
+use Rattle.page_keys.specs.Standing.{spot_with}
+use Rattle.page_keys.proofs.Agreeing.{spot_sight}
 use Rattle.page_changes.specs.Beside.{IsPair}
 use Rattle.page_changes.proofs.beside.under_old.Goals as goal
 

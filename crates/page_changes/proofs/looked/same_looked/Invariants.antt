@@ -1,7 +1,7 @@
 use Rattle.std.proofs.Common.{◌≡◌, filter, length}
 use Rattle.std.specs.Cmp.Lexicographic.{pointwise}
 use Rattle.acc_tree.specs.Attributes.{is_looked_at}
-use Rattle.keys.specs.Same.{same_attr}
+use Rattle.page_keys.specs.Same.{same_attr}
 use Rattle.page_changes.proofs.looked.same_looked.Given as goal
 
 abbrev pub invariant-loop-one : goal.invariant-loop-one

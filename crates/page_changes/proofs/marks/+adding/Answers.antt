@@ -4,7 +4,7 @@ use Rattle.std.specs.Option.{is_some, option_copied}
 use Rattle.snap_tree.specs.Trees.{empty, tree, count}
 use Rattle.acc_tree.specs.Seen.{seen_row, seen}
 use Rattle.acc_tree.specs.Frames.{above_of}
-use Rattle.keys.specs.Standing.{Stand}
+use Rattle.page_keys.specs.Standing.{Stand}
 use Rattle.page_changes.specs.Beside.{IsPair, AreBeside, ahead_of}
 use Rattle.page_changes.specs.Here.{frame_here, tree_here, marks_at, marks_here}
 use Rattle.page_changes.proofs.Stepping.{leaf, filled, regroup}

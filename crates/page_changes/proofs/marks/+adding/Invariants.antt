@@ -4,7 +4,7 @@ use Rattle.snap_tree.specs.declared.row.Row.{Row}
 use Rattle.snap_tree.specs.Trees.{count}
 use Rattle.acc_tree.specs.Frames.{above_of}
 use Rattle.acc_tree.specs.Seen.{seen}
-use Rattle.keys.specs.Classes.{table_in}
+use Rattle.page_keys.specs.Classes.{table_in}
 use Rattle.page_changes.specs.Beside.{AreBeside, ahead_of}
 use Rattle.page_changes.specs.Here.{tree_here, marks_here}
 use Rattle.page_changes.proofs.marks.+adding.Given as goal

@@ -1,9 +1,9 @@
 use Rattle.std.proofs.Common.{◌++◌, [], true, Some, None, refl, ◌∙◌, sym, ap, subst}
 use Rattle.acc_tree.specs.Frames.{nothing_above}
 use Rattle.acc_tree.specs.Seen.{seen}
-use Rattle.keys.proofs.Pages.{page_seen}
-use Rattle.keys.proofs.Stands.{all_stand}
-use Rattle.keys.specs.Standing.{Stand}
+use Rattle.page_keys.proofs.Pages.{page_seen}
+use Rattle.page_keys.proofs.Stands.{all_stand}
+use Rattle.page_keys.specs.Standing.{Stand}
 use Rattle.page_changes.specs.Beside.{AreBeside, ahead_of}
 use Rattle.page_changes.specs.Here.{marks_here, tree_here}
 use Rattle.page_changes.proofs.Passing.{marks_are, tree_is}

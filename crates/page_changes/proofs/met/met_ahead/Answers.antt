@@ -1,7 +1,7 @@
 use Rattle.std.proofs.Common.{◌≡◌, ◌∷◌, Some, sym, ◌∙◌, ap}
 use Rattle.snap_tree.specs.Spots.{spot}
 use Rattle.acc_tree.specs.Seen.{seen_row, seen}
-use Rattle.keys.specs.Standing.{spot_with}
+use Rattle.page_keys.specs.Standing.{spot_with}
 use Rattle.page_changes.specs.Beside.{AreTwins}
 use Rattle.page_changes.proofs.Twins.{own_there, kids_there}
 use Rattle.page_changes.proofs.met.met_ahead.Goals as goal

@@ -1,6 +1,6 @@
 use Rattle.std.proofs.Common.{sym, subst}
 use Rattle.acc_tree.specs.Seen.{seen}
-use Rattle.keys.specs.Standing.{Stand}
+use Rattle.page_keys.specs.Standing.{Stand}
 use Rattle.page_changes.specs.Beside.{ahead_of}
 use Rattle.page_changes.proofs.met.met_behind.Goals as goal
 

@@ -3,9 +3,9 @@ use Rattle.snap_tree.specs.Spots.{spot}
 use Rattle.acc_tree.specs.Frames.{frame, under, above_of}
 use Rattle.acc_tree.specs.Seen.{seen_row, seen}
 use Rattle.acc_tree.specs.Sights.{Sight, seen_sight}
-use Rattle.keys.specs.Same.{same_frame}
-use Rattle.keys.specs.Standing.{spot_with, Stand}
-use Rattle.keys.proofs.Stands.{stand_below}
+use Rattle.page_keys.specs.Same.{same_frame}
+use Rattle.page_keys.specs.Standing.{spot_with, Stand}
+use Rattle.page_keys.proofs.Stands.{stand_below}
 use Rattle.page_changes.specs.Beside.{AreTwins, IsPair}
 use Rattle.page_changes.proofs.Twins.{sight_spot, frame_there, own_there, kids_there}
 use Rattle.page_changes.proofs.met.met_elsewhere.Goals as goal

@@ -4,8 +4,8 @@ use Rattle.std.specs.Option.{option_eq}
 use Rattle.acc_tree.specs.Frames.{frame, above_of}
 use Rattle.acc_tree.specs.Seen.{seen_row}
 use Rattle.acc_tree.specs.Sights.{Sight}
-use Rattle.keys.specs.Keys.{own, root_numbers}
-use Rattle.keys.specs.Same.{same_node, same_frame, same_own}
+use Rattle.page_keys.specs.Keys.{own, root_numbers}
+use Rattle.page_keys.specs.Same.{same_node, same_frame, same_own}
 use Rattle.page_changes.proofs.met.unmet.Goals as goal
 
 pub returns : goal.returns

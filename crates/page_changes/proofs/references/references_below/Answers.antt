@@ -1,7 +1,7 @@
 use Rattle.std.proofs.Common.{◌++◌, [], None, refl, ◌∙◌}
 use Rattle.acc_tree.specs.Seen.{seen}
-use Rattle.keys.proofs.Pages.{page_seen}
-use Rattle.keys.proofs.Stands.{all_stand}
+use Rattle.page_keys.proofs.Pages.{page_seen}
+use Rattle.page_keys.proofs.Stands.{all_stand}
 use Rattle.page_changes.specs.References.{below_same}
 use Rattle.page_changes.proofs.Referring.{below_are}
 use Rattle.page_changes.proofs.references.references_below.Goals as goal

@@ -1,6 +1,6 @@
 use Rattle.std.proofs.Common.{◌≡◌, length}
 use Rattle.std.specs.Cmp.Lexicographic.{pointwise}
-use Rattle.keys.specs.Same.{same_node}
+use Rattle.page_keys.specs.Same.{same_node}
 use Rattle.page_changes.proofs.references.same_numbers.Given as goal
 
 abbrev pub invariant-loop-one : goal.invariant-loop-one

@@ -2,8 +2,8 @@ use Rattle.std.proofs.Common.{◌≡◌}
 use Rattle.std.specs.Cmp.Lexicographic.{pointwise}
 use Rattle.snap_tree.specs.Trees.{count}
 use Rattle.acc_tree.specs.Seen.{seen}
-use Rattle.keys.specs.Keys.{root_numbers}
-use Rattle.keys.specs.Same.{same_node}
+use Rattle.page_keys.specs.Keys.{root_numbers}
+use Rattle.page_keys.specs.Same.{same_node}
 use Rattle.page_changes.proofs.same.same_rest.Given as goal
 
 abbrev pub invariant-loop-one : goal.invariant-loop-one

@@ -1,7 +1,7 @@
 use Rattle.std.proofs.Common.{◌≡◌, map, length}
 use Rattle.acc_tree.specs.Seen.{seen}
-use Rattle.keys.specs.Keys.{own_key}
-use Rattle.keys.specs.Same.{all_same}
+use Rattle.page_keys.specs.Keys.{own_key}
+use Rattle.page_keys.specs.Same.{all_same}
 use Rattle.page_changes.proofs.tags.owns_same.Given as goal
 
 abbrev pub invariant-loop-node : goal.invariant-loop-node

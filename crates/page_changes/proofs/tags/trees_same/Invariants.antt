@@ -1,8 +1,8 @@
 use Rattle.std.proofs.Common.{◌≡◌, length}
 use Rattle.std.specs.List.{flat_map}
 use Rattle.acc_tree.specs.Seen.{seen}
-use Rattle.keys.specs.Same.{all_same}
-use Rattle.keys.specs.Nodes.{tree_keys}
+use Rattle.page_keys.specs.Same.{all_same}
+use Rattle.page_keys.specs.Nodes.{tree_keys}
 use Rattle.page_changes.proofs.tags.trees_same.Given as goal
 
 abbrev pub invariant-loop-node : goal.invariant-loop-node

@@ -1,0 +1,4 @@
+pub mod Judgings
+pub mod AgainLaws
+pub mod Shares
+pub mod Verdicts

@@ -1,6 +1,0 @@
-use Rattle.std.proofs.Common.{◌≡◌, take}
-use Rattle.engine.specs.Nodes.{live_by}
-use Rattle.engine.proofs.nodes.live_by.Given as goal
-
-abbrev pub invariant-loop-it : goal.invariant-loop-it
-invariant-loop-it l = l.live.items ≡ live_by l.marks (take l.it-index l.placed)

@@ -1,6 +1,0 @@
-pub mod Known
-pub mod ByNumber
-pub mod Before
-pub mod Costs
-pub mod Marks
-pub mod Nodes

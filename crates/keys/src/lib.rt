@@ -1,9 +1,0 @@
-//! The keys of a page: what can be asked of it that a verdict may rest on, and what is the same on two pages that
-//! agree on some of them. Start with [`laws_of_keys`].
-#![tactic(auto)]
-
-mod laws;
-
-pub use laws::{
-    laws_of_classes, laws_of_keys, laws_of_nodes, laws_of_references, laws_of_subtrees,
-};

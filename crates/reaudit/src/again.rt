@@ -1,0 +1,345 @@
+ghost use Rattle.std.specs.Prelude.{◌≡◌, ◌+◌, ◌≤◌, ◌++◌, ◌&&◌, not, true, [], List, length, map, filter, if◌then◌else◌, option_map, IfOk, OnOk};
+ghost use Rattle.std.specs.Option.{option_copied, option_to_list};
+ghost use Rattle.std.specs.List.{Contains, filter_map};
+ghost use Rattle.snap_tree.specs.Trees.{Document};
+ghost use Rattle.rule_core.specs.Pages.{node_count};
+ghost use Rattle.judge_core.specs.declared.judgement.Judgement.{Judgement};
+ghost use Rattle.judge_core.specs.Outcomes.{atomic_row, atomic_rows};
+ghost use Rattle.judged_rows.specs.Again.{again};
+ghost use Rattle.judged_rows.specs.ByNode.{IsByNode};
+ghost use Rattle.rule_core.specs.Reach.{is_affected, affected_nodes};
+ghost use Rattle.rule_core.specs.Local.{AreVersions};
+ghost use Rattle.reaudit.specs.Before.{HadRow, HadRows, KeepsRows};
+ghost use Rattle.reaudit.specs.Known.{placed_of, class_flag, has_to_judge};
+ghost use Rattle.reaudit.specs.Marks.{AreMarked};
+ghost use Rattle.reaudit.specs.Nodes.{AreKnown, AreNodes, is_settled};
+
+use crate::before::{row_before, rows_before};
+use crate::known::{Known, Placed, well};
+use crate::nodes::{Nodes, is_settled};
+use judge_core::OutRow;
+use judged_rows::{ByNode, after, head_on, row_again, row_of};
+use page_changes::Flags;
+use rule_core::{Class, RuleBook, RuleInfo, RuleNo};
+use snap_tree::{List, NodeId, OutOfMemory, Tree};
+use std::alloc::Global;
+
+// Adds the row of a rule on a node, which is judged, where there is one.
+fn add_judged<B: RuleBook>(
+    rows: &mut Vec<OutRow>,
+    alloc: Global,
+    book: &mut B,
+    tree: &Tree,
+    by_node: &ByNode<'_>,
+    rule: RuleNo,
+    node: NodeId,
+) -> Result<(), OutOfMemory>
+    ensures row { (js : List Judgement) → IsByNode js by_node.now
+        → OnOk result (rows.new.items ≡ rows.old.items ++ option_to_list (atomic_row B.book tree.now js rule node)) }
+    ensures counted { B.calls book.new ≤ B.calls book.old + 1 }
+{
+    if let Some(verdict) = book.judge(alloc, tree, rule, node)? {
+        rows.push(row_of(alloc, by_node, rule, node, verdict)?)?;
+    }
+    Ok(())
+}
+
+// Adds the row that a node had, where it had one, with its final outcome anew.
+fn add_kept(
+    rows: &mut Vec<OutRow>,
+    alloc: Global,
+    row: Option<&OutRow>,
+    by_node: &ByNode<'_>,
+) -> Result<(), OutOfMemory>
+    ensures { (js : List Judgement) → IsByNode js by_node.now
+        → OnOk result (rows.new.items ≡ rows.old.items ++ option_to_list (option_map (again js) (option_copied row.entry))) }
+{
+    if let Some(row) = row {
+        rows.push(row_again(alloc, row, by_node)?)?;
+    }
+    Ok(())
+}
+
+fn class_flag(class: Class, flags: Flags) -> bool
+    ensures { result ≡ class_flag class flags }
+{
+    match class {
+        Class::SelfOnly => flags.itself,
+        Class::Sub => flags.sub,
+        Class::Table => flags.table,
+        Class::Title => flags.title,
+        Class::Metas => flags.metas,
+        Class::Whole => flags.whole,
+    }
+}
+
+fn has_to_judge(info: &RuleInfo, known: Option<Known>, target: bool) -> bool
+    ensures { result ≡ has_to_judge info.now known target }
+{
+    match known {
+        Some(known) => {
+            !(class_flag(info.applies, known.flags)
+                && (!target || class_flag(info.expects, known.flags)))
+        }
+        None => true,
+    }
+}
+
+// Adds the row of a rule on a node of the new page, where there is one: judged where the edit reaches it, else the one
+// that it had.
+fn add_either<B: RuleBook>(
+    rows: &mut Vec<OutRow>,
+    alloc: Global,
+    book: &mut B,
+    info: &RuleInfo,
+    new: &Tree,
+    row: Option<&OutRow>,
+    by_node: &ByNode<'_>,
+    placed: Placed,
+) -> Result<(), OutOfMemory>
+    ensures row { (old : Document) (earlier js : List Judgement) → Contains B.book.infos info.now → AreVersions old new.now
+        → placed ≡ placed_of old new.now placed.node → HadRow B.book old earlier info.now.no placed (option_copied row.entry)
+        → IsByNode js by_node.now
+        → OnOk result (rows.new.items ≡ rows.old.items ++ option_to_list (atomic_row B.book new.now js info.now.no placed.node)) }
+    ensures counted { (old : Document) (js : List Judgement) → placed ≡ placed_of old new.now placed.node
+        → HadRow B.book old js info.now.no placed (option_copied row.entry)
+        → B.calls book.new ≤ B.calls book.old + (if is_affected info.now (B.book.means info.now.no) old new.now placed.node then 1 else 0) }
+    ensures within { B.calls book.new ≤ B.calls book.old + 1 }
+{
+    if has_to_judge(info, placed.known, row.is_some()) {
+        add_judged(rows, alloc, book, new, by_node, info.no, placed.node)
+    } else {
+        add_kept(rows, alloc, row, by_node)
+    }
+}
+
+// Whether a node had no row, and the edit doesn't reach it: so it has none. Most nodes are so.
+fn is_quiet(known: Option<Known>, had: bool) -> bool
+    ensures { result ≡ (is_settled known && not had) }
+{
+    is_settled(known) & !had
+}
+
+// Adds the row of a rule on a node of the new page, where there is one.
+fn add_found<B: RuleBook>(
+    rows: &mut Vec<OutRow>,
+    alloc: Global,
+    book: &mut B,
+    info: &RuleInfo,
+    new: &Tree,
+    row: Option<&OutRow>,
+    by_node: &ByNode<'_>,
+    placed: Placed,
+) -> Result<(), OutOfMemory>
+    ensures row { (old : Document) (earlier js : List Judgement) → Contains B.book.infos info.now → AreVersions old new.now
+        → placed ≡ placed_of old new.now placed.node → HadRow B.book old earlier info.now.no placed (option_copied row.entry)
+        → IsByNode js by_node.now
+        → OnOk result (rows.new.items ≡ rows.old.items ++ option_to_list (atomic_row B.book new.now js info.now.no placed.node)) }
+    ensures counted { (old : Document) (js : List Judgement) → placed ≡ placed_of old new.now placed.node
+        → HadRow B.book old js info.now.no placed (option_copied row.entry)
+        → B.calls book.new ≤ B.calls book.old + (if is_affected info.now (B.book.means info.now.no) old new.now placed.node then 1 else 0) }
+    ensures within { B.calls book.new ≤ B.calls book.old + 1 }
+{
+    if is_quiet(placed.known, row.is_some()) {
+        return Ok(());
+    }
+    add_either(rows, alloc, book, info, new, row, by_node, placed)
+}
+
+// The same, by the rows of all nodes of the old page.
+fn add_row<B: RuleBook>(
+    rows: &mut Vec<OutRow>,
+    alloc: Global,
+    book: &mut B,
+    info: &RuleInfo,
+    new: &Tree,
+    before: &[Option<&OutRow>],
+    by_node: &ByNode<'_>,
+    placed: Placed,
+) -> Result<(), OutOfMemory>
+    ensures row { (old : Document) (earlier js : List Judgement) → Contains B.book.infos info.now → AreVersions old new.now
+        → placed ≡ placed_of old new.now placed.node → KeepsRows B.book old new.now earlier info.now.no (map option_copied before.now)
+        → IsByNode js by_node.now
+        → OnOk result (rows.new.items ≡ rows.old.items ++ option_to_list (atomic_row B.book new.now js info.now.no placed.node)) }
+    ensures counted { (old : Document) (js : List Judgement) → placed ≡ placed_of old new.now placed.node
+        → KeepsRows B.book old new.now js info.now.no (map option_copied before.now)
+        → B.calls book.new ≤ B.calls book.old + (if is_affected info.now (B.book.means info.now.no) old new.now placed.node then 1 else 0) }
+    ensures within { B.calls book.new ≤ B.calls book.old + 1 }
+{
+    let row = row_before(before, placed.known);
+    add_found(rows, alloc, book, info, new, row, by_node, placed)
+}
+
+// The rows of a rule on some nodes of the new page, by those that the nodes of the old one had.
+fn placed_rows<B: RuleBook>(
+    alloc: Global,
+    book: &mut B,
+    info: &RuleInfo,
+    new: &Tree,
+    before: &[Option<&OutRow>],
+    by_node: &ByNode<'_>,
+    some: &[Placed],
+) -> Result<Vec<OutRow>, OutOfMemory>
+    ensures rows { (old : Document) (earlier js : List Judgement) → Contains B.book.infos info.now → AreVersions old new.now
+        → AreKnown old new.now some.now → KeepsRows B.book old new.now earlier info.now.no (map option_copied before.now)
+        → IsByNode js by_node.now
+        → IfOk result (λ rows. rows.items ≡ filter_map (λ p. atomic_row B.book new.now js info.now.no p.node) some.now) }
+    ensures counted { (old : Document) (js : List Judgement) → AreKnown old new.now some.now
+        → KeepsRows B.book old new.now js info.now.no (map option_copied before.now)
+        → B.calls book.new ≤ B.calls book.old + length (filter (λ p. is_affected info.now (B.book.means info.now.no) old new.now p.node) some.now) }
+    ensures within { B.calls book.new ≤ B.calls book.old + length some.now }
+{
+    let mut rows = Vec::new(alloc);
+    for it in some {
+        add_row(&mut rows, alloc, book, info, new, before, by_node, *it)?;
+    }
+    Ok(rows)
+}
+
+// The rows of a rule on some nodes of the new page, where the rows that it had on the old one are on these alone, in their
+// order.
+fn rows_along<B: RuleBook>(
+    alloc: Global,
+    book: &mut B,
+    info: &RuleInfo,
+    new: &Tree,
+    some: &[Placed],
+    own: &[OutRow],
+    by_node: &ByNode<'_>,
+) -> Result<Vec<OutRow>, OutOfMemory>
+    ensures rows { (old : Document) (earlier js : List Judgement) → Contains B.book.infos info.now → AreVersions old new.now
+        → AreKnown old new.now some.now → HadRows B.book old earlier info.now.no some.now own.now
+        → IsByNode js by_node.now
+        → IfOk result (λ rows. rows.items ≡ filter_map (λ p. atomic_row B.book new.now js info.now.no p.node) some.now) }
+    ensures counted { (old : Document) (js : List Judgement) → AreKnown old new.now some.now
+        → HadRows B.book old js info.now.no some.now own.now
+        → B.calls book.new ≤ B.calls book.old + length (filter (λ p. is_affected info.now (B.book.means info.now.no) old new.now p.node) some.now) }
+    ensures within { B.calls book.new ≤ B.calls book.old + length some.now }
+{
+    let mut rows = Vec::new(alloc);
+    let mut left = own;
+    for it in some {
+        let row = head_on(left, it.node);
+        add_found(&mut rows, alloc, book, info, new, row, by_node, *it)?;
+        left = after(left, it.node);
+    }
+    Ok(rows)
+}
+
+// The rows of a rule that had some on the old page, which has the same nodes as the new one in the same order.
+fn rows_in_order<B: RuleBook>(
+    alloc: Global,
+    book: &mut B,
+    info: &RuleInfo,
+    old: &Tree,
+    new: &Tree,
+    nodes: &Nodes,
+    rows: &[OutRow],
+    by_node: &ByNode<'_>,
+) -> Result<Vec<OutRow>, OutOfMemory>
+    requires known { Contains B.book.infos info.now }
+    requires address { old.now.address ≡ new.now.address }
+    requires nodes { AreNodes old.now new.now nodes.now }
+    requires marked { AreMarked nodes.now.marks.items rows.now }
+    requires order { nodes.now.in_order ≡ true }
+    ensures rows { (earlier js : List Judgement) → rows.now ≡ atomic_rows B.book old.now earlier info.now.no
+        → IsByNode js by_node.now → IfOk result (λ rows. rows.items ≡ atomic_rows B.book new.now js info.now.no) }
+    ensures counted { (earlier : List Judgement) → rows.now ≡ atomic_rows B.book old.now earlier info.now.no
+        → B.calls book.new ≤ B.calls book.old + length (affected_nodes info.now (B.book.means info.now.no) old.now new.now) }
+    ensures within { B.calls book.new ≤ B.calls book.old + node_count new.now }
+{
+    well(old);
+    well(new);
+    let live = nodes.live.as_slice();
+    rows_along(alloc, book, info, new, live, rows, by_node)
+}
+
+// The rows of a rule that had some on the old page. It is asked of each live node of the new one whether it had one.
+fn rows_by_rows<B: RuleBook>(
+    alloc: Global,
+    book: &mut B,
+    info: &RuleInfo,
+    old: &Tree,
+    new: &Tree,
+    nodes: &Nodes,
+    rows: &[OutRow],
+    by_node: &ByNode<'_>,
+) -> Result<Vec<OutRow>, OutOfMemory>
+    requires known { Contains B.book.infos info.now }
+    requires address { old.now.address ≡ new.now.address }
+    requires nodes { AreNodes old.now new.now nodes.now }
+    requires marked { AreMarked nodes.now.marks.items rows.now }
+    ensures rows { (earlier js : List Judgement) → rows.now ≡ atomic_rows B.book old.now earlier info.now.no
+        → IsByNode js by_node.now → IfOk result (λ rows. rows.items ≡ atomic_rows B.book new.now js info.now.no) }
+    ensures counted { (earlier : List Judgement) → rows.now ≡ atomic_rows B.book old.now earlier info.now.no
+        → B.calls book.new ≤ B.calls book.old + length (affected_nodes info.now (B.book.means info.now.no) old.now new.now) }
+    ensures within { B.calls book.new ≤ B.calls book.old + node_count new.now }
+{
+    well(old);
+    well(new);
+    let before = rows_before(alloc, old.rows(), rows)?;
+    let live = nodes.live.as_slice();
+    placed_rows(alloc, book, info, new, before.as_slice(), by_node, live)
+}
+
+// The rows of a rule that had none on the old page. So it has none on a node that the edit doesn't reach.
+fn rows_by_none<B: RuleBook>(
+    alloc: Global,
+    book: &mut B,
+    info: &RuleInfo,
+    old: &Tree,
+    new: &Tree,
+    nodes: &Nodes,
+    by_node: &ByNode<'_>,
+) -> Result<Vec<OutRow>, OutOfMemory>
+    requires known { Contains B.book.infos info.now }
+    requires address { old.now.address ≡ new.now.address }
+    requires nodes { AreNodes old.now new.now nodes.now }
+    ensures rows { (earlier js : List Judgement) → [] ≡ atomic_rows B.book old.now earlier info.now.no
+        → IsByNode js by_node.now → IfOk result (λ rows. rows.items ≡ atomic_rows B.book new.now js info.now.no) }
+    ensures counted { (earlier : List Judgement) → [] ≡ atomic_rows B.book old.now earlier info.now.no
+        → B.calls book.new ≤ B.calls book.old + length (affected_nodes info.now (B.book.means info.now.no) old.now new.now) }
+    ensures within { B.calls book.new ≤ B.calls book.old + node_count new.now }
+{
+    well(old);
+    well(new);
+    let reached = nodes.reached.as_slice();
+    placed_rows(alloc, book, info, new, &[], by_node, reached)
+}
+
+/// The rows of an atomic rule on the new page under the judgements that the map has, by the rows that it had on the old
+/// page, under whatever judgements those are. The rule judges at most the nodes of the new page on which the edit
+/// affects it; and where the rows aren't those of the old page, never more than the nodes of the new page. Only the nodes
+/// are gone over that the edit reaches, and, where the rule had rows, those that are marked, as the nodes of these rows
+/// must be. Fails only for want of memory.
+pub fn atomic_again<B: RuleBook>(
+    alloc: Global,
+    book: &mut B,
+    info: &RuleInfo,
+    old: &Tree,
+    new: &Tree,
+    nodes: &Nodes,
+    rows: &[OutRow],
+    by_node: &ByNode<'_>,
+) -> Result<List<OutRow>, OutOfMemory>
+    requires known { Contains B.book.infos info.now }
+    requires address { old.now.address ≡ new.now.address }
+    requires nodes { AreNodes old.now new.now nodes.now }
+    requires marked { AreMarked nodes.now.marks.items rows.now }
+    ensures rows { (earlier js : List Judgement) → rows.now ≡ atomic_rows B.book old.now earlier info.now.no
+        → IsByNode js by_node.now → IfOk result (λ rows. rows ≡ atomic_rows B.book new.now js info.now.no) }
+    ensures counted { (earlier : List Judgement) → rows.now ≡ atomic_rows B.book old.now earlier info.now.no
+        → B.calls book.new ≤ B.calls book.old + length (affected_nodes info.now (B.book.means info.now.no) old.now new.now) }
+    ensures within { B.calls book.new ≤ B.calls book.old + node_count new.now }
+{
+    if rows.is_empty() {
+        let again = rows_by_none(alloc, book, info, old, new, nodes, by_node)?;
+        return Ok(List::from_vec(again));
+    }
+    if nodes.in_order {
+        let again = rows_in_order(alloc, book, info, old, new, nodes, rows, by_node)?;
+        return Ok(List::from_vec(again));
+    }
+    let again = rows_by_rows(alloc, book, info, old, new, nodes, rows, by_node)?;
+    Ok(List::from_vec(again))
+}

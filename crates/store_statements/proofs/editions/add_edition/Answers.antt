@@ -1,0 +1,16 @@
+use Rattle.std.proofs.Common.{rules, ◌≡◌, to_z, of_z, w64}
+use Rattle.sqlite.specs.Held.{state}
+use Rattle.sql_rows.proofs.Kept.{executed_stays, if_executed}
+use Rattle.store_statements.proofs.EditionTexts.{adds_edition}
+use Rattle.store_statements.proofs.editions.add_edition.Goals as goal
+
+pub returns-clause-makes : goal.returns-clause-makes
+returns-clause-makes g c clean ready =
+    let old = state g.S.Store c.args.tx.now.conn.now in
+    let new = state g.S.Store c.execute.new.self.conn.now in
+    let number : to_z w64 (of_z w64 c.args.number) ≡ c.args.number = search rules in
+    let ran = rw (c.params-to_sql.ensures, number) at (c.execute.ensures.runs clean ready.inside) in
+    if_executed _ _ old new c.execute.result _ (adds_edition old new ready c.args.number) ran
+
+pub returns-clause-kept : goal.returns-clause-kept
+returns-clause-kept g c clean = executed_stays _ _ (state g.S.Store c.args.tx.now.conn.now) (state g.S.Store c.execute.new.self.conn.now) c.execute.result (c.execute.ensures.runs clean)

@@ -1,0 +1,19 @@
+use Rattle.std.proofs.Common.{rules, ◌≡◌, to_z, of_z, w64}
+use Rattle.sqlite.specs.Held.{state}
+use Rattle.sql_rows.proofs.Kept.{executed_stays, if_executed}
+use Rattle.store_statements.proofs.JudgementTexts.{adds_judgement}
+use Rattle.store_statements.proofs.judgements.add_judgement.Goals as goal
+
+pub returns-clause-makes : goal.returns-clause-makes
+returns-clause-makes g c clean ready =
+    let old = state g.S.Store c.args.tx.now.conn.now in
+    let new = state g.S.Store c.execute.new.self.conn.now in
+    let seq : to_z w64 (of_z w64 c.args.row.now.seq) ≡ c.args.row.now.seq = search rules in
+    let rule : to_z w64 (of_z w64 c.args.row.now.rule) ≡ c.args.row.now.rule = search rules in
+    let node : to_z w64 (of_z w64 c.args.row.now.node) ≡ c.args.row.now.node = search rules in
+    let verdict : to_z w64 (of_z w64 c.args.row.now.verdict) ≡ c.args.row.now.verdict = search rules in
+    let ran = rw (c.params-to_sql.ensures, c.params-to_sql-2.ensures, c.params-to_sql-3.ensures, c.params-to_sql-4.ensures, c.params-to_sql-5.ensures, c.params-to_sql-6.ensures, c.params-to_sql-7.ensures, c.params-to_sql-8.ensures, c.params-to_sql-9.ensures, seq, rule, node, verdict) at (c.execute.ensures.runs clean ready.inside) in
+    if_executed _ _ old new c.execute.result _ (adds_judgement old new ready c.args.site.now c.args.page.now c.args.row.now) ran
+
+pub returns-clause-kept : goal.returns-clause-kept
+returns-clause-kept g c clean = executed_stays _ _ (state g.S.Store c.args.tx.now.conn.now) (state g.S.Store c.execute.new.self.conn.now) c.execute.result (c.execute.ensures.runs clean)

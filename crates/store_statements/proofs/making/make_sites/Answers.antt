@@ -1,0 +1,13 @@
+use Rattle.sqlite.specs.Held.{state}
+use Rattle.sql_rows.proofs.Kept.{executed_stays, if_executed}
+use Rattle.store_statements.proofs.MakeTexts.{makes_sites}
+use Rattle.store_statements.proofs.making.make_sites.Goals as goal
+
+pub returns-clause-makes : goal.returns-clause-makes
+returns-clause-makes g c clean was =
+    let old = state g.S.Store c.args.tx.now.conn.now in
+    let new = state g.S.Store c.execute.new.self.conn.now in
+    if_executed _ _ old new c.execute.result _ (λ count. makes_sites old new count was) (c.execute.ensures.runs clean was.inside)
+
+pub returns-clause-kept : goal.returns-clause-kept
+returns-clause-kept g c clean = executed_stays _ _ (state g.S.Store c.args.tx.now.conn.now) (state g.S.Store c.execute.new.self.conn.now) c.execute.result (c.execute.ensures.runs clean)

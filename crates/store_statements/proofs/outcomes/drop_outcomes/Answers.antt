@@ -1,0 +1,14 @@
+use Rattle.sqlite.specs.Held.{state}
+use Rattle.sql_rows.proofs.Kept.{executed_stays, if_executed}
+use Rattle.store_statements.proofs.OutcomeTexts.{drops_outcomes}
+use Rattle.store_statements.proofs.outcomes.drop_outcomes.Goals as goal
+
+pub returns-clause-makes : goal.returns-clause-makes
+returns-clause-makes g c clean ready =
+    let old = state g.S.Store c.args.tx.now.conn.now in
+    let new = state g.S.Store c.execute.new.self.conn.now in
+    let ran = rw (c.params-to_sql.ensures, c.params-to_sql-2.ensures) at (c.execute.ensures.runs clean ready.inside) in
+    if_executed _ _ old new c.execute.result _ (drops_outcomes old new ready c.args.site.now c.args.page.now) ran
+
+pub returns-clause-kept : goal.returns-clause-kept
+returns-clause-kept g c clean = executed_stays _ _ (state g.S.Store c.args.tx.now.conn.now) (state g.S.Store c.execute.new.self.conn.now) c.execute.result (c.execute.ensures.runs clean)

@@ -1,0 +1,16 @@
+use Rattle.std.proofs.Common.{rules, ◌≡◌, to_z, of_z, w64}
+use Rattle.sqlite.specs.Held.{state}
+use Rattle.sql_rows.proofs.Kept.{executed_stays, if_executed}
+use Rattle.store_statements.proofs.SiteTexts.{puts_site}
+use Rattle.store_statements.proofs.sites.put_site.Goals as goal
+
+pub returns-clause-makes : goal.returns-clause-makes
+returns-clause-makes g c clean ready =
+    let old = state g.S.Store c.args.tx.now.conn.now in
+    let new = state g.S.Store c.execute.new.self.conn.now in
+    let counter : to_z w64 (of_z w64 c.args.counter) ≡ c.args.counter = search rules in
+    let ran = rw (c.params-to_sql.ensures, c.params-to_sql-2.ensures, counter) at (c.execute.ensures.runs clean ready.inside) in
+    if_executed _ _ old new c.execute.result _ (puts_site old new ready c.args.site.now c.args.counter) ran
+
+pub returns-clause-kept : goal.returns-clause-kept
+returns-clause-kept g c clean = executed_stays _ _ (state g.S.Store c.args.tx.now.conn.now) (state g.S.Store c.execute.new.self.conn.now) c.execute.result (c.execute.ensures.runs clean)
