@@ -5,6 +5,10 @@
 It has no code of the collector or of the desk, so that each can be held against it.
 What shows findings to people reads snapshots by it. Only the address is looked at less closely than the desk does.
 """
+import contextlib
+import functools
+import gc
+import itertools
 import json
 import re
 import sys
@@ -13,6 +17,9 @@ NODES, DEPTH, ATTRS, TEXT, WEIGHT, BYTES = 10_000, 128, 64, 65_536, 100_000, 8_3
 GREATEST_NUMBER = 4_294_967_295
 # The characters of Unicode's White_Space; Python's str.split takes four more.
 WHITE = re.compile("[\t-\r \x85\xa0\u1680\u2000-\u200a\u2028\u2029\u202f\u205f\u3000]+")
+HALF = re.compile("[\ud800-\udfff]")
+# The attributes by which text is referred to.
+REFERRING = {"id", "for", "aria-labelledby", "aria-owns"}
 LABELABLE = {"button", "meter", "output", "progress", "select", "textarea"}
 
 
@@ -20,18 +27,27 @@ class Fault(Exception):
     pass
 
 
+@functools.lru_cache(maxsize=4096)
 def folded(text):
     # Letters outside ASCII stay as they are.
     return text.lower() if text.isascii() else re.sub("[A-Z]", lambda found: found.group().lower(), text)
 
 
 def size(text):
-    return len(text.encode("utf-8"))
+    return len(text) if text.isascii() else len(text.encode("utf-8"))
 
 
 def is_text(value):
     # Half a surrogate pair, which JSON can spell, is no text.
-    return isinstance(value, str) and not re.search("[\ud800-\udfff]", value)
+    return isinstance(value, str) and (value.isascii() or not HALF.search(value))
+
+
+def are_attributes(value):
+    # A page may have half a million of them: sets of what they are tell it soonest.
+    if not isinstance(value, list) or not {*map(type, value)} <= {list} or not {*map(len, value)} <= {2}:
+        return False
+    parts = [*itertools.chain.from_iterable(value)]
+    return {*map(type, parts)} <= {str} and is_text("".join(parts)) and "" not in parts[::2]
 
 
 def is_number(value):
@@ -49,12 +65,32 @@ def finite(digits):
     return value
 
 
+def sharing(given):
+    """The object, in which equal names of attributes are one text: a page has many attributes of few names."""
+    if are_attributes(given.get("attrs")):
+        given["attrs"] = [[sys.intern(name), value] for name, value in given["attrs"]]
+    return given
+
+
+@contextlib.contextmanager
+def uncollected():
+    """Looks for no garbage meanwhile: among many small objects that search takes longer than making them."""
+    enabled = gc.isenabled()
+    gc.disable()
+    try:
+        yield
+    finally:
+        if enabled:
+            gc.enable()
+
+
 def read_top(data):
     """The object that the bytes hold."""
     if len(data) > BYTES:
         raise Fault(f"{len(data)} bytes")
     try:
-        top = json.loads(data.decode("utf-8"), parse_constant=no_constant, parse_float=finite)
+        with uncollected():
+            top = json.loads(data.decode("utf-8"), parse_constant=no_constant, parse_float=finite, object_hook=sharing)
     except ValueError as error:
         raise Fault(f"no JSON: {error}")
     if not isinstance(top, dict):
@@ -88,10 +124,7 @@ def read(top):
                 bad("tag")
             if given.get("ns", "html") not in ("html", "svg", "other"):
                 bad("ns")
-            attrs = given.get("attrs", [])
-            if not isinstance(attrs, list) or not all(
-                    isinstance(pair, list) and len(pair) == 2 and all(map(is_text, pair)) and pair[0] != ""
-                    for pair in attrs):
+            if not are_attributes(given.get("attrs", [])):
                 bad("attrs")
         elif not is_text(given["text"]):
             bad("text")
@@ -99,7 +132,7 @@ def read(top):
         if not isinstance(letters, str) or len(set(letters)) != len(letters) or not set(letters) <= set("rvft"):
             bad("f")
         rows.append({"n": given["n"], "p": given["p"], "tag": given.get("tag"), "text": given.get("text"),
-                     "ns": given.get("ns", "html"), "attrs": given.get("attrs", []), "f": letters, "given": given})
+                     "ns": given.get("ns", "html"), "attrs": given.get("attrs", []) if "tag" in given else [], "f": letters, "given": given})
     return url, rows
 
 
@@ -120,7 +153,7 @@ def check_tree(rows):
         raise Fault("no row")
     if len(rows) > NODES:
         raise Fault(f"{len(rows)} rows")
-    by_number, depth, open_rows = {}, {}, []
+    by_number, depth, open_rows, referring = {}, {}, [], {}
     for place, row in enumerate(rows):
         n, p = row["n"], row["p"]
 
@@ -146,25 +179,29 @@ def check_tree(rows):
             bad(f"depth {depth[n]}")
         if len(row["attrs"]) > ATTRS:
             bad(f"{len(row['attrs'])} attributes")
-        for text in [row["text"] or "", row["tag"] or ""] + [part for pair in row["attrs"] for part in pair]:
-            if size(text) > TEXT:
-                bad(f"a text of {size(text)} bytes")
+        texts = [row["text"] or "", row["tag"] or "", *itertools.chain.from_iterable(row["attrs"])]
+        # Their sum first, which is quicker.
+        if size("".join(texts)) > TEXT:
+            for text in texts:
+                if size(text) > TEXT:
+                    bad(f"a text of {size(text)} bytes")
         names = [folded(name) for name, _ in row["attrs"]]
         if len(set(names)) != len(names):
             bad("an attribute stands twice")
+        referring[n] = {} if REFERRING.isdisjoint(names) else {name: pair[1] for name, pair in zip(names, row["attrs"]) if name in REFERRING}
         by_number[n] = row
         open_rows.append(n)
-    weight = reference_weight(rows, by_number)
+    weight = reference_weight(rows, by_number, referring)
     if weight > WEIGHT:
         raise Fault(f"the reference weight is {weight}")
     return weight
 
 
-def reference_weight(rows, by_number):
-    """How much text the page's references reach, counted once for each reference."""
+def reference_weight(rows, by_number, referring):
+    """How much text the page's references reach, counted once for each reference; `referring` has the attributes of each row that refers."""
     subtree = {}
     for row in reversed(rows):
-        length = size(row["text"] or "") + sum(size(value) for _, value in row["attrs"])
+        length = size(row["text"] or "") + size("".join([value for _, value in row["attrs"]]))
         subtree[row["n"]] = subtree.get(row["n"], 0) + 1 + length // 64
         if row["p"] is not None:
             subtree[row["p"]] = subtree.get(row["p"], 0) + subtree[row["n"]]
@@ -173,20 +210,22 @@ def reference_weight(rows, by_number):
     for row in rows:
         if row["tag"] is None:
             continue
-        if attr(row, "id"):
-            first_with_id.setdefault(attr(row, "id"), row["n"])
-        if is_html(row, "label") and attr(row, "for") is not None:
-            labels_by_for.setdefault(attr(row, "for"), []).append(row["n"])
+        attributes = referring[row["n"]]
+        if attributes.get("id"):
+            first_with_id.setdefault(attributes["id"], row["n"])
+        if "for" in attributes and is_html(row, "label"):
+            labels_by_for.setdefault(attributes["for"], []).append(row["n"])
     total = 0
     labelled_inside = set()
     for row in rows:
         if row["tag"] is None:
             continue
+        attributes = referring[row["n"]]
         for name in ("aria-labelledby", "aria-owns"):
-            total += sum(subtree[first_with_id[token]] for token in tokens(attr(row, name)) if token in first_with_id)
+            total += sum(subtree[first_with_id[token]] for token in tokens(attributes.get(name)) if token in first_with_id)
         if not is_labelable(row):
             continue
-        identity = attr(row, "id")
+        identity = attributes.get("id")
         if identity and first_with_id[identity] == row["n"]:
             total += sum(subtree[label] for label in labels_by_for.get(identity, ()))
         label = by_number[row["p"]] if row["p"] is not None else None
@@ -195,7 +234,7 @@ def reference_weight(rows, by_number):
         if label is not None and label["n"] not in labelled_inside:
             # Rows come in document order, so this is the label's first labelable.
             labelled_inside.add(label["n"])
-            if attr(label, "for") is None:
+            if "for" not in referring[label["n"]]:
                 total += subtree[label["n"]]
     return total
 

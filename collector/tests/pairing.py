@@ -86,28 +86,40 @@ CASES: tuple[tuple[str, str, str], ...] = (
     ("a page of equal parts, one fewer", "<p n=3>a</p><p n=4>a</p><p n=5>a</p>", "<p n=3>a</p><p n=4>a</p>"),
 )
 
+# The words are the depth, the texts and the attributes of the one page, then those of the other.
 SIZES = """
     import json, sys, time, resource
     sys.path.insert(0, sys.argv[1])
     from silvervole.pairing.finding import pair_pages
     from silvervole.view.page import read_page
 
-    def page(depth, text):
-        rows = [{"n": 1, "p": None, "tag": "html"}]
+    TEXTS = {"equal": lambda n: "a", "different": str, "others": lambda n: f"b{n}", "turned": lambda n: str(10_000 - n), "none": lambda n: ""}
+    # How many attributes each element has, and the first value.
+    ATTRIBUTES = {"bare": (0, 0), "fifty": (50, 0), "moved": (50, 500), "others": (50, 500_000), "known": (40, 0)}
+
+    def row(number, parent, attributes):
+        count, first = ATTRIBUTES[attributes]
+        prefix, bound = ("aria-", 9) if attributes == "known" else ("", 1_000_000)
+        pairs = ",".join(f'["{prefix}{chr(97 + n // 10)}{n % 10}","{(first + number * 50 + n) % bound:x}"]' for n in range(count))
+        return f'{{"n":{number},"p":{parent},"tag":"div","attrs":[{pairs}]}}'
+
+    def page(depth, text, attributes):
+        rows = ['{"n":1,"p":null,"tag":"html"}']
         while len(rows) < 10_000:
             parent = 1
             for _ in range(min(depth, 10_000 - len(rows))):
-                rows.append({"n": len(rows) + 1, "p": parent, "tag": "div"})
+                rows.append(row(len(rows) + 1, parent, attributes))
                 parent = len(rows)
-            if len(rows) < 10_000:
-                rows.append({"n": len(rows) + 1, "p": parent, "text": text(len(rows))})
-        return read_page(json.dumps({"url": "https://library.example/", "nodes": rows}).encode(), "page")
+            if len(rows) < 10_000 and text(len(rows)):
+                rows.append(f'{{"n":{len(rows) + 1},"p":{parent},"text":"{text(len(rows))}"}}')
+        return f'{{"url":"https://library.example/","nodes":[{",".join(rows)}]}}'.encode()
 
-    texts = {"equal": lambda n: "a", "different": str, "others": lambda n: f"b{n}", "turned": lambda n: str(10_000 - n)}
-    old, new = (page(int(depth), texts[text]) for depth, text in zip(sys.argv[2::2], sys.argv[3::2]))
-    began = time.process_time()
+    words = sys.argv[2:]
+    snapshots = [page(int(depth), TEXTS[text], attributes) for depth, text, attributes in (words[:3], words[3:])]
+    old, new = (read_page(snapshot, "page") for snapshot in snapshots)
+    read = time.process_time()
     pairs = pair_pages(old, new)
-    seconds = time.process_time() - began
+    seconds = time.process_time() - read
     print(json.dumps([seconds, resource.getrusage(resource.RUSAGE_SELF).ru_maxrss // 1024, len(pairs), len(set(pairs.values()))]))
 """
 
@@ -123,9 +135,13 @@ def test_pairing() -> None:
 
 
 def test_pairing_sizes() -> None:
-    """10,000 nodes against 10,000: all equal, all different, flat and deep."""
-    for shapes in (("1", "equal", "1", "equal"), ("1", "equal", "1", "others"), ("1", "different", "1", "others"), ("1", "different", "1", "turned"),
-                   ("120", "equal", "120", "equal"), ("120", "different", "120", "turned"), ("120", "equal", "1", "different")):
+    """10,000 nodes against 10,000: all equal, all different, flat and deep, and of fifty attributes; the memory is that of reading them too."""
+    for shapes in (("1", "equal", "bare", "1", "equal", "bare"), ("1", "equal", "bare", "1", "others", "bare"),
+                   ("1", "different", "bare", "1", "others", "bare"), ("1", "different", "bare", "1", "turned", "bare"),
+                   ("120", "equal", "bare", "120", "equal", "bare"), ("120", "different", "bare", "120", "turned", "bare"),
+                   ("120", "equal", "bare", "1", "different", "bare"), ("1", "none", "fifty", "1", "none", "fifty"),
+                   ("1", "none", "fifty", "1", "none", "others"), ("120", "different", "fifty", "120", "turned", "moved"),
+                   ("1", "none", "known", "1", "none", "known")):
         done = subprocess.run([sys.executable, "-c", textwrap.dedent(SIZES), str(ROOT), *shapes], capture_output=True, text=True, check=False)
         expect(f"pairing of {shapes} runs", done.returncode == 0, done.stderr)
         if done.returncode == 0:

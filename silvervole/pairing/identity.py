@@ -3,17 +3,18 @@ from __future__ import annotations
 
 import functools
 import re
+from typing import Iterable, NamedTuple
 
 from silvervole import check_form
-from silvervole.view.page import Node
+from silvervole.view.page import Node, tidy
 
 # A longer text is what an element holds, not what people call it.
 LONGEST_LABEL = 80
 NAMING = ("aria-label", "alt", "title", "placeholder", "name", "value")
 TEST_IDS = ("data-testid", "data-test-id", "data-test", "data-cy", "data-qa")
-ADDRESSES = ("href", "src", "action", "srcset", "data")
-REFERENCES = ("id", "for", "headers", "list", "form", "aria-activedescendant", "aria-controls", "aria-describedby", "aria-details",
-              "aria-errormessage", "aria-flowto", "aria-labelledby", "aria-owns")
+ADDRESSES = frozenset(("href", "src", "action", "srcset", "data"))
+REFERENCES = frozenset(("id", "for", "headers", "list", "form", "aria-activedescendant", "aria-controls", "aria-describedby", "aria-details",
+                        "aria-errormessage", "aria-flowto", "aria-labelledby", "aria-owns"))
 # What rules look at and people see. All else, as classes and styles, may change with every build.
 KNOWN = frozenset((*NAMING, *TEST_IDS, *ADDRESSES, *REFERENCES, "role", "type", "lang", "label", "content", "http-equiv"))
 # Ids that React counts, and what is drawn by lot: universally unique ids, and eight hexadecimal digits or more, one of them below ten.
@@ -23,6 +24,19 @@ LOTS = (r"(?<![0-9A-Za-z])(?:[0-9a-fA-F]{8}(?:-[0-9a-fA-F]{4}){3}-[0-9a-fA-F]{12
 COUNT, LOT, MADE = re.compile(COUNTS), re.compile(LOTS), re.compile(f"{COUNTS}|{LOTS}")
 DIGITS = re.compile(r"[0-9]+")
 HEADING = re.compile(r"h[1-6]")
+
+
+class Known(NamedTuple):
+    """What an element is known by beside its text; each is empty where it has none."""
+
+    identity: str = ""
+    test_id: tuple[str, ...] = ()
+    address: str = ""
+    name: str = ""
+    labels: str = ""
+
+
+NOTHING = Known()
 
 
 def kind_of(node: Node) -> str:
@@ -46,14 +60,24 @@ def known_name(name: str) -> str:
     return folded if folded in KNOWN or folded.startswith("aria-") else ""
 
 
-def known_attributes(node: Node) -> tuple[tuple[str, str], ...]:
-    """What an element is known by, in the order of the names."""
-    return tuple(sorted((known, steady(known, value)) for name, value in node.attributes if (known := known_name(name))))
+def known_attributes(node: Node) -> dict[str, str]:
+    """What an element is known by: the values by the folded names."""
+    names = [*map(known_name, node.parts[::2])]
+    return {name: value for name, value in zip(names, node.parts[1::2]) if name} if any(names) else {}
 
 
-def all_attributes(node: Node) -> tuple[tuple[str, str], ...]:
-    """All attributes, in the order of the names."""
-    return tuple(sorted(node.attributes))
+def known_by(known: dict[str, str]) -> Known:
+    """What people and programs know an element with these attributes by; `labels` is the id that it is a label for."""
+    if not known:
+        return NOTHING
+    test_id = next(((name, value) for name, value in known.items() if name in TEST_IDS and value), ())
+    name = next(filter(None, (tidy(known[name]) for name in NAMING if name in known)), "")
+    return Known(known.get("id", ""), test_id, known.get("href") or known.get("src", ""), name, known.get("for", ""))
+
+
+def digest(pairs: Iterable[tuple[str, str]]) -> int:
+    """A number for some attributes, whatever their order. Others have the same number once in 2^60 or so, where a wrong pair does no harm."""
+    return hash(frozenset(pairs))
 
 
 def is_counted(identity: str) -> bool:

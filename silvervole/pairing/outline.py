@@ -5,7 +5,7 @@ from typing import Hashable
 
 from silvervole.view.page import Node, Page, tidy
 
-from .identity import LONGEST_LABEL, NAMING, TEST_IDS, all_attributes, is_counted, kind_of, known_attributes
+from .identity import LONGEST_LABEL, NOTHING, digest, is_counted, kind_of, known_attributes, known_by, steady
 
 # What stands in these isn't read by people.
 UNREAD = frozenset(("script", "style", "template", "noscript"))
@@ -39,6 +39,7 @@ class Outline:
         count = len(self.nodes)
         self.ends, self.exact, self.content, self.own = ([0] * count for _ in range(4))
         self.texts = [""] * count
+        self.known = [NOTHING] * count
         for place in reversed(range(count)):
             self.measure(place, classes)
         self.labels = self.find_labels()
@@ -57,9 +58,12 @@ class Outline:
             self.content[place] = self.own[place] = classes.of(("words", words)) if words else BLANK
             return
         self.texts[place] = self.text_below(place)
-        self.own[place] = classes.of((self.kinds[place], node.space, known_attributes(node)))
+        known = known_attributes(node)
+        self.known[place] = known_by(known)
+        looked_at = digest((name, steady(name, value)) for name, value in known.items())
+        self.own[place] = classes.of((self.kinds[place], node.space, looked_at))
         self.content[place] = classes.of((self.own[place], *(self.content[kid] for kid in self.written(kids))))
-        self.exact[place] = classes.of((node.tag, node.space, all_attributes(node), tuple(self.exact[kid] for kid in kids)))
+        self.exact[place] = classes.of((node.tag, node.space, digest(node.attributes), tuple(self.exact[kid] for kid in kids)))
 
     def written(self, kids: list[int]) -> list[int]:
         """Those of some children that aren't blank texts."""
@@ -88,28 +92,26 @@ class Outline:
         """What people call each node: the first that it has of a label, a naming attribute and a short text."""
         written: dict[str, str] = {}
         for place, node in enumerate(self.nodes):
-            if node.folded == "label" and node.attribute("for"):
-                written.setdefault(node.attribute("for"), self.texts[place])
+            if node.folded == "label" and self.known[place].labels:
+                written.setdefault(self.known[place].labels, self.texts[place])
         return [self.label(place, written) for place in range(len(self))]
 
     def label(self, place: int, written: dict[str, str]) -> str:
         """The label of a node; none where it is long."""
-        node = self.nodes[place]
+        node, known = self.nodes[place], self.known[place]
         if not node.is_element or node.parent is None:
             return ""
-        named = dict(node.attributes)
-        found = (written.get(named.get("id", "")), *(tidy(named[name]) for name in NAMING if name in named), self.texts[place])
-        label = next(filter(None, found), "")
+        label = written.get(known.identity, "") or known.name or self.texts[place]
         return label if len(label) <= LONGEST_LABEL else ""
 
     def identity(self, place: int, counted: bool) -> Hashable:
         """The id of an element, of those that look counted or of the others; None where it has none."""
-        found = self.nodes[place].attribute("id")
+        found = self.known[place].identity
         return found if found and is_counted(found) == counted else None
 
     def test_id(self, place: int) -> Hashable:
         """The id that tests know an element by."""
-        return next(((name, value) for name, value in self.nodes[place].attributes if name in TEST_IDS and value), None)
+        return self.known[place].test_id or None
 
     def called(self, place: int) -> Hashable:
         """The kind of an element and its label; None where it has no label."""
@@ -117,6 +119,5 @@ class Outline:
 
     def leads(self, place: int) -> Hashable:
         """The kind of an element and the address that it leads to or shows."""
-        node = self.nodes[place]
-        address = node.attribute("href") or node.attribute("src")
+        address = self.known[place].address
         return (self.kinds[place], address) if address else None

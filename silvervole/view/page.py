@@ -1,6 +1,7 @@
 """A page as its snapshot has it, and what is said of a node to a person who looks for it."""
 from __future__ import annotations
 
+import itertools
 import re
 from collections import Counter
 from dataclasses import dataclass, field
@@ -30,7 +31,8 @@ class Node:
     parent: Node | None
     tag: str
     space: str
-    attributes: list[tuple[str, str]]
+    # The attributes' names and values by turns, which need less memory than pairs.
+    parts: tuple[str, ...]
     words: str
     letters: str
     # The number of the shadow tree that it stands in, 0 for the document itself; and where the
@@ -48,9 +50,15 @@ class Node:
         """The tag with ASCII letters in lower case."""
         return check_form.folded(self.tag)
 
+    @property
+    def attributes(self) -> list[tuple[str, str]]:
+        """The names and values, in the order of the page."""
+        return list(zip(self.parts[::2], self.parts[1::2]))
+
     def attribute(self, name: str) -> str:
         """The value of an attribute; the empty text where there is none."""
-        return next((value for key, value in self.attributes if check_form.folded(key) == name), "")
+        names = [*map(check_form.folded, self.parts[::2])]
+        return self.parts[2 * names.index(name) + 1] if name in names else ""
 
     @cached_property
     def above(self) -> Node | None:
@@ -173,16 +181,20 @@ def read_page(data: bytes, path: str) -> Page:
         check_form.check_tree(rows)
     except check_form.Fault as fault:
         raise Stop(End.INPUT, f"{path} is no snapshot: {fault}") from None
+    state, in_frame = top.get("state"), check_form.is_number(top.get("frame"))
+    # Each row is let go once its node is made, so that a page takes no more memory than it has to.
+    del top
+    rows.reverse()
     nodes: dict[int, Node] = {}
-    for row in rows:
+    while rows:
+        row = rows.pop()
         parent = nodes.get(row["p"])
         node = Node(row["n"], parent, row["tag"] or "", row["ns"], unmarked(row["attrs"]),
                     row["text"] or "", row["f"], tree_of(row["given"]), places_of(row["given"]))
         nodes[node.number] = node
         if parent is not None:
             parent.kids.append(node)
-    state = top.get("state")
-    return Page(address, nodes, state if isinstance(state, str) else "", revision, check_form.is_number(top.get("frame")))
+    return Page(address, nodes, state if isinstance(state, str) else "", revision, in_frame)
 
 
 def snapshot_in(top: dict[str, Any]) -> tuple[dict[str, Any], int | None]:
@@ -205,10 +217,14 @@ def places_of(given: dict[str, object]) -> tuple[int, ...]:
     return tuple(at) if isinstance(at, list) and all(map(check_form.is_number, at)) else ()
 
 
-def unmarked(attributes: list[list[str]]) -> list[tuple[str, str]]:
-    """The attributes as the page has them: ids without the mark of their tree, and none that the collector made."""
-    return [(name, MARK.sub("", value) if NAMES_IDS.fullmatch(check_form.folded(name)) else value)
-            for name, value in attributes if not (check_form.folded(name) == "id" and MADE.fullmatch(value))]
+def unmarked(attributes: list[list[str]]) -> tuple[str, ...]:
+    """The names and values as the page has them: ids without the mark of their tree, and none that the collector made."""
+    if not any("@" in value for _, value in attributes):
+        return tuple(itertools.chain.from_iterable(attributes))
+    kept = ((name, check_form.folded(name), value) for name, value in attributes)
+    pairs = ((name, MARK.sub("", value) if NAMES_IDS.fullmatch(folded) else value)
+             for name, folded, value in kept if not (folded == "id" and MADE.fullmatch(value)))
+    return tuple(itertools.chain.from_iterable(pairs))
 
 
 def tidy(text: str) -> str:
