@@ -57,6 +57,7 @@ class Audit:
     """An audit of one snapshot that is under way."""
 
     def __init__(self, snapshot: bytes) -> None:
+        self.snapshot = snapshot
         # A file rather than a pipe, so that nothing waits until it is read.
         with tempfile.TemporaryFile() as file:
             file.write(snapshot)

@@ -1,74 +1,37 @@
 """The word check."""
 from __future__ import annotations
 
-from typing import TYPE_CHECKING, Sequence
+from typing import Sequence
 
-from silvervole.collect.ends import End, Stop, run_command
-from silvervole.formats.options import any_format
-from silvervole.view.rules import RuleTable, read_rules
+from silvervole.collect.ends import Stop, run_command
+from silvervole.program import Audit
+from silvervole.view.files import read
 from silvervole.words import Parser
 
 from .options import Checking, parser, read_words
-from .running import Checked, Run, Teller
-from .screen import Screen
-from .subjects import Subject
-from .telling import last_lines, page_lines
-
-if TYPE_CHECKING:
-    from silvervole.formats.listing import ListedPage
-
-    from .formats import Formats
 
 __all__ = ["main", "parser"]
 
 
-def check(checking: Checking, program: str) -> int:
-    """The status of a check, all of whose findings are told."""
-    screen = Screen(program, len(checking.subjects))
-    pages: list[Checked] = []
-    lost: list[tuple[Subject, Stop]] = []
-
-    def tell(checked: Checked) -> None:
-        pages.append(checked)
-        screen.write(page_lines(checked, checking.passed))
-
-    def tell_failure(subject: Subject, stop: Stop) -> None:
-        lost.append((subject, stop))
-        screen.say(f"{subject.page}: status {stop.end.value}: {stop.line}")
-
-    teller = Teller(tell, lambda subject, note: screen.say(f"{subject.page}: {note}"), tell_failure,
-                    lambda subject: screen.begin(subject.page), lambda subject: screen.end())
-    table = read_rules()
-    formats = formats_of(checking, table)
+def begun_audit(checking: Checking) -> Audit | None:
+    """The audit of the first page, where that is a snapshot; None too where it can't begin, which is told in the page's turn."""
+    first = checking.subjects[0]
     try:
-        worst = Run(checking, table, teller, formats).all()
-    finally:
-        screen.pause()
-    for line in formats.write(in_order(checking, pages), lost) if formats is not None else ():
-        screen.say(line)
-    findings = [checked.findings for checked in pages]
-    screen.write(last_lines(findings, len(lost), checking.budget))
-    failed = sum(found.counts["failed"] for found in findings) > checking.budget
-    return max(worst, End.FAILED if failed else End.WRITTEN)
-
-
-def formats_of(checking: Checking, table: RuleTable) -> Formats | None:
-    """What writes the formats, where one is asked for."""
-    if not any_format(checking.given):
+        return Audit(read(first.file)) if first.is_snapshot else None
+    except Stop:
         return None
-    from .formats import Formats  # only here, since it loads slowly
-    return Formats(checking, table)
-
-
-def in_order(checking: Checking, pages: list[Checked]) -> list[ListedPage]:
-    """The pages in the order in which they were named, however they were checked."""
-    order = {subject: place for place, subject in enumerate(checking.subjects)}
-    return [checked.listed for checked in sorted(pages, key=lambda checked: order[checked.subject]) if checked.listed is not None]
 
 
 def work(words: Sequence[str], program: str, asked: Parser) -> int:
     """The status of what the words ask for."""
-    return check(read_words(words, asked), program)
+    checking = read_words(words, asked)
+    begun = begun_audit(checking)
+    try:
+        from .pages import check  # only here, so that it loads while the desk audits
+        return check(checking, program, begun)
+    finally:
+        if begun is not None:
+            begun.end()
 
 
 def main(words: Sequence[str], program: str = "check", example: str = "") -> int:

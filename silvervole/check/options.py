@@ -8,7 +8,6 @@ from dataclasses import dataclass
 from typing import Any, Sequence
 
 from silvervole.collect.ends import End, Stop
-from silvervole.collect.many import read_list
 from silvervole.collect.options import MOST_JOBS, Options, add_opening, whole
 from silvervole.collect.places import check_written
 from silvervole.formats.options import FORMATS, add_format_options, any_format
@@ -96,6 +95,7 @@ def subjects_of(given: argparse.Namespace, settings: Settings, asked: Parser) ->
     for word, value in (("--url", given.url), ("--states", given.states)):
         if value is not None:
             asked.error(f"{word} goes with one page")
+    from silvervole.collect.many import read_list  # only here, since it loads slowly
     return tuple(Subject(page.page, page.url) for page in read_list(path))
 
 

@@ -17,7 +17,7 @@ from silvervole.collect.places import ended
 from silvervole.collect.shots import Shot
 from silvervole.program import Audit
 from silvervole.settings.sign_in import Signed
-from silvervole.view.command import read
+from silvervole.view.files import read
 from silvervole.view.findings import Findings, bring_together
 from silvervole.view.page import Page, read_page
 from silvervole.view.pictures import picture_of
@@ -69,8 +69,10 @@ class Teller:
 class Run:
     """One check of all pages."""
 
-    def __init__(self, checking: Checking, table: RuleTable, teller: Teller, formats: Formats | None) -> None:
+    def __init__(self, checking: Checking, table: RuleTable, teller: Teller, formats: Formats | None, begun: Audit | None) -> None:
         self.checking = checking
+        # The audit of the first page, where it has begun.
+        self.begun = begun
         self.table = table
         self.formats = formats
         self.teller = teller
@@ -101,7 +103,8 @@ class Run:
             with self.telling:
                 self.teller.begin(subject)
             if subject.is_snapshot:
-                self.audit(subject, Taken(read(subject.file), time.monotonic()))
+                begun = self.begun if subject is self.checking.subjects[0] else None
+                self.audit(subject, Taken(begun.snapshot if begun else read(subject.file), time.monotonic()), begun)
             else:
                 self.collect(subject)
         except Stop as stop:
@@ -133,9 +136,9 @@ class Run:
         holding: Callable[[object], ContextManager[None]] = self.browsers.holding
         collect_page(subject.page, options, keep, holding)
 
-    def audit(self, subject: Subject, taken: Taken) -> None:
-        """Audits a snapshot, and tells what was found."""
-        audit = Audit(taken.data)
+    def audit(self, subject: Subject, taken: Taken, begun: Audit | None = None) -> None:
+        """Audits a snapshot, where that hasn't begun, and tells what was found."""
+        audit = begun or Audit(taken.data)
         with contextlib.ExitStack() as stack:
             stack.callback(audit.end)
             page = read_page(taken.data, subject.page)

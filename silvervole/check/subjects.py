@@ -10,7 +10,7 @@ from typing import Iterable
 
 from silvervole.collect.ends import End, Stop
 from silvervole.collect.places import name_of, place_of
-from silvervole.view.command import read
+from silvervole.view.files import read
 from silvervole.view.outcomes import is_object
 
 # A file has no address, and the desk takes none but those of http and https. No server has this name.

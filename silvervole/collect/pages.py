@@ -26,7 +26,8 @@ Holding = Callable[[Any], ContextManager[Any]]
 class Collected:
     """What was taken of a page: its snapshot, a line for each thing to tell of it, and its picture where one is wanted.
 
-    Of a frame or a state there is the ending that its file has. A frame that can't be looked into has no text.
+    Of a frame or a state there is the ending that its file has. A frame that can't be looked into has no text, nor has
+    what is only told of a page.
     """
 
     text: str
@@ -53,9 +54,12 @@ class Visit:
         self.traffic: Traffic = loading.load(browser, place, options)
 
     def state(self, step: Step | None = None) -> Iterator[Collected]:
-        """The snapshot of the page as it is now, and those of its frames."""
+        """The snapshot of the page as it is now, what there is to tell of it, and the snapshots of its frames."""
         taken, page = self.page(step)
         yield page
+        # To count takes its time, so the page's snapshot isn't held up by it.
+        if note := self.closed():
+            yield Collected("", (note,), ending=page.ending)
         if self.options.frames:
             front = f"{page.ending}." if page.ending else ""
             for document in Frames(self.browser, self.wanted(step), self.end).documents(taken):
@@ -79,8 +83,12 @@ class Visit:
             raise
         self.refuse_moved(before)
         shot = take_shot(self.browser, taken) if options.shot is not None else None
-        notes = [*taken.cuts, shot.cut if shot else "", closed_note(self.browser, options.frames) if options.shadow else ""]
+        notes = [*taken.cuts, shot.cut if shot else ""]
         return taken, Collected(taken.text, tuple(filter(None, notes)), shot, step.ending if step else "")
+
+    def closed(self) -> str:
+        """A line on the closed shadow trees that are left out of the page; empty where there is none."""
+        return closed_note(self.browser, self.options.frames) if self.options.shadow else ""
 
     def refuse_moved(self, before: loading.Shown) -> None:
         """Refuses a page that moved on while it was read."""

@@ -78,6 +78,7 @@ function silvervoleSnapshot(address, options) {
   const attributes = getter(Element, 'attributes');
   const getAttribute = method(Element, 'getAttribute');
   const hasAttribute = method(Element, 'hasAttribute');
+  const hasAttributes = method(Element, 'hasAttributes');
   const closest = method(Element, 'closest');
   const checkVisibility = method(Element, 'checkVisibility');
   const shadowRoot = getter(Element, 'shadowRoot');
@@ -292,7 +293,7 @@ function silvervoleSnapshot(address, options) {
     const reflected = ariaOf(Element).filter(({ byElements }) => byElements);
     const properties = ariaOf(ElementInternals);
     for (const element of elements) {
-      for (const { name, read } of reflected) {
+      for (const { name, read } of hasAttributes(element) ? reflected : []) {
         // Set by elements, the attribute is there and empty.
         if (getAttribute(element, name) === '' && listOf(read(element)).length > 0) say(element, name, listOf(read(element)));
       }
@@ -343,6 +344,7 @@ function silvervoleSnapshot(address, options) {
   };
   // The attributes to write: those of the DOM, and after them what is said otherwise.
   const writtenAttributes = (element) => {
+    if (trees.size === 0 && !said.has(element) && !made.has(element)) return attributes(element);
     const told = new Map(said.get(element));
     if (made.has(element)) told.set('id', made.get(element));
     const written = [...attributes(element)].map(({ name, value }) => ({ name, value: told.has(name) ? null : writtenValue(element, asciiLower(name), value) }));
@@ -593,6 +595,39 @@ function silvervoleSnapshot(address, options) {
       if (first !== null && first !== resting) give(focusOf, first, { preventScroll: true });
       else if (now !== null) give(blurOf, now);
     };
+    let active = first;
+    const ask = (element) => {
+      give(focusOf, element, { preventScroll: true });
+      active = activeElement();
+      return active === element;
+    };
+    const rest = () => {
+      if (active === first) return;
+      restore();
+      active = activeElement();
+    };
+    // What takes the focus keeps it until the next element is asked. What
+    // doesn't take it is asked again with the focus where it was found.
+    const takesFocus = (element) => {
+      const asFound = active === first;
+      if (element !== first && ask(element)) return true;
+      rest();
+      return element === first ? active === element : !asFound && ask(element);
+    };
+    // Besides what is visible, only the fallback content of a canvas takes
+    // focus: it stands for what is drawn on the canvas.
+    const candidates = records.filter((record) => record.element && (record.visible || record.inCanvas));
+    const isLikely = (record) => NATIVE_STOPS.has(record.tag) || hasAttribute(record.node, 'tabindex');
+    const probe = (record) => {
+      const element = record.node;
+      if (element === resting || element === documentElement() || isFrame(record)) {
+        // Asking a frame would move the focus into another document; the
+        // resting element is named as active without having the focus; and
+        // asked on the root, some browsers give the focus to the viewport.
+        record.focusable = !isInert(element) && (isFrame(record) || tabIndexOf(element) !== null
+          || (record.ns === 'html' && isContentEditable(element)));
+      } else record.focusable = takesFocus(element);
+    };
     const hush = (event) => {
       event.stopImmediatePropagation();
       if (event.type === 'change') unheard.add(event.composedPath()[0]);
@@ -602,23 +637,9 @@ function silvervoleSnapshot(address, options) {
     const places = [window, ...trees.keys()];
     for (const name of heard) for (const place of places) place.addEventListener(name, hush, true);
     try {
-      for (const record of records) {
-        // Besides what is visible, only the fallback content of a canvas takes
-        // focus: it stands for what is drawn on the canvas.
-        if (!record.element || !(record.visible || record.inCanvas)) continue;
-        const element = record.node;
-        if (element === resting || element === documentElement() || isFrame(record)) {
-          // Asking a frame would move the focus into another document; the
-          // resting element is named as active without having the focus; and
-          // asked on the root, some browsers give the focus to the viewport.
-          record.focusable = !isInert(element) && (isFrame(record) || tabIndexOf(element) !== null
-            || (record.ns === 'html' && isContentEditable(element)));
-          continue;
-        }
-        if (element !== first) give(focusOf, element, { preventScroll: true });
-        record.focusable = activeElement() === element;
-        restore();
-      }
+      // Those that most likely take the focus come first: to take it back from each takes as long as to give it.
+      for (const record of candidates.filter(isLikely)) probe(record);
+      for (const record of candidates) if (!isLikely(record)) probe(record);
     } finally {
       restore();
       if (selection && !sameSelection()) {

@@ -5,7 +5,8 @@ import pathlib
 from dataclasses import dataclass
 
 from silvervole.collect.ends import End, Stop
-from silvervole.view.command import read, read_findings
+from silvervole.view.command import read_findings
+from silvervole.view.files import read
 from silvervole.view.page import Page, read_page
 from silvervole.view.report import Finding, Report
 

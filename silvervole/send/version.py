@@ -11,7 +11,7 @@ from silvervole import check_form
 from silvervole.collect.ends import End, Stop, say
 from silvervole.collect.options import Options
 from silvervole.collect.pages import Collected, collect_page
-from silvervole.view.command import read
+from silvervole.view.files import read
 from silvervole.view.outcomes import is_object
 from silvervole.view.page import Page, read_page, snapshot_in
 
@@ -67,7 +67,7 @@ def collected_version(source: str, options: Options) -> Version:
     """The version that a browser shows."""
     taken: list[Collected] = []
     collect_page(source, options, taken.append)
-    for note in taken[0].notes:
+    for note in (note for collected in taken for note in collected.notes):
         say("send", f"{source}: {note}")
     data, shot = taken[0].text.encode("utf-8"), taken[0].shot
     version = read_version(data, source)

@@ -2,9 +2,7 @@
 from __future__ import annotations
 
 import argparse
-import difflib
 import os
-import tomllib
 from dataclasses import dataclass, field
 from typing import Any, Callable, Collection, Iterable, Mapping
 
@@ -110,6 +108,8 @@ def settings_in(data: bytes, path: str, options: Collection[str], formats: Colle
     def refuse(why: str) -> Stop:
         return Stop(End.USAGE, f"{path}: {why}")
 
+    import tomllib  # only here, since it loads slowly
+
     try:
         given = tomllib.loads(data.decode("utf-8"))
     except (tomllib.TOMLDecodeError, UnicodeDecodeError) as error:
@@ -155,6 +155,7 @@ def named(key: str, table: str) -> str:
 
 def unknown(key: str, table: str, keys: Iterable[str]) -> str:
     """The refusal of a key that nothing has, with the one that may be meant."""
+    import difflib  # only here, since it loads slowly
     near = difflib.get_close_matches(key, list(keys), 1)
     return f"{named(key, table)} is no setting" + (f"; is {near[0]} meant?" if near else f": there are {', '.join(sorted(keys))}")
 

@@ -2,13 +2,13 @@
 from __future__ import annotations
 
 import argparse
-import sys
 from typing import Sequence
 
 from silvervole.collect.ends import End, Stop, run_command, write_out
 from silvervole.formats.options import add_format_options, any_format
 from silvervole.words import Parser
 
+from .files import read
 from .findings import bring_together
 from .outcomes import is_object, read_outcomes
 from .page import Page, read_page
@@ -30,19 +30,6 @@ def parser(program: str = "view", example: str = "") -> Parser:
     made.add_argument("--shot", metavar="PICTURE", help="the picture that collect --shot wrote with the snapshot")
     add_format_options(made)
     return made
-
-
-def read(path: str) -> bytes:
-    """The bytes of a file, or of standard input."""
-    try:
-        if path == "-":
-            if sys.stdin is None:
-                raise Stop(End.INPUT, "standard input is closed")
-            return sys.stdin.buffer.read()
-        with open(path, "rb") as file:
-            return file.read()
-    except OSError as error:
-        raise Stop(End.INPUT, f"{path} can't be read: {error.strerror}") from None
 
 
 def read_findings(path: str) -> Report:
