@@ -106,3 +106,17 @@ def test_check_interrupt(base: str) -> None:
     while any(map(is_alive, started)) and time.monotonic() < end:
         time.sleep(0.2)
     same("processes that are left", list(filter(is_alive, started)), [])
+
+
+def test_check_times() -> None:
+    """The bounds of `bench/check`: a busy machine is given as many times longer as its load is times its processors."""
+    if not built("the times of silvervole check"):
+        return
+    load = os.getloadavg()[0]
+    allowed = max(1.0, load / (os.cpu_count() or 1))
+    _, out, err = run("3", program=ROOT / "bench" / "check")
+    text = out.decode("utf-8")
+    added = [float(found) for found in re.findall(r": silvervole check adds ([0-9.]+) s", text)]
+    after = [float(found) for found in re.findall(r" is there ([0-9.]+) s after", text)]
+    expect(f"what check adds to an audit, at a load of {load:.1f}", len(added) == 2 and max(added) <= 0.3 * allowed, text + err)
+    expect(f"when the first finding is there, at a load of {load:.1f}", len(after) == 2 and max(after) <= 1.0 * allowed, text + err)

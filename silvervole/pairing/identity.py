@@ -72,7 +72,7 @@ def known_by(known: dict[str, str]) -> Known:
         return NOTHING
     test_id = next(((name, value) for name, value in known.items() if name in TEST_IDS and value), ())
     name = next(filter(None, (tidy(known[name]) for name in NAMING if name in known)), "")
-    return Known(known.get("id", ""), test_id, known.get("href") or known.get("src", ""), name, known.get("for", ""))
+    return Known(known.get("id", ""), test_id, known.get("href", "") or known.get("src", ""), name, known.get("for", ""))
 
 
 def digest(pairs: Iterable[tuple[str, str]]) -> int:

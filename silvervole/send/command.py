@@ -6,7 +6,7 @@ from dataclasses import dataclass
 from typing import Sequence
 
 from silvervole.collect.ends import End, run_command, write_out
-from silvervole.collect.options import Options, add_opening
+from silvervole.collect.options import MOST_JOBS, Options, add_opening, whole
 from silvervole.collect.places import check_written
 from silvervole.desk.asking import Desk
 from silvervole.desk.words import add_desk_words, desk_of
@@ -34,6 +34,7 @@ class Command:
     trial: bool
     picture: str | None
     options: Options
+    jobs: int
 
 
 def parser(program: str = "send", example: str = "") -> Parser:
@@ -44,6 +45,8 @@ def parser(program: str = "send", example: str = "") -> Parser:
     made.add_argument("target", metavar="SITE/PAGE", nargs="?", help="the page at the desk")
     made.add_argument("source", metavar="FILE|ADDRESS", nargs="?", help="a snapshot, or the address or the file of a page to collect")
     made.add_argument("--list", metavar="FILE", help="sends the pages of a list: on each line SITE/PAGE and FILE or ADDRESS; - is standard input")
+    made.add_argument("--jobs", metavar="N", type=whole(1, MOST_JOBS), default=None,
+                      help="how many browsers work beside each other on a list (1)")
     add_desk_words(made)
     made.add_argument("--dry-run", action="store_true", help="says what would become of the page, and sends nothing")
     made.add_argument("--shot", action="store_true", help="sends a picture of the collected page too")
@@ -61,9 +64,11 @@ def read_words(words: Sequence[str], asked: Parser) -> tuple[Command, Desk]:
         asked.error("either SITE/PAGE and FILE or ADDRESS are needed, or --list")
     for word in (word for word, value in (("--url", given.url), ("--picture", given.picture)) if value is not None and given.list is not None):
         asked.error(f"{word} goes with one page")
+    if given.jobs is not None and given.list is None:
+        asked.error("--jobs goes with --list")
     if given.url is not None:
         check_written(given.url)
-    return Command(given.target, given.source or "", given.list, given.dry_run, given.picture, options_of(given)), desk_of(given)
+    return Command(given.target, given.source or "", given.list, given.dry_run, given.picture, options_of(given), given.jobs or 1), desk_of(given)
 
 
 def options_of(given: argparse.Namespace) -> Options:
@@ -90,6 +95,6 @@ def main(words: Sequence[str], program: str = "send", example: str = "") -> int:
     """The status of a run."""
     def work() -> int:
         command, desk = read_words(words, parser(program, example))
-        return send_one(command, desk) if command.list is None else send_list(command.list, desk, command.options, command.trial)
+        return send_one(command, desk) if command.list is None else send_list(command.list, desk, command.options, command.trial, command.jobs)
 
     return run_command(program, work)

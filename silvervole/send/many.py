@@ -2,7 +2,6 @@
 from __future__ import annotations
 
 import contextlib
-import dataclasses
 import sys
 from dataclasses import dataclass
 
@@ -13,13 +12,13 @@ from silvervole.collect.places import check_written
 from silvervole.desk.asking import Desk
 from silvervole.view.rules import read_rules
 
+from .ahead import Ahead
 from .delivery import Sent, prepare
 from .imports import Imports
 from .kept import Target, target_of
 from .rehearsal import Rehearsal
 from .shots import put_picture
 from .telling import TRIAL, text_of
-from .version import version_of
 
 
 @dataclass(frozen=True)
@@ -92,16 +91,17 @@ class Course:
         return worst
 
 
-def send_list(path: str, desk: Desk, options: Options, trial: bool) -> End:
-    """Sends all pages of a list, or tries what would become of them."""
+def send_list(path: str, desk: Desk, options: Options, trial: bool, jobs: int = 1) -> End:
+    """Sends all pages of a list, or tries what would become of them; so many are collected beside each other."""
     entries = read_entries(path)
     course = Course(desk, len(entries), trial)
     imports = Imports(desk, course.tell, course.fail)
     with contextlib.ExitStack() as stack:
         rehearsal = stack.enter_context(Rehearsal()) if trial else None
-        for one in entries:
+        ahead = stack.enter_context(Ahead(jobs, options))
+        for one, version in ahead.versions(entries):
             try:
-                prepared = prepare(desk, one.target, version_of(one.source, dataclasses.replace(options, url=one.url)))
+                prepared = prepare(desk, one.target, version.result())
                 if rehearsal is not None:
                     course.tell(rehearsal.send(prepared))
                 else:

@@ -1,6 +1,7 @@
 """The next version of a page: its snapshot, from a file or from a browser, and its picture where one is wanted."""
 from __future__ import annotations
 
+import contextlib
 import hashlib
 import json
 import re
@@ -10,7 +11,7 @@ from typing import Any
 from silvervole import check_form
 from silvervole.collect.ends import End, Stop, say
 from silvervole.collect.options import Options
-from silvervole.collect.pages import Collected, collect_page
+from silvervole.collect.pages import Collected, Holding, collect_page
 from silvervole.view.files import read
 from silvervole.view.outcomes import is_object
 from silvervole.view.page import Page, read_page, snapshot_in
@@ -43,15 +44,15 @@ def written(snapshot: dict[str, Any]) -> bytes:
     return json.dumps(snapshot, ensure_ascii=False, separators=(",", ":")).encode("utf-8")
 
 
-def version_of(source: str, options: Options, picture: str | None = None) -> Version:
-    """The version that an address or a file holds: a page is collected, a snapshot is read."""
+def version_of(source: str, options: Options, picture: str | None = None, holding: Holding = contextlib.nullcontext) -> Version:
+    """The version that an address or a file holds: a page is collected, a snapshot is read. A browser is held while it is at work."""
     if not re.match(r"(?i)(https?|file):", source):
         data = read(source)
         if is_object(data):
             if options.shot is not None and picture is None:
                 say("send", f"{source} is a snapshot, of which no picture can be taken; --picture names one")
             return read_version(data, source, picture)
-    return collected_version(source, options)
+    return collected_version(source, options, holding)
 
 
 def read_version(data: bytes, path: str, picture: str | None = None) -> Version:
@@ -63,10 +64,10 @@ def read_version(data: bytes, path: str, picture: str | None = None) -> Version:
     return Version(top, page, Picture(read(picture), boxes_in(read(f"{picture}.json"), data, picture)))
 
 
-def collected_version(source: str, options: Options) -> Version:
+def collected_version(source: str, options: Options, holding: Holding) -> Version:
     """The version that a browser shows."""
     taken: list[Collected] = []
-    collect_page(source, options, taken.append)
+    collect_page(source, options, taken.append, holding)
     for note in (note for collected in taken for note in collected.notes):
         say("send", f"{source}: {note}")
     data, shot = taken[0].text.encode("utf-8"), taken[0].shot
