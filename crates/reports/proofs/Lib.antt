@@ -4,3 +4,4 @@ pub mod Summing
 pub mod Records
 pub mod Ids
 pub mod Tokens
+pub mod Listed

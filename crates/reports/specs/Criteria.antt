@@ -1,6 +1,7 @@
 -- The success criteria of WCAG 2.2 that rules count under, and what the outcomes of pages come to under each.
-use Rattle.std.specs.Prelude.{ℕ, List, [], ◌∷◌, ◌==◌, map, filter, codes, Bool, true, false, if◌then◌else◌}
-use Rattle.std.specs.List.{flat_map, list_any}
+use Rattle.std.specs.Prelude.{◌≡◌, ℕ, List, [], ◌∷◌, ◌==◌, map, filter, codes, Bool, true, false, if◌then◌else◌}
+use Rattle.std.specs.List.{flat_map, list_any, count_by}
+use Rattle.std.specs.Str.{bytes_eq}
 use Rattle.rule_core.specs.declared.verdict.Auto.{Auto}
 use Rattle.rule_core.specs.declared.verdict.Auto.TheVariants as auto
 use Rattle.judge_core.specs.declared.outcomes.OutRow.{OutRow}
@@ -56,6 +57,27 @@ rules_of LanguageOfPage = 3 ∷ 4 ∷ []  -- b5c3f8 bf051a
 rules_of LanguageOfParts = 5 ∷ []  -- de46e4
 -- 97a4e1 c487ae 59796f e086e5 cae760 674b10 5f99a7 6a7281 4e8ab6 6cfa84
 rules_of NameRoleValue = 8 ∷ 9 ∷ 11 ∷ 12 ∷ 13 ∷ 18 ∷ 19 ∷ 20 ∷ 21 ∷ 23 ∷ []
+
+-- the criteria in the order of their numbers
+abbrev pub all_criteria : List Criterion
+all_criteria =
+    NonTextContent
+    ∷ InfoAndRelationships
+    ∷ InputPurpose
+    ∷ ResizeText
+    ∷ TimingAdjustable
+    ∷ BypassBlocks
+    ∷ PageTitled
+    ∷ LinkPurpose
+    ∷ HeadingsAndLabels
+    ∷ LanguageOfPage
+    ∷ LanguageOfParts
+    ∷ NameRoleValue
+    ∷ []
+
+-- each criterion stands once in a list: its number does
+abbrev pub HasEachOnce : List Criterion → Type 0
+HasEachOnce listed = (criterion : Criterion) → count_by (λ other. bytes_eq (number_of criterion) (number_of other)) listed ≡ 1
 
 -- the row is of a rule that counts under the criterion
 abbrev pub counts_under : Criterion → OutRow → Bool

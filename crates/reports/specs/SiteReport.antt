@@ -6,11 +6,10 @@ use Rattle.rule_core.specs.declared.verdict.Auto.TheVariants.{Passed, Failed, Ca
 use Rattle.judge_core.specs.declared.outcomes.OutRow.{OutRow}
 use Rattle.keep_core.specs.declared.page.SitePage.{SitePage}
 use Rattle.reports.specs.declared.criterion.Criterion.{Criterion}
-use Rattle.reports.specs.declared.criterion.TheConstants.{CRITERIA}
 use Rattle.reports.specs.declared.sums.Sums.{Sums}
 use Rattle.reports.specs.declared.sums.TheConstants.{MOST_SUM}
 use Rattle.reports.specs.TextReport.{line_end, count_of, inapplicable, totals_line}
-use Rattle.reports.specs.Criteria.{number_of, level_of, level_word, criteria, result_word}
+use Rattle.reports.specs.Criteria.{number_of, level_of, all_criteria, level_word, criteria, result_word}
 
 -- ---- sums
 
@@ -64,5 +63,5 @@ unfoldable pub site_report : List ℕ → List RuleInfo → List SitePage → Li
 site_report site infos pages =
     codes "site " ++ site ++ line_end
     ++ flat_map (page_line infos) pages
-    ++ flat_map (criterion_line pages) CRITERIA
+    ++ flat_map (criterion_line pages) all_criteria
     ++ total_line infos pages

@@ -1,5 +1,5 @@
 ghost use Rattle.std.specs.Prelude.{◌≡◌, [], ◌∷◌};
-ghost use Rattle.reports.specs.Criteria.{number_of, level_of, rules_of, counts_under, criteria, level_word, result_word};
+ghost use Rattle.reports.specs.Criteria.{number_of, level_of, rules_of, all_criteria, HasEachOnce, counts_under, criteria, level_word, result_word};
 ghost use Rattle.reports.specs.Walking.{worse, result_in, told};
 
 use judge_core::OutRow;
@@ -70,6 +70,15 @@ pub const CRITERIA: [Criterion; 12] = [
     Criterion::LanguageOfParts,
     Criterion::NameRoleValue,
 ];
+
+/// Laws of the criteria. It does nothing: the clauses are what it is for.
+///
+/// The list of criteria is that of the definition, and each criterion stands once in it.
+#[tactic(auto, using(crate::proofs::Listed::has_each_once))]
+pub fn laws_of_criteria()
+    ensures listed { CRITERIA ≡ all_criteria }
+    ensures once { HasEachOnce CRITERIA }
+{}
 
 impl Criterion {
     /// Its number in WCAG 2.2.

@@ -15,7 +15,7 @@ mod term;
 mod text;
 
 pub use assertions::earl;
-pub use criterion::{CRITERIA, Criterion, Level, Result4, criteria};
+pub use criterion::{CRITERIA, Criterion, Level, Result4, criteria, laws_of_criteria};
 pub use site::site_report;
 pub use summary::summary_line;
 pub use sums::{MOST_SUM, Sums, page_sums};

@@ -1,7 +1,7 @@
 ghost use Rattle.std.specs.Prelude.{◌≡◌, ◌++◌, codes, IfOk, OnOk};
 ghost use Rattle.std.specs.List.{flat_map};
 ghost use Rattle.std.specs.String.{string_bytes};
-ghost use Rattle.reports.specs.declared.criterion.TheConstants.{CRITERIA};
+ghost use Rattle.reports.specs.Criteria.{all_criteria};
 ghost use Rattle.reports.specs.TextReport.{line_end};
 ghost use Rattle.reports.specs.SiteReport.{page_front, page_line, page_sums, site_sums, sums_line, criterion_line, total_front, site_report};
 
@@ -110,7 +110,7 @@ fn push_sums(
 
 // Adds the lines of the criteria.
 fn push_criteria(report: &mut Vec<u8>, pages: &[SitePage]) -> Result<(), OutOfMemory>
-    ensures { OnOk result (report.new.items ≡ report.old.items ++ flat_map (criterion_line pages.now) CRITERIA) }
+    ensures { OnOk result (report.new.items ≡ report.old.items ++ flat_map (criterion_line pages.now) all_criteria) }
 {
     for criterion in CRITERIA.as_slice() {
         push_criterion(report, pages, *criterion)?;
