@@ -6,6 +6,8 @@ import re
 import sys
 from typing import Any
 
+from silvervole.view.rules import read_rules
+
 from .support import DESK, PAGES, ROOT, SITE, collect_here, expect, form, run, same, well_formed
 
 
@@ -71,7 +73,7 @@ def test_defects() -> None:
         stray = [line for line in lines[name] if int(line.split()[2]) not in elements]
         same(f"{name}: defects on no element", stray, [])
     named = [line.split() for name in PAGES for line in lines[name]]
-    same("the number of rules with a defect", len({words[0] for words in named}), 30)
+    same("the rules with a defect", sorted({words[0] for words in named}), sorted(read_rules().rules))
     # These two rules always need a person: they have no failed condition.
     same("the rules without a failure", sorted({words[0] for words in named} - {words[0] for words in named if words[3] == "failed"}),
          ["b49b2e", "c4a8a4"])
