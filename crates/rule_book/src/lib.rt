@@ -1,6 +1,6 @@
-//! The book of the thirty ACT rules, in the order of their numbers: twenty-nine atomic rules, which
-//! `rules_page`, `rules_bypass`, `rules_names`, `rules_aria` and `rules_tables` restate, and one composite rule over
-//! the four of `rules_bypass`. Start with [`Thirty`], or with [`infos`] for what the rules say of themselves.
+//! The book of all rules, in the order of their numbers: the atomic ones, which `rules_page`, `rules_bypass`,
+//! `rules_names`, `rules_aria` and `rules_tables` restate, and a composite one over those of `rules_bypass`. Start with
+//! [`Thirty`], or with [`infos`] for what the rules say of themselves.
 #![tactic(auto)]
 
 mod table;

@@ -1,4 +1,4 @@
-//! A request to two desks of the thirty rules, one of which keeps in memory.
+//! A request to two desks with books of all rules, one of which keeps in memory.
 
 use desk_http::serve_link;
 use fixture_requests::link_of;

@@ -1,4 +1,4 @@
-//! Judgements of the thirty rules' outcomes.
+//! Judgements of the outcomes of all rules.
 
 use desk_core::Summary;
 use fixture_pages::Node::{Html, Stop, Words};

@@ -1,5 +1,5 @@
 //! Tests that cross crates: imports, by one book and by several at once, a site that is full, and judgements
-//! by the thirty rules. There is no call of its own.
+//! by all rules. There is no call of its own.
 #![tactic(auto)]
 
 #[cfg(test)]

@@ -1,4 +1,4 @@
-//! Reports of pages by the book of the thirty rules, with what people judged.
+//! Reports of pages by the book of all rules, with what people judged.
 use audit::audit_page;
 use judge_core::Judgement;
 use reports::text_report;

@@ -1,4 +1,4 @@
-//! `run` over a source, sinks, a keeper and a door in memory, with sixteen books of the thirty rules.
+//! `run` over a source, sinks, a keeper and a door in memory, with sixteen books of all rules.
 ghost use Rattle.std.specs.Prelude.{◌≡◌, ◌<◌, None, IfOk, vec_len};
 ghost use Rattle.std.specs.List.{AllByRecursion};
 ghost use Rattle.links.specs.Memory.{IsUntouchedLink};

@@ -1,4 +1,4 @@
-//! Connections in memory to a desk of the thirty rules.
+//! Connections in memory to a desk with the book of all rules.
 
 ghost use Rattle.std.specs.Prelude.{◌<◌, length};
 

@@ -1,4 +1,4 @@
-//! `run_store` over stores in memory, with a book of the thirty rules and a door whose one link brings a request.
+//! `run_store` over stores in memory, with a book of all rules and a door whose one link brings a request.
 
 ghost use Rattle.std.specs.Prelude.{◌≡◌, ◌<◌, None, IfOk, vec_len};
 
