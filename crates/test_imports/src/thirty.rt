@@ -77,7 +77,7 @@ const ORDINARY_SUMS: Summary = Summary {
     inapplicable: 13,
 };
 
-fn books_of_all(alloc: Global, count: u32) -> Result<Vec<Thirty>, OutOfMemory> {
+fn thirties(alloc: Global, count: u32) -> Result<Vec<Thirty>, OutOfMemory> {
     let mut books = Vec::new(alloc);
     for _ in 0..count {
         books.push(Thirty::new())?;
@@ -147,7 +147,7 @@ fn fault_in(reply: &Reply) -> Option<(u8, Option<NodeId>, &str)> {
 
 // An import of which one page is no tree keeps none, and the same with a tree there keeps all, by so many books.
 fn import_twice<R: Threads + Sync + Abort>(rt: &R, alloc: Global, count: u32) -> Result<(), Fail> {
-    let mut books = books_of_all(alloc, count)?;
+    let mut books = thirties(alloc, count)?;
     let books = books.as_mut_slice();
     assert!(rt; 0 < books.len());
     let mut keeper = keeper_of(rt, alloc, &[])?;
