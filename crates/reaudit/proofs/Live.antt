@@ -65,7 +65,7 @@ live_known old new marks placed live p is = subst (AreKnown old new) (sym is) (s
 
 -- the rows that a rule had stand in the order of those nodes
 pub had_live : (book : Book) (rule : RuleNo) (old new : Document) (earlier : List Judgement) (marks : List Bool) (placed live : List Placed) (own : List OutRow) → ArePlaced old new placed → same_nodes (rows_of old.trees) (rows_of new.trees) ≡ true
-    → live ≡ live_by marks placed → own ≡ atomic_rows book old earlier rule → AreMarked marks own → HadRows book old earlier rule live own
+    → live ≡ live_by marks placed → own ≡ atomic_rows book old earlier rule → AreMarked marks own → HadRows book rule live own old earlier
 had_live book rule old new earlier marks placed live own p same is had all =
     let f : NodeId → Option OutRow = atomic_row book old earlier rule in
     let nodes = of_same (λ n. n) (rows_of old.trees) (rows_of new.trees) same ∙ numbers_are old new placed p in

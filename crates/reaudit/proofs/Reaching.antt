@@ -73,7 +73,7 @@ none_kept page None = refl
 none_kept page (Some known) = none_at (rows_of page.trees) known.place
 
 -- a rule without rows had none on a node
-none_had : (book : Book) (old new : Document) (js : List Judgement) (rule : RuleNo) → [] ≡ atomic_rows book old js rule → (p : Placed) → p ≡ placed_of old new p.node → HadRow book old js rule p None
+none_had : (book : Book) (old new : Document) (js : List Judgement) (rule : RuleNo) → [] ≡ atomic_rows book old js rule → (p : Placed) → p ≡ placed_of old new p.node → HadRow book rule p None old js
 none_had book old new js rule h p is =
     had_at book old new js rule p.node (none_on old) (sym (none_of_each (atomic_row book old js rule) (rows_of old.trees) h)) p.known (ap (λ (p : Placed). p.known) is) None (sym (none_kept old p.known))
 
@@ -81,10 +81,10 @@ no_place : (known : Option Known) → kept_at [] known ≡ None
 no_place None = refl
 no_place (Some known) = refl
 
-pub keeps_none : (book : Book) (old new : Document) (js : List Judgement) (rule : RuleNo) → [] ≡ atomic_rows book old js rule → KeepsRows book old new js rule []
-keeps_none book old new js rule h = record { each = λ p is. subst (HadRow book old js rule p) (sym (no_place p.known)) (none_had book old new js rule h p is) }
+pub keeps_none : (book : Book) (old new : Document) (js : List Judgement) (rule : RuleNo) → [] ≡ atomic_rows book old js rule → KeepsRows book rule new [] old js
+keeps_none book old new js rule h = record { each = λ p is. subst (λ row. HadRow book rule p row old js) (sym (no_place p.known)) (none_had book old new js rule h p is) }
 
-pub keeps_rows : (book : Book) (old new : Document) (js : List Judgement) (rule : RuleNo) (before : List (Option OutRow)) → WereRows book old js rule before → KeepsRows book old new js rule before
+pub keeps_rows : (book : Book) (old new : Document) (js : List Judgement) (rule : RuleNo) (before : List (Option OutRow)) → WereRows book old js rule before → KeepsRows book rule new before old js
 keeps_rows book old new js rule before w = record { each = λ p is. had_at book old new js rule p.node before w p.known (ap (λ (p : Placed). p.known) is) (kept_at before p.known) refl }
 
 both : (a b : Bool) → (a && b) ≡ true → (a ≡ true) × (b ≡ true)

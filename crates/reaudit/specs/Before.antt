@@ -25,13 +25,13 @@ abbrev pub WereRows : Book → Document → List Judgement → RuleNo → List (
 WereRows book old js rule before = before ≡ map (λ row. atomic_row book old js rule row.id) (rows_of old.trees)
 
 -- the row that a rule had on a node, where the old page holds the node
-abbrev pub HadRow : Book → Document → List Judgement → RuleNo → Placed → Option OutRow → Type 0
-HadRow book old js rule placed row = IfSome placed.known (λ k. row ≡ atomic_row book old js rule placed.node)
+abbrev pub HadRow : Book → RuleNo → Placed → Option OutRow → Document → List Judgement → Type 0
+HadRow book rule placed row old js = IfSome placed.known (λ k. row ≡ atomic_row book old js rule placed.node)
 
 -- the rows that a rule had on the nodes of the old page that the new one holds, each at the place of its node
-pub record KeepsRows (book : Book) (old new : Document) (js : List Judgement) (rule : RuleNo) (before : List (Option OutRow)) : Type 0 where
-  pub each : (p : Placed) → p ≡ placed_of old new p.node → HadRow book old js rule p (kept_at before p.known)
+pub record KeepsRows (book : Book) (rule : RuleNo) (new : Document) (before : List (Option OutRow)) (old : Document) (js : List Judgement) : Type 0 where
+  pub each : (p : Placed) → p ≡ placed_of old new p.node → HadRow book rule p (kept_at before p.known) old js
 
 -- the rows that a rule had, where the nodes of the old page are these, in their order
-abbrev pub HadRows : Book → Document → List Judgement → RuleNo → List Placed → List OutRow → Type 0
-HadRows book old js rule placed rows = rows ≡ filter_map (atomic_row book old js rule) (map (λ p. p.node) placed)
+abbrev pub HadRows : Book → RuleNo → List Placed → List OutRow → Document → List Judgement → Type 0
+HadRows book rule placed rows old js = rows ≡ filter_map (atomic_row book old js rule) (map (λ p. p.node) placed)

@@ -4,3 +4,4 @@ pub mod Before
 pub mod Costs
 pub mod Marks
 pub mod Nodes
+pub mod Again

@@ -1,18 +1,16 @@
-ghost use Rattle.std.specs.Prelude.{◌≡◌, ◌+◌, ◌≤◌, ◌++◌, ◌&&◌, not, true, [], List, length, map, filter, if◌then◌else◌, option_map, IfOk, OnOk};
-ghost use Rattle.std.specs.Option.{option_copied, option_to_list};
-ghost use Rattle.std.specs.List.{Contains, filter_map};
-ghost use Rattle.snap_tree.specs.Trees.{Document};
+ghost use Rattle.std.specs.Prelude.{◌≡◌, ◌+◌, ◌≤◌, ◌&&◌, not, true, [], List, length, map, if◌then◌else◌, option_map, IfOk};
+ghost use Rattle.std.specs.Option.{option_copied};
+ghost use Rattle.std.specs.List.{Contains};
 ghost use Rattle.rule_core.specs.Pages.{node_count};
 ghost use Rattle.judge_core.specs.declared.judgement.Judgement.{Judgement};
 ghost use Rattle.judge_core.specs.Outcomes.{atomic_row, atomic_rows};
 ghost use Rattle.judged_rows.specs.Again.{again};
 ghost use Rattle.judged_rows.specs.ByNode.{IsByNode};
-ghost use Rattle.rule_core.specs.Reach.{is_affected, affected_nodes};
-ghost use Rattle.rule_core.specs.Local.{AreVersions};
+ghost use Rattle.reaudit.specs.Again.{Adds, AddsRow, CostsRow, FindsRows, CostsRows, FindsAgain, CostsAgain};
 ghost use Rattle.reaudit.specs.Before.{HadRow, HadRows, KeepsRows};
-ghost use Rattle.reaudit.specs.Known.{placed_of, class_flag, has_to_judge};
+ghost use Rattle.reaudit.specs.Known.{class_flag, has_to_judge};
 ghost use Rattle.reaudit.specs.Marks.{AreMarked};
-ghost use Rattle.reaudit.specs.Nodes.{AreKnown, AreNodes, is_settled};
+ghost use Rattle.reaudit.specs.Nodes.{AreNodes, is_settled};
 
 use crate::before::{row_before, rows_before};
 use crate::known::{Known, Placed, well};
@@ -35,7 +33,7 @@ fn add_judged<B: RuleBook>(
     node: NodeId,
 ) -> Result<(), OutOfMemory>
     ensures row { (js : List Judgement) → IsByNode js by_node.now
-        → OnOk result (rows.new.items ≡ rows.old.items ++ option_to_list (atomic_row B.book tree.now js rule node)) }
+        → Adds (atomic_row B.book tree.now js rule node) rows.old.items rows.new.items result }
     ensures counted { B.calls book.new ≤ B.calls book.old + 1 }
 {
     if let Some(verdict) = book.judge(alloc, tree, rule, node)? {
@@ -52,7 +50,7 @@ fn add_kept(
     by_node: &ByNode<'_>,
 ) -> Result<(), OutOfMemory>
     ensures { (js : List Judgement) → IsByNode js by_node.now
-        → OnOk result (rows.new.items ≡ rows.old.items ++ option_to_list (option_map (again js) (option_copied row.entry))) }
+        → Adds (option_map (again js) (option_copied row.entry)) rows.old.items rows.new.items result }
 {
     if let Some(row) = row {
         rows.push(row_again(alloc, row, by_node)?)?;
@@ -97,13 +95,10 @@ fn add_either<B: RuleBook>(
     by_node: &ByNode<'_>,
     placed: Placed,
 ) -> Result<(), OutOfMemory>
-    ensures row { (old : Document) (earlier js : List Judgement) → Contains B.book.infos info.now → AreVersions old new.now
-        → placed ≡ placed_of old new.now placed.node → HadRow B.book old earlier info.now.no placed (option_copied row.entry)
-        → IsByNode js by_node.now
-        → OnOk result (rows.new.items ≡ rows.old.items ++ option_to_list (atomic_row B.book new.now js info.now.no placed.node)) }
-    ensures counted { (old : Document) (js : List Judgement) → placed ≡ placed_of old new.now placed.node
-        → HadRow B.book old js info.now.no placed (option_copied row.entry)
-        → B.calls book.new ≤ B.calls book.old + (if is_affected info.now (B.book.means info.now.no) old new.now placed.node then 1 else 0) }
+    ensures row { AddsRow B.book info.now new.now placed (HadRow B.book info.now.no placed (option_copied row.entry))
+        by_node.now rows.old.items rows.new.items result }
+    ensures counted { CostsRow B.book info.now new.now placed (HadRow B.book info.now.no placed (option_copied row.entry))
+        (B.calls book.old) (B.calls book.new) }
     ensures within { B.calls book.new ≤ B.calls book.old + 1 }
 {
     if has_to_judge(info, placed.known, row.is_some()) {
@@ -131,13 +126,10 @@ fn add_found<B: RuleBook>(
     by_node: &ByNode<'_>,
     placed: Placed,
 ) -> Result<(), OutOfMemory>
-    ensures row { (old : Document) (earlier js : List Judgement) → Contains B.book.infos info.now → AreVersions old new.now
-        → placed ≡ placed_of old new.now placed.node → HadRow B.book old earlier info.now.no placed (option_copied row.entry)
-        → IsByNode js by_node.now
-        → OnOk result (rows.new.items ≡ rows.old.items ++ option_to_list (atomic_row B.book new.now js info.now.no placed.node)) }
-    ensures counted { (old : Document) (js : List Judgement) → placed ≡ placed_of old new.now placed.node
-        → HadRow B.book old js info.now.no placed (option_copied row.entry)
-        → B.calls book.new ≤ B.calls book.old + (if is_affected info.now (B.book.means info.now.no) old new.now placed.node then 1 else 0) }
+    ensures row { AddsRow B.book info.now new.now placed (HadRow B.book info.now.no placed (option_copied row.entry))
+        by_node.now rows.old.items rows.new.items result }
+    ensures counted { CostsRow B.book info.now new.now placed (HadRow B.book info.now.no placed (option_copied row.entry))
+        (B.calls book.old) (B.calls book.new) }
     ensures within { B.calls book.new ≤ B.calls book.old + 1 }
 {
     if is_quiet(placed.known, row.is_some()) {
@@ -157,13 +149,10 @@ fn add_row<B: RuleBook>(
     by_node: &ByNode<'_>,
     placed: Placed,
 ) -> Result<(), OutOfMemory>
-    ensures row { (old : Document) (earlier js : List Judgement) → Contains B.book.infos info.now → AreVersions old new.now
-        → placed ≡ placed_of old new.now placed.node → KeepsRows B.book old new.now earlier info.now.no (map option_copied before.now)
-        → IsByNode js by_node.now
-        → OnOk result (rows.new.items ≡ rows.old.items ++ option_to_list (atomic_row B.book new.now js info.now.no placed.node)) }
-    ensures counted { (old : Document) (js : List Judgement) → placed ≡ placed_of old new.now placed.node
-        → KeepsRows B.book old new.now js info.now.no (map option_copied before.now)
-        → B.calls book.new ≤ B.calls book.old + (if is_affected info.now (B.book.means info.now.no) old new.now placed.node then 1 else 0) }
+    ensures row { AddsRow B.book info.now new.now placed (KeepsRows B.book info.now.no new.now (map option_copied before.now))
+        by_node.now rows.old.items rows.new.items result }
+    ensures counted { CostsRow B.book info.now new.now placed (KeepsRows B.book info.now.no new.now (map option_copied before.now))
+        (B.calls book.old) (B.calls book.new) }
     ensures within { B.calls book.new ≤ B.calls book.old + 1 }
 {
     let row = row_before(before, placed.known);
@@ -180,13 +169,9 @@ fn placed_rows<B: RuleBook>(
     by_node: &ByNode<'_>,
     some: &[Placed],
 ) -> Result<Vec<OutRow>, OutOfMemory>
-    ensures rows { (old : Document) (earlier js : List Judgement) → Contains B.book.infos info.now → AreVersions old new.now
-        → AreKnown old new.now some.now → KeepsRows B.book old new.now earlier info.now.no (map option_copied before.now)
-        → IsByNode js by_node.now
-        → IfOk result (λ rows. rows.items ≡ filter_map (λ p. atomic_row B.book new.now js info.now.no p.node) some.now) }
-    ensures counted { (old : Document) (js : List Judgement) → AreKnown old new.now some.now
-        → KeepsRows B.book old new.now js info.now.no (map option_copied before.now)
-        → B.calls book.new ≤ B.calls book.old + length (filter (λ p. is_affected info.now (B.book.means info.now.no) old new.now p.node) some.now) }
+    ensures rows { FindsRows B.book info.now new.now some.now (KeepsRows B.book info.now.no new.now (map option_copied before.now)) by_node.now result }
+    ensures counted { CostsRows B.book info.now new.now some.now (KeepsRows B.book info.now.no new.now (map option_copied before.now))
+        (B.calls book.old) (B.calls book.new) }
     ensures within { B.calls book.new ≤ B.calls book.old + length some.now }
 {
     let mut rows = Vec::new(alloc);
@@ -207,13 +192,9 @@ fn rows_along<B: RuleBook>(
     own: &[OutRow],
     by_node: &ByNode<'_>,
 ) -> Result<Vec<OutRow>, OutOfMemory>
-    ensures rows { (old : Document) (earlier js : List Judgement) → Contains B.book.infos info.now → AreVersions old new.now
-        → AreKnown old new.now some.now → HadRows B.book old earlier info.now.no some.now own.now
-        → IsByNode js by_node.now
-        → IfOk result (λ rows. rows.items ≡ filter_map (λ p. atomic_row B.book new.now js info.now.no p.node) some.now) }
-    ensures counted { (old : Document) (js : List Judgement) → AreKnown old new.now some.now
-        → HadRows B.book old js info.now.no some.now own.now
-        → B.calls book.new ≤ B.calls book.old + length (filter (λ p. is_affected info.now (B.book.means info.now.no) old new.now p.node) some.now) }
+    ensures rows { FindsRows B.book info.now new.now some.now (HadRows B.book info.now.no some.now own.now) by_node.now result }
+    ensures counted { CostsRows B.book info.now new.now some.now (HadRows B.book info.now.no some.now own.now)
+        (B.calls book.old) (B.calls book.new) }
     ensures within { B.calls book.new ≤ B.calls book.old + length some.now }
 {
     let mut rows = Vec::new(alloc);
@@ -242,10 +223,8 @@ fn rows_in_order<B: RuleBook>(
     requires nodes { AreNodes old.now new.now nodes.now }
     requires marked { AreMarked nodes.now.marks.items rows.now }
     requires order { nodes.now.in_order ≡ true }
-    ensures rows { (earlier js : List Judgement) → rows.now ≡ atomic_rows B.book old.now earlier info.now.no
-        → IsByNode js by_node.now → IfOk result (λ rows. rows.items ≡ atomic_rows B.book new.now js info.now.no) }
-    ensures counted { (earlier : List Judgement) → rows.now ≡ atomic_rows B.book old.now earlier info.now.no
-        → B.calls book.new ≤ B.calls book.old + length (affected_nodes info.now (B.book.means info.now.no) old.now new.now) }
+    ensures rows { FindsAgain B.book info.now old.now new.now rows.now by_node.now result }
+    ensures counted { CostsAgain B.book info.now old.now new.now rows.now (B.calls book.old) (B.calls book.new) }
     ensures within { B.calls book.new ≤ B.calls book.old + node_count new.now }
 {
     well(old);
@@ -269,10 +248,8 @@ fn rows_by_rows<B: RuleBook>(
     requires address { old.now.address ≡ new.now.address }
     requires nodes { AreNodes old.now new.now nodes.now }
     requires marked { AreMarked nodes.now.marks.items rows.now }
-    ensures rows { (earlier js : List Judgement) → rows.now ≡ atomic_rows B.book old.now earlier info.now.no
-        → IsByNode js by_node.now → IfOk result (λ rows. rows.items ≡ atomic_rows B.book new.now js info.now.no) }
-    ensures counted { (earlier : List Judgement) → rows.now ≡ atomic_rows B.book old.now earlier info.now.no
-        → B.calls book.new ≤ B.calls book.old + length (affected_nodes info.now (B.book.means info.now.no) old.now new.now) }
+    ensures rows { FindsAgain B.book info.now old.now new.now rows.now by_node.now result }
+    ensures counted { CostsAgain B.book info.now old.now new.now rows.now (B.calls book.old) (B.calls book.new) }
     ensures within { B.calls book.new ≤ B.calls book.old + node_count new.now }
 {
     well(old);
@@ -295,10 +272,8 @@ fn rows_by_none<B: RuleBook>(
     requires known { Contains B.book.infos info.now }
     requires address { old.now.address ≡ new.now.address }
     requires nodes { AreNodes old.now new.now nodes.now }
-    ensures rows { (earlier js : List Judgement) → [] ≡ atomic_rows B.book old.now earlier info.now.no
-        → IsByNode js by_node.now → IfOk result (λ rows. rows.items ≡ atomic_rows B.book new.now js info.now.no) }
-    ensures counted { (earlier : List Judgement) → [] ≡ atomic_rows B.book old.now earlier info.now.no
-        → B.calls book.new ≤ B.calls book.old + length (affected_nodes info.now (B.book.means info.now.no) old.now new.now) }
+    ensures rows { FindsAgain B.book info.now old.now new.now [] by_node.now result }
+    ensures counted { CostsAgain B.book info.now old.now new.now [] (B.calls book.old) (B.calls book.new) }
     ensures within { B.calls book.new ≤ B.calls book.old + node_count new.now }
 {
     well(old);
@@ -328,8 +303,7 @@ pub fn atomic_again<B: RuleBook>(
     requires marked { AreMarked nodes.now.marks.items rows.now }
     ensures rows { (earlier js : List Judgement) → rows.now ≡ atomic_rows B.book old.now earlier info.now.no
         → IsByNode js by_node.now → IfOk result (λ rows. rows ≡ atomic_rows B.book new.now js info.now.no) }
-    ensures counted { (earlier : List Judgement) → rows.now ≡ atomic_rows B.book old.now earlier info.now.no
-        → B.calls book.new ≤ B.calls book.old + length (affected_nodes info.now (B.book.means info.now.no) old.now new.now) }
+    ensures counted { CostsAgain B.book info.now old.now new.now rows.now (B.calls book.old) (B.calls book.new) }
     ensures within { B.calls book.new ≤ B.calls book.old + node_count new.now }
 {
     if rows.is_empty() {

@@ -15,9 +15,9 @@ abbrev pub invariant-loop-it : goal.invariant-loop-it
 invariant-loop-it g l =
     let book = g.B.RuleBook.book in
     record {
-      rows : (old : Document) (earlier js : List Judgement) → Contains book.infos l.info → AreVersions old l.new → AreKnown old l.new l.some → KeepsRows book old l.new earlier l.info.no (map option_copied l.before) → IsByNode js l.by_node
+      rows : (old : Document) (earlier js : List Judgement) → Contains book.infos l.info → AreVersions old l.new → AreKnown old l.new l.some → KeepsRows book l.info.no l.new (map option_copied l.before) old earlier → IsByNode js l.by_node
           → l.rows.items ≡ filter_map (λ p. atomic_row book l.new js l.info.no p.node) (take l.it-index l.some);
-      counted : (old : Document) (earlier : List Judgement) → AreKnown old l.new l.some → KeepsRows book old l.new earlier l.info.no (map option_copied l.before)
+      counted : (old : Document) (earlier : List Judgement) → AreKnown old l.new l.some → KeepsRows book l.info.no l.new (map option_copied l.before) old earlier
           → g.B.RuleBook.calls l.book ≤ g.B.RuleBook.calls l.initial.book + length (filter (λ p. is_affected l.info (book.means l.info.no) old l.new p.node) (take l.it-index l.some));
       within : g.B.RuleBook.calls l.book ≤ g.B.RuleBook.calls l.initial.book + l.it-index;
     }

@@ -14,10 +14,10 @@ abbrev pub invariant-loop-it : goal.invariant-loop-it
 invariant-loop-it g l =
     let book = g.B.RuleBook.book in
     record {
-      left : (old : Document) (earlier : List Judgement) → HadRows book old earlier l.info.no l.some l.own → l.left ≡ filter_map (atomic_row book old earlier l.info.no) (map (λ p. p.node) (drop l.it-index l.some));
-      rows : (old : Document) (earlier js : List Judgement) → Contains book.infos l.info → AreVersions old l.new → AreKnown old l.new l.some → HadRows book old earlier l.info.no l.some l.own → IsByNode js l.by_node
+      left : (old : Document) (earlier : List Judgement) → HadRows book l.info.no l.some l.own old earlier → l.left ≡ filter_map (atomic_row book old earlier l.info.no) (map (λ p. p.node) (drop l.it-index l.some));
+      rows : (old : Document) (earlier js : List Judgement) → Contains book.infos l.info → AreVersions old l.new → AreKnown old l.new l.some → HadRows book l.info.no l.some l.own old earlier → IsByNode js l.by_node
           → l.rows.items ≡ filter_map (λ p. atomic_row book l.new js l.info.no p.node) (take l.it-index l.some);
-      counted : (old : Document) (earlier : List Judgement) → AreKnown old l.new l.some → HadRows book old earlier l.info.no l.some l.own
+      counted : (old : Document) (earlier : List Judgement) → AreKnown old l.new l.some → HadRows book l.info.no l.some l.own old earlier
           → g.B.RuleBook.calls l.book ≤ g.B.RuleBook.calls l.initial.book + length (filter (λ p. is_affected l.info (book.means l.info.no) old l.new p.node) (take l.it-index l.some));
       within : g.B.RuleBook.calls l.book ≤ g.B.RuleBook.calls l.initial.book + l.it-index;
     }
