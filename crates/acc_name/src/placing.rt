@@ -14,7 +14,7 @@ use snap_tree::{Body, OutOfMemory, Row};
 
 /// What becomes of the text of a root.
 #[derive(Clone, Copy, Debug, PartialEq, Eq)]
-pub(crate) enum Place {
+pub(crate) enum TextPlace {
     /// It stands among the texts of the other roots.
     Among,
     /// It captions the node above, and takes the place of the other texts unless it is blank.
@@ -26,7 +26,7 @@ pub(crate) enum Place {
 /// Where the text of a root stands.
 #[derive(Clone, Copy, Debug)]
 pub(crate) struct Stand {
-    pub(crate) place: Place,
+    pub(crate) place: TextPlace,
     /// Where the texts of the roots begin.
     pub(crate) start: usize,
     /// Where the text of this root begins.
@@ -34,19 +34,19 @@ pub(crate) struct Stand {
 }
 
 /// What becomes of the text of a root, given what is known of those before it.
-pub(crate) fn place_of(first: Caption, kind: Option<CaptionKind>, row: &Row) -> Place
+pub(crate) fn place_of(first: Caption, kind: Option<CaptionKind>, row: &Row) -> TextPlace
     ensures { result ≡ place_at first (is_captioning kind (seen_row row.now)) }
 {
     match first {
         Caption::Absent => {
             if is_captioning(kind, row) {
-                Place::Captioning
+                TextPlace::Captioning
             } else {
-                Place::Among
+                TextPlace::Among
             }
         }
-        Caption::Blank => Place::Among,
-        Caption::Said => Place::Nowhere,
+        Caption::Blank => TextPlace::Among,
+        Caption::Said => TextPlace::Nowhere,
     }
 }
 
@@ -72,12 +72,16 @@ fn part(content: &mut String, row: &Row) -> Result<(), OutOfMemory>
 }
 
 /// Writes the space before the text of a root that stands among others.
-pub(crate) fn part_before(content: &mut String, place: Place, row: &Row) -> Result<(), OutOfMemory>
+pub(crate) fn part_before(
+    content: &mut String,
+    place: TextPlace,
+    row: &Row,
+) -> Result<(), OutOfMemory>
     ensures { OnOk result (string_bytes content.new ≡ string_bytes content.old ++ gap_before place (seen_row row.now)) }
 {
     match place {
-        Place::Among => part(content, row),
-        Place::Captioning | Place::Nowhere => Ok(()),
+        TextPlace::Among => part(content, row),
+        TextPlace::Captioning | TextPlace::Nowhere => Ok(()),
     }
 }
 
@@ -132,9 +136,9 @@ pub(crate) fn keep(
 {
     let Stand { place, start, mark } = stand;
     match place {
-        Place::Among => part(content, row),
-        Place::Captioning => keep_caption(content, start, mark, row, is_blank),
-        Place::Nowhere => {
+        TextPlace::Among => part(content, row),
+        TextPlace::Captioning => keep_caption(content, start, mark, row, is_blank),
+        TextPlace::Nowhere => {
             content.truncate(mark);
             Ok(())
         }

@@ -3,13 +3,13 @@
 //! output and error, over TCP and over a file, and what stands here, are the trusted edge.
 #![tactic(auto)]
 
-use desk_run::{Found, made_books, run, tell};
+use desk_run::{Found, StorePlace, Task, made_books, read_arguments, run, tell};
 use keep_core::MemoryKeeper;
 use keep_sql::SqlKeeper;
 use snap_tree::List;
 use sqlite::{Connection, Error, ErrorCode, File, FileStore};
 use std::process::ExitCode;
-use store_run::{Asked, Place, read_arguments, run_store};
+use store_run::run_store;
 use streams::{Reader, Sink, Writer};
 use tcp_door::{Patience, TcpDoor};
 
@@ -24,18 +24,18 @@ fn main(rt: HostRuntime) -> ExitCode {
     let Ok(mut books) = made_books(alloc) else {
         return ending(&mut out, &mut err, &Found::NoMemory);
     };
-    let Asked { place, words } = asked;
+    let Task { store, words } = asked;
     let mut input = Reader::new(rt.stdin());
     let mut door = TcpDoor::new(&rt, Patience::usual());
-    let number = match place {
-        Place::Memory => {
+    let number = match store {
+        StorePlace::Memory => {
             let mut kept = MemoryKeeper::new(alloc, List::from_vec(Vec::new(alloc)));
             run(
                 &rt, alloc, &words, &mut input, &mut out, &mut err, &mut kept, &mut door,
                 &mut books,
             )
         }
-        Place::File { path } => match opened(&rt, path.as_str()) {
+        StorePlace::File { path } => match opened(&rt, path.as_str()) {
             Ok(mut kept) => run_store(
                 &rt, alloc, &words, &mut input, &mut out, &mut err, &mut kept, &mut door,
                 &mut books,

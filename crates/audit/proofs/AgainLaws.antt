@@ -12,7 +12,7 @@ use Rattle.rule_core.specs.Books.{Book}
 use Rattle.judge_core.specs.declared.judgement.Judgement.{Judgement}
 use Rattle.judge_core.specs.declared.outcomes.OutRow.{OutRow}
 use Rattle.judge_core.specs.Outcomes.{row_of, atomic_row, merged_row, composite_row, composite_rows, inputs_of}
-use Rattle.judged_rows.specs.declared.parts.Part.{Part}
+use Rattle.judged_rows.specs.declared.parts.RulePart.{RulePart}
 use Rattle.judged_rows.specs.Merging.{AreOn}
 use Rattle.judged_rows.specs.Parts.{Suffice}
 use Rattle.judged_rows.proofs.PartLaws.{all_map}
@@ -67,7 +67,7 @@ turned : (P : NodeId → RuleNo → Type 0) (Q : NodeId → Type 0) (inputs : Li
 turned P Q [] h = tt
 turned P Q (input ∷ inputs) h = (λ n q. (h n q).0, turned P Q inputs (λ n q. (h n q).1))
 
-pub still_suffice : (book : Book) (page : Document) (before js : List Judgement) (part : Part) → part.nodes ≡ map (λ (r : OutRow). r.node) (composite_rows book page before part.info) → Suffice book page js part
+pub still_suffice : (book : Book) (page : Document) (before js : List Judgement) (part : RulePart) → part.nodes ≡ map (λ (r : OutRow). r.node) (composite_rows book page before part.info) → Suffice book page js part
 still_suffice book page before js part is =
     let f = composite_row book page before part.info in
     let on = composite_on book page before part.info in

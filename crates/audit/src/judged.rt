@@ -10,7 +10,7 @@ ghost use Rattle.judged_rows.specs.Parts.{IsPart};
 ghost use Rattle.judged_rows.specs.Again.{again};
 
 use judge_core::{Judgement, OutRow, Outcomes, infos_of};
-use judged_rows::{ByNode, Part, atomic_part, by_node, joined_parts, row_again, split_rule};
+use judged_rows::{ByNode, RulePart, atomic_part, by_node, joined_parts, row_again, split_rule};
 use rule_core::{RuleBook, RuleInfo};
 use snap_tree::{List, NodeId, OutOfMemory};
 use std::alloc::Global;
@@ -41,7 +41,7 @@ fn parts_again(
     infos: &[RuleInfo],
     rows: &[OutRow],
     by_node: &ByNode<'_>,
-) -> Result<Vec<Part>, OutOfMemory>
+) -> Result<Vec<RulePart>, OutOfMemory>
     ensures infos { IfOk result (λ parts. map (λ p. p.info) parts.items ≡ infos.now) }
     ensures parts { (book : Book) (page : Document) (before js : List Judgement) → IsTrue (rise infos.now)
         → infos.now ≡ book.infos → rows.now ≡ outcomes book page before → IsByNode js by_node.now
@@ -63,7 +63,7 @@ fn part_again(
     info: &RuleInfo,
     rows: &[OutRow],
     by_node: &ByNode<'_>,
-) -> Result<Part, OutOfMemory>
+) -> Result<RulePart, OutOfMemory>
     ensures info { IfOk result (λ part. part.info ≡ info.now) }
     ensures part { (book : Book) (page : Document) (before js : List Judgement)
         → rows.now ≡ rule_rows book page before info.now → IsByNode js by_node.now
@@ -73,7 +73,7 @@ fn part_again(
         let rows = rows_again(alloc, rows, by_node)?;
         Ok(atomic_part(alloc, info, List::from_vec(rows)))
     } else {
-        Ok(Part {
+        Ok(RulePart {
             info: *info,
             rows: List::from_vec(Vec::new(alloc)),
             nodes: List::from_vec(nodes_of(alloc, rows)?),

@@ -7,7 +7,7 @@ ghost use Rattle.judged_rows.specs.Parts.{IsPart};
 
 use crate::atomic::atomic_rows;
 use judge_core::{Judgement, Outcomes, infos_of};
-use judged_rows::{ByNode, Part, atomic_part, by_node, composite_part, joined_parts};
+use judged_rows::{ByNode, RulePart, atomic_part, by_node, composite_part, joined_parts};
 use rule_core::{RuleBook, RuleInfo};
 use snap_tree::{List, OutOfMemory, Tree};
 use std::alloc::Global;
@@ -39,7 +39,7 @@ fn parts_of<B: RuleBook>(
     infos: &[RuleInfo],
     tree: &Tree,
     by_node: &ByNode<'_>,
-) -> Result<Vec<Part>, OutOfMemory>
+) -> Result<Vec<RulePart>, OutOfMemory>
     ensures infos { IfOk result (λ parts. map (λ p. p.info) parts.items ≡ infos.now) }
     ensures parts { (js : List Judgement) → IsByNode js by_node.now → IfOk result
         (λ parts. AllByRecursion (IsPart B.book tree.now js) parts.items) }
@@ -60,7 +60,7 @@ fn part_of<B: RuleBook>(
     info: &RuleInfo,
     tree: &Tree,
     by_node: &ByNode<'_>,
-) -> Result<Part, OutOfMemory>
+) -> Result<RulePart, OutOfMemory>
     ensures info { IfOk result (λ part. part.info ≡ info.now) }
     ensures part { (js : List Judgement) → IsByNode js by_node.now → IfOk result
         (λ part. IsPart B.book tree.now js part) }

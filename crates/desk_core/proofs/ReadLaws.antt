@@ -17,8 +17,8 @@ use Rattle.desk_core.specs.declared.reply.Reply.{Reply}
 use Rattle.desk_core.specs.declared.refusal.Needed.TheVariants.{Reader}
 use Rattle.desk_core.specs.declared.refusal.Refusal.{Refusal}
 use Rattle.desk_core.specs.State.{PageState, page_state, state_of, site_at}
-use Rattle.desk_core.specs.declared.reads.Showing.{Showing}
-use Rattle.desk_core.specs.declared.reads.Showing.TheVariants as showing
+use Rattle.desk_core.specs.declared.reads.PageForm.{PageForm}
+use Rattle.desk_core.specs.declared.reads.PageForm.TheVariants as showing
 use Rattle.desk_core.specs.Reading.{answered, site_page, asked_as, shown_as}
 use Rattle.desk_core.specs.Steps.{Request, read_page, decided}
 use Rattle.desk_core.specs.Soundness.{IsSound, IsSoundSite, IsSoundPage}
@@ -65,18 +65,18 @@ read_shows book caller site page t s kept shown sound is there has same reply =
     (λ k at_site same_site. ap (λ (p : SitePage). answered (reply p)) (shown_is book kept shown same (found_is_true book t sound site page kept there has)))
 
 -- what is asked is decided by what is shown, which is no refusal
-asked : (book : Book) (caller site page : List ℕ) (way : Showing) (t : Tables)
+asked : (book : Book) (caller site page : List ℕ) (way : PageForm) (t : Tables)
     → decided book (record { caller = caller; command = asked_as way site page }) (state_of t) ≡ read_page caller page (site_at site (state_of t)) (λ p. shown_as way (site_page book p))
 asked book caller site page showing.Outcomes t = refl
 asked book caller site page showing.Report t = refl
 asked book caller site page showing.Earl t = refl
 
-shown_accepted : (way : Showing) (shown : SitePage) → IsAccepted (shown_as way shown)
+shown_accepted : (way : PageForm) (shown : SitePage) → IsAccepted (shown_as way shown)
 shown_accepted showing.Outcomes shown = tt
 shown_accepted showing.Report shown = tt
 shown_accepted showing.Earl shown = tt
 
-module _ (book : Book) (caller site page : List ℕ) (way : Showing) where
+module _ (book : Book) (caller site page : List ℕ) (way : PageForm) where
   abbrev request : Request
   request = record { caller = caller; command = asked_as way site page }
 

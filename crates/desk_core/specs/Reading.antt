@@ -5,8 +5,8 @@ use Rattle.judge_core.specs.Outcomes.{outcomes}
 use Rattle.keep_core.specs.declared.page.SitePage.{SitePage}
 use Rattle.desk_core.specs.declared.command.Command.{Command}
 use Rattle.desk_core.specs.declared.command.Command.TheVariants as command
-use Rattle.desk_core.specs.declared.reads.Showing.{Showing}
-use Rattle.desk_core.specs.declared.reads.Showing.TheVariants as showing
+use Rattle.desk_core.specs.declared.reads.PageForm.{PageForm}
+use Rattle.desk_core.specs.declared.reads.PageForm.TheVariants as showing
 use Rattle.desk_core.specs.declared.reply.Reply.{Reply}
 use Rattle.desk_core.specs.declared.reply.Reply.TheVariants as reply
 use Rattle.desk_core.specs.declared.reply.Sheet.{Sheet}
@@ -30,12 +30,12 @@ abbrev pub answered : Reply → Decision
 answered reply = Ok (record { change = None; reply = reply })
 
 -- a page is shown with its outcomes as it was asked for
-abbrev pub asked_as : Showing → List ℕ → List ℕ → Command
+abbrev pub asked_as : PageForm → List ℕ → List ℕ → Command
 asked_as showing.Outcomes site page = command.GetOutcomes site page
 asked_as showing.Report site page = command.GetReport site page
 asked_as showing.Earl site page = command.GetEarl site page
 
-abbrev pub shown_as : Showing → SitePage → Reply
+abbrev pub shown_as : PageForm → SitePage → Reply
 shown_as showing.Outcomes shown = reply.Outcomes shown
 shown_as showing.Report shown = reply.Report shown
 shown_as showing.Earl shown = reply.Earl shown

@@ -10,7 +10,7 @@ use crate::decided::Decided;
 use crate::look::find_page;
 use crate::refusal::{Needed, Refusal};
 use crate::reply::Reply;
-use crate::sent::Sent;
+use crate::sent::SentPage;
 use keep_core::{Change, Keeper, Page};
 use snap_tree::Text;
 use std::alloc::Global;
@@ -20,7 +20,7 @@ pub fn drop_page<K: Keeper>(
     alloc: Global,
     keeper: &mut K,
     caller: &Text,
-    sent: Sent,
+    sent: SentPage,
 ) -> Result<Decided, Refusal>
     requires site { IsTrue (is_name sent.site) }
     requires page { IsTrue (is_name sent.page) }
@@ -38,7 +38,7 @@ pub fn drop_page<K: Keeper>(
     decide(alloc, sent, &found)
 }
 
-fn decide(alloc: Global, sent: Sent, found: &Page) -> Result<Decided, Refusal>
+fn decide(alloc: Global, sent: SentPage, found: &Page) -> Result<Decided, Refusal>
     ensures { Agrees ⊥ result (drop_page sent.site sent.page sent.rev found.now) }
 {
     let current = found.head.rev;

@@ -18,7 +18,7 @@ use crate::look::find_whole;
 use crate::refusal::{Limit, Needed, Refusal};
 use crate::renewing::edited;
 use crate::room::has_revision;
-use crate::sent::Sent;
+use crate::sent::SentPage;
 use keep_core::{Keeper, KeptPage, Site};
 use rule_core::RuleBook;
 use snap_edit::{Edit, EditFault, apply};
@@ -44,7 +44,7 @@ fn edit_there<B: RuleBook>(
     alloc: Global,
     books: &mut [B],
     caller: &Text,
-    sent: Sent,
+    sent: SentPage,
     edits: &[Edit],
     site: &Site,
     kept: &KeptPage,
@@ -73,7 +73,7 @@ fn decide<B: RuleBook>(
     alloc: Global,
     books: &mut [B],
     caller: &Text,
-    sent: Sent,
+    sent: SentPage,
     edits: &[Edit],
     site: &Site,
     kept: &KeptPage,
@@ -112,7 +112,7 @@ pub fn edit_page<K: Keeper, B: RuleBook>(
     books: &mut [B],
     keeper: &mut K,
     caller: &Text,
-    sent: Sent,
+    sent: SentPage,
     edits: List<Edit>,
 ) -> Result<Decided, Refusal>
     requires some { 0 < length books.old }

@@ -13,10 +13,10 @@ use crate::import::import;
 use crate::judge::{Said, judge};
 use crate::members::{put_member, put_site};
 use crate::put_page::put_page;
-use crate::reads::{Showing, get_names, get_page, get_shown};
+use crate::reads::{PageForm, get_names, get_page, get_shown};
 use crate::refusal::Refusal;
 use crate::reply::Reply;
-use crate::sent::Sent;
+use crate::sent::SentPage;
 use crate::sheets::{SheetForm, get_sheet};
 use keep_core::Keeper;
 use rule_core::RuleBook;
@@ -91,11 +91,11 @@ fn decide<R: Threads + Sync, K: Keeper, B: RuleBook + Send>(
             rev,
             raw,
         } => {
-            let sent = Sent { site, page, rev };
+            let sent = SentPage { site, page, rev };
             put_page(alloc, books, keeper, caller, sent, raw)
         }
         Command::DropPage { site, page, rev } => {
-            let sent = Sent { site, page, rev };
+            let sent = SentPage { site, page, rev };
             drop_page(alloc, keeper, caller, sent)
         }
         Command::Import { site, entries } => {
@@ -107,7 +107,7 @@ fn decide<R: Threads + Sync, K: Keeper, B: RuleBook + Send>(
             rev,
             edits,
         } => {
-            let sent = Sent { site, page, rev };
+            let sent = SentPage { site, page, rev };
             edit_page(alloc, books, keeper, caller, sent, edits)
         }
         Command::Judge {
@@ -131,13 +131,13 @@ fn decide<R: Threads + Sync, K: Keeper, B: RuleBook + Send>(
         Command::GetPage { site, page } => get_page(alloc, keeper, caller, &site, &page),
         Command::GetNames { site, page } => get_names(alloc, keeper, caller, &site, &page),
         Command::GetOutcomes { site, page } => {
-            get_shown(alloc, keeper, caller, &site, &page, Showing::Outcomes)
+            get_shown(alloc, keeper, caller, &site, &page, PageForm::Outcomes)
         }
         Command::GetReport { site, page } => {
-            get_shown(alloc, keeper, caller, &site, &page, Showing::Report)
+            get_shown(alloc, keeper, caller, &site, &page, PageForm::Report)
         }
         Command::GetEarl { site, page } => {
-            get_shown(alloc, keeper, caller, &site, &page, Showing::Earl)
+            get_shown(alloc, keeper, caller, &site, &page, PageForm::Earl)
         }
         Command::SiteReport { site } => get_sheet(alloc, keeper, caller, site, SheetForm::Report),
         Command::SiteEarl { site } => get_sheet(alloc, keeper, caller, site, SheetForm::Earl),

@@ -16,7 +16,7 @@ use crate::look::{Survey, survey_site};
 use crate::refusal::{Limit, Refusal};
 use crate::renewing::renewed;
 use crate::room::{due, has_revision, has_room};
-use crate::sent::Sent;
+use crate::sent::SentPage;
 use keep_core::Keeper;
 use rule_core::RuleBook;
 use snap_tree::{BuildFault, Raw, Text, Tree};
@@ -39,7 +39,7 @@ fn put_there<B: RuleBook>(
     alloc: Global,
     books: &mut [B],
     caller: &Text,
-    sent: Sent,
+    sent: SentPage,
     raw: Raw,
     survey: &Survey,
 ) -> Result<Decided, Refusal>
@@ -62,7 +62,7 @@ fn decide<B: RuleBook>(
     alloc: Global,
     books: &mut [B],
     caller: &Text,
-    sent: Sent,
+    sent: SentPage,
     raw: Raw,
     survey: &Survey,
 ) -> Result<Decided, Refusal>
@@ -98,7 +98,7 @@ pub fn put_page<K: Keeper, B: RuleBook>(
     books: &mut [B],
     keeper: &mut K,
     caller: &Text,
-    sent: Sent,
+    sent: SentPage,
     raw: Raw,
 ) -> Result<Decided, Refusal>
     requires some { 0 < length books.old }

@@ -77,7 +77,7 @@ fn read_page<K: Keeper>(
 
 /// How a page is shown with its outcomes.
 #[derive(Clone, Copy, Debug, PartialEq, Eq)]
-pub enum Showing {
+pub enum PageForm {
     /// As they are.
     Outcomes,
     /// In a report.
@@ -86,13 +86,13 @@ pub enum Showing {
     Earl,
 }
 
-fn shown_as(showing: Showing, shown: SitePage) -> Decided
+fn shown_as(showing: PageForm, shown: SitePage) -> Decided
     ensures { result ≡ record { change = None; reply = shown_as showing shown } }
 {
     match showing {
-        Showing::Outcomes => answered(Reply::Outcomes(shown)),
-        Showing::Report => answered(Reply::Report(shown)),
-        Showing::Earl => answered(Reply::Earl(shown)),
+        PageForm::Outcomes => answered(Reply::Outcomes(shown)),
+        PageForm::Report => answered(Reply::Report(shown)),
+        PageForm::Earl => answered(Reply::Earl(shown)),
     }
 }
 
@@ -103,7 +103,7 @@ pub fn get_shown<K: Keeper>(
     caller: &Text,
     site: &Text,
     page: &Text,
-    showing: Showing,
+    showing: PageForm,
 ) -> Result<Decided, Refusal>
     ensures { (book : Book) → Decides book (record { caller = caller.now; command = asked_as showing site.now page.now })
         (told_of K.Keeper keeper.old) (told_of K.Keeper keeper.new) result }

@@ -9,7 +9,7 @@ ghost use Rattle.desk_core.specs.Serving.{Agrees, Edits, IsTrueTo};
 use crate::decided::Decided;
 use crate::refusal::Refusal;
 use crate::reply::Reply;
-use crate::sent::Sent;
+use crate::sent::SentPage;
 use crate::store::{page_edited, page_put, stored};
 use judge_core::Judgement;
 use keep_core::{Change, KeptPage, MOST_REVISION, PagePut};
@@ -45,7 +45,7 @@ pub fn renewed<B: RuleBook>(
     alloc: Global,
     books: &mut [B],
     caller: &Text,
-    sent: Sent,
+    sent: SentPage,
     counter: u64,
     js: &[Judgement],
     tree: Tree,
@@ -66,7 +66,7 @@ pub fn edited<B: RuleBook>(
     alloc: Global,
     books: &mut [B],
     caller: &Text,
-    sent: Sent,
+    sent: SentPage,
     counter: u64,
     kept: &KeptPage,
     tree: Tree,

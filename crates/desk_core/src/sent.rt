@@ -2,7 +2,7 @@ use snap_tree::Text;
 
 /// A page as a request names it: its site, its name, and the revision that the sender saw.
 #[derive(Drop)]
-pub struct Sent {
+pub struct SentPage {
     pub site: Text,
     pub page: Text,
     pub rev: u64,

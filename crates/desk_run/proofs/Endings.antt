@@ -7,8 +7,8 @@ use Rattle.snap_tree.specs.Trees.{Document}
 use Rattle.rule_core.specs.Books.{Book}
 use Rattle.audit_run.specs.declared.auditing.TheConstants.{MOST_READ}
 use Rattle.desk_words.specs.Words.{command_in}
-use Rattle.desk_words.specs.declared.command.Command.{Command}
-use Rattle.desk_words.specs.declared.command.Command.TheVariants.{Audit, Serve, Generate, Show}
+use Rattle.desk_words.specs.declared.command.ProgramCommand.{ProgramCommand}
+use Rattle.desk_words.specs.declared.command.ProgramCommand.TheVariants.{Audit, Serve, Generate, Show}
 use Rattle.desk_words.specs.declared.command.Serving.{Serving}
 use Rattle.desk_words.specs.declared.command.Generating.{Generating}
 use Rattle.desk_words.specs.declared.command.Showing.{Showing}
@@ -39,11 +39,11 @@ usage book words old new before now planned writing (inr (inl memory)) none = in
 usage book words old new before now planned writing (inr (inr has)) none = absurd (none-some has.command (sym none ∙ has.words_are))
 
 cause_of : {L : Type 0} (book : Book) (words : List (List ℕ)) (old new : Outside) (before now : Desk L) (planned : Status) (writing : Writing) → Cause book words old.input new.input before now planned writing →
-    (command : Command) → command_in words ≡ Some command → (planned ≡ NoMemory) ⊎ CommandCause command book old.input new.input before now planned writing
+    (command : ProgramCommand) → command_in words ≡ Some command → (planned ≡ NoMemory) ⊎ CommandCause command book old.input new.input before now planned writing
 cause_of book words old new before now planned writing (inl other) command is = absurd (none-some command (sym other.no_command ∙ is))
 cause_of book words old new before now planned writing (inr (inl memory)) command is = inl memory.status_is
 cause_of book words old new before now planned writing (inr (inr has)) command is =
-    inr (subst (λ (c : Command). CommandCause c book old.input new.input before now planned writing) (same_Some has.command command (sym has.words_are ∙ is)) has.cause)
+    inr (subst (λ (c : ProgramCommand). CommandCause c book old.input new.input before now planned writing) (same_Some has.command command (sym has.words_are ∙ is)) has.cause)
 
 bound_words : (planned status : Status) → OneOf (UsageFault ∷ NoMemory ∷ []) planned → (status ≡ planned) ⊎ (status ≡ WriteFault) → OneOf (UsageFault ∷ WriteFault ∷ NoMemory ∷ []) status
 bound_words planned status one (inr cut) = inr (inl cut)
@@ -174,7 +174,7 @@ outputs_none : {L : Type 0} (book : Book) (words : List (List ℕ)) (old new : O
 outputs_none book words old new before now planned writing (inl other) serving is = ap (λ (w : Writing). w.output) other.writes
 outputs_none book words old new before now planned writing (inr (inl memory)) serving is = ap (λ (w : Writing). w.output) memory.writes
 outputs_none book words old new before now planned writing (inr (inr has)) serving is =
-    let cause = subst (λ (c : Command). CommandCause c book old.input new.input before now planned writing) (same_Some has.command (Serve serving) (sym has.words_are ∙ is)) has.cause in
+    let cause = subst (λ (c : ProgramCommand). CommandCause c book old.input new.input before now planned writing) (same_Some has.command (Serve serving) (sym has.words_are ∙ is)) has.cause in
     no_output book serving before now planned writing cause.1
 
 audits : {L : Type 0} (book : Book) (old new : Outside) (before now : Desk L) (planned : Status) (writing : Writing) → (planned ≡ NoMemory) ⊎ CommandCause Audit book old.input new.input before now planned writing →
@@ -198,7 +198,7 @@ shows book s old new before now planned writing (inl memory) = inl memory
 shows book s old new before now planned writing (inr cause) = inr cause.1.0
 
 command_bound : {L : Type 0} (book : Book) (words : List (List ℕ)) (old new : Outside) (before now : Desk L) (planned status : Status) (writing : Writing) → Cause book words old.input new.input before now planned writing →
-    (status ≡ planned) ⊎ (status ≡ WriteFault) → (command : Command) → command_in words ≡ Some command → CommandBound command old before status
+    (status ≡ planned) ⊎ (status ≡ WriteFault) → (command : ProgramCommand) → command_in words ≡ Some command → CommandBound command old before status
 command_bound book words old new before now planned status writing cause in_ Audit is =
     λ tells. bound_refusal planned status (audit_bound book old new planned writing (audits book old new before now planned writing (cause_of book words old new before now planned writing cause Audit is)) tells) in_
 command_bound book words old new before now planned status writing cause in_ (Serve serving) is =
@@ -209,7 +209,7 @@ command_bound book words old new before now planned status writing cause in_ (Sh
     show_bound book s now.tables before.faults now.faults planned status writing (shows book s old new before now planned writing (cause_of book words old new before now planned writing cause (Show s) is)) in_
 
 command_complete : {L : Type 0} (book : Book) (words : List (List ℕ)) (old new : Outside) (before now : Desk L) (planned status : Status) (writing : Writing) → Cause book words old.input new.input before now planned writing →
-    Tells planned writing old.out new.out old.err new.err status → (command : Command) → command_in words ≡ Some command → CommandComplete command book old new before now status
+    Tells planned writing old.out new.out old.err new.err status → (command : ProgramCommand) → command_in words ≡ Some command → CommandComplete command book old new before now status
 command_complete book words old new before now planned status writing cause told Audit is =
     λ none. let written = all_written old new planned status writing none told in
     audit_complete book old new planned status writing (audits book old new before now planned writing (cause_of book words old new before now planned writing cause Audit is)) none written.0 written.1

@@ -4,4 +4,4 @@ pub mod Generate
 pub mod Show
 pub mod Commands
 pub mod Run
-pub mod Start
+pub mod Arguments

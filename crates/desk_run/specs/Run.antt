@@ -3,7 +3,7 @@ use Rattle.std.specs.Prelude.{◌≡◌, ℕ, ◌≤◌, List, [], ◌∷◌, le
 use Rattle.rule_core.specs.Books.{Book}
 use Rattle.audit_run.specs.declared.auditing.TheConstants.{MOST_READ}
 use Rattle.desk_words.specs.Words.{command_in}
-use Rattle.desk_words.specs.declared.command.Command.{Command}
+use Rattle.desk_words.specs.declared.command.ProgramCommand.{ProgramCommand}
 use Rattle.audit_run.specs.declared.status.Status.{Status}
 use Rattle.audit_run.specs.declared.status.Status.TheVariants.{UsageFault, WriteFault, NoMemory}
 use Rattle.audit_run.specs.Status.{status_number, status_line, OneOf}
@@ -33,7 +33,7 @@ pub record WantsMemory {L : Type 0} (old new : Input) (before now : Desk L) (sta
 
 -- the words are a command, which has its cause
 pub record HasCommand {L : Type 0} (book : Book) (words : List (List ℕ)) (old new : Input) (before now : Desk L) (status : Status) (writing : Writing) : Type 0 where
-  pub command : Command
+  pub command : ProgramCommand
   pub words_are : command_in words ≡ Some command
   pub cause : CommandCause command book old new before now status writing
 
@@ -45,12 +45,12 @@ Cause book words old new before now status writing =
 -- which statuses can come, whatever the objects outside do
 pub record IsBounded {L : Type 0} (words : List (List ℕ)) (old : Outside) (before : Desk L) (status : Status) : Type 0 where
   pub other_words : command_in words ≡ None → OneOf (UsageFault ∷ WriteFault ∷ NoMemory ∷ []) status
-  pub command : (command : Command) → command_in words ≡ Some command → CommandBound command old before status
+  pub command : (command : ProgramCommand) → command_in words ≡ Some command → CommandBound command old before status
 
 -- which statuses can come without faults
 pub record IsComplete {L : Type 0} (book : Book) (words : List (List ℕ)) (old new : Outside) (before now : Desk L) (status : Status) : Type 0 where
   pub other_words : command_in words ≡ None → NoFaults old new → OneOf (UsageFault ∷ NoMemory ∷ []) status
-  pub command : (command : Command) → command_in words ≡ Some command → CommandComplete command book old new before now status
+  pub command : (command : ProgramCommand) → command_in words ≡ Some command → CommandComplete command book old new before now status
 
 -- What a run with books of one type and these words does to the outside and to the desk, and what the number
 -- says that it gives. It was to end with a status that has its cause, and ends so where all could be written,

@@ -3,12 +3,14 @@
 //! streams of the process, a keeper and a TCP door.
 #![tactic(auto)]
 
+mod arguments;
+mod books;
 mod generate;
 mod running;
 mod serve;
 mod show;
-mod start;
 
+pub use arguments::{StorePlace, Task, read_arguments, words_in};
 pub use audit_run::{Found, Status, fault_line, status_of, tell};
+pub use books::made_books;
 pub use running::run;
-pub use start::{made_books, words_in};

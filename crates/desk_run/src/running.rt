@@ -10,7 +10,7 @@ use crate::generate::generate;
 use crate::serve::serve;
 use crate::show::show;
 use audit_run::{Found, audit, tell};
-use desk_words::{Command, command_in};
+use desk_words::{ProgramCommand, command_in};
 use keep_core::Keeper;
 use links::Door;
 use rule_core::RuleBook;
@@ -70,10 +70,10 @@ fn find<R: Threads + Sync, I: Source, K: Keeper, D: Door, B: RuleBook + Send>(
     ensures stops { ReadsAtMost MOST_READ (I.told input.old) (I.told input.new) }
 {
     match command_in(alloc, words.as_slice()) {
-        Ok(Some(Command::Audit)) => audit_by_first(alloc, input, books),
-        Ok(Some(Command::Serve(serving))) => serve(rt, alloc, serving, keeper, door, books),
-        Ok(Some(Command::Generate(generating))) => generate(rt, alloc, generating, books),
-        Ok(Some(Command::Show(showing))) => show(alloc, &showing, keeper, &books[0]),
+        Ok(Some(ProgramCommand::Audit)) => audit_by_first(alloc, input, books),
+        Ok(Some(ProgramCommand::Serve(serving))) => serve(rt, alloc, serving, keeper, door, books),
+        Ok(Some(ProgramCommand::Generate(generating))) => generate(rt, alloc, generating, books),
+        Ok(Some(ProgramCommand::Show(showing))) => show(alloc, &showing, keeper, &books[0]),
         Ok(None) => Found::Usage,
         Err(OutOfMemory) => Found::NoMemory,
     }

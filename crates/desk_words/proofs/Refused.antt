@@ -7,7 +7,7 @@ use Rattle.clap.specs.Words.{App, Row, matches_of, takes}
 use Rattle.clap.specs.declared.error.kind.ErrorKind.{ErrorKind}
 use Rattle.clap.specs.declared.error.kind.ErrorKind.TheVariants.{OutOfMemory}
 use Rattle.desk_words.specs.Words.{matched}
-use Rattle.desk_words.specs.declared.command.Command.{Command}
+use Rattle.desk_words.specs.declared.command.ProgramCommand.{ProgramCommand}
 
 pub taken_so : (app : App) (words : List (List ℕ)) (rows : List Row) → takes app words ≡ true → rows ≡ matches_of app words → Some rows ≡ matched app words
 taken_so app words rows takes is = ap (λ r. Some r) is ∙ sym (ap (λ b. cond b (Some (matches_of app words)) None) takes)
@@ -21,6 +21,6 @@ not_taken rows app words (Ok (Some m)) kind none other passes = absurd (true≢f
 -- ---- the commands
 
 -- the command that is made of the matches of words
-pub makes : (of : List Row → Command) (app wanted : App) (texts words : List (List ℕ)) (rows : List Row) (command : Command) → app ≡ wanted → texts ≡ words
+pub makes : (of : List Row → ProgramCommand) (app wanted : App) (texts words : List (List ℕ)) (rows : List Row) (command : ProgramCommand) → app ≡ wanted → texts ≡ words
     → Some rows ≡ matched app texts → command ≡ of rows → Some command ≡ option_map of (matched wanted words)
 makes of app wanted texts words rows command is same read made = ap Some made ∙ ap (option_map of) (read ∙ (λ i. matched (is i) (same i)))

@@ -9,8 +9,8 @@ use Rattle.clap.specs.Words.{App, Row, Rule, built, is_simple_and_free, first_of
 use Rattle.clap.specs.Takes.{default_passes}
 use Rattle.clap.specs.declared.builder.action.ArgAction.TheVariants.{Set}
 use Rattle.clap.specs.declared.builder.value_parser.ValueParser.TheVariants.{Unsigned}
-use Rattle.desk_words.specs.declared.command.Command.{Command}
-use Rattle.desk_words.specs.declared.command.Command.TheVariants.{Audit, Serve, Generate, Show}
+use Rattle.desk_words.specs.declared.command.ProgramCommand.{ProgramCommand}
+use Rattle.desk_words.specs.declared.command.ProgramCommand.TheVariants.{Audit, Serve, Generate, Show}
 use Rattle.desk_words.specs.declared.command.Serving.{Serving}
 use Rattle.desk_words.specs.declared.command.Generating.{Generating}
 use Rattle.desk_words.specs.declared.command.Showing.{Showing}
@@ -74,20 +74,20 @@ showing_of form rows = record { form = form; site = site_of rows }
 abbrev pub matched : App → List (List ℕ) → Option (List Row)
 matched app words = if takes app words then Some (matches_of app words) else None
 
-abbrev pub audit_in : List (List ℕ) → Option Command
+abbrev pub audit_in : List (List ℕ) → Option ProgramCommand
 audit_in words = option_map (λ rows. Audit) (matched audit_app words)
 
-abbrev pub serve_in : List (List ℕ) → Option Command
+abbrev pub serve_in : List (List ℕ) → Option ProgramCommand
 serve_in words = option_map (λ rows. Serve (serving_of rows)) (matched serve_app words)
 
-abbrev pub generate_in : List (List ℕ) → Option Command
+abbrev pub generate_in : List (List ℕ) → Option ProgramCommand
 generate_in words = option_map (λ rows. Generate (generating_of rows)) (matched generate_app words)
 
-abbrev pub show_in : SiteForm → List (List ℕ) → Option Command
+abbrev pub show_in : SiteForm → List (List ℕ) → Option ProgramCommand
 show_in form words = option_map (λ rows. Show (showing_of form rows)) (matched (show_app (form_word form)) words)
 
 -- a command that shows a site
-abbrev pub other_in : List ℕ → List (List ℕ) → Option Command
+abbrev pub other_in : List ℕ → List (List ℕ) → Option ProgramCommand
 other_in name words =
     if bytes_eq name (codes "report") then show_in form.Report words
     else if bytes_eq name (codes "earl") then show_in form.Earl words
@@ -95,7 +95,7 @@ other_in name words =
     else None
 
 -- the command of this name that the words are
-abbrev pub named : Option (List ℕ) → List (List ℕ) → Option Command
+abbrev pub named : Option (List ℕ) → List (List ℕ) → Option ProgramCommand
 named None words = None
 named (Some name) words =
     if bytes_eq name (codes "audit") then audit_in words
@@ -104,11 +104,11 @@ named (Some name) words =
     else other_in name words
 
 -- the command that the words are, by the first of them
-unfoldable pub command_in : List (List ℕ) → Option Command
+unfoldable pub command_in : List (List ℕ) → Option ProgramCommand
 command_in words = named (slice_get words 0) words
 
 -- a command that serves has one worker or more
-abbrev pub HasWorkers : Command → Type 0
+abbrev pub HasWorkers : ProgramCommand → Type 0
 HasWorkers (Serve s) = 1 ≤ s.workers
 HasWorkers other = Unit {0}
 

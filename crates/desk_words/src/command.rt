@@ -21,7 +21,7 @@ pub fn laws_of_limits()
 
 /// What the program can do.
 #[derive(Debug, PartialEq, Eq, Drop)]
-pub enum Command {
+pub enum ProgramCommand {
     /// Reads one snapshot to its end, judges it, and writes its text report. Its words are `audit` alone.
     Audit,
     /// Serves connections over HTTP. Its words are `serve --port N --workers W --connections C`, with the

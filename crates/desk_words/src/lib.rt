@@ -8,7 +8,7 @@ mod rules;
 mod words;
 
 pub use command::{
-    Command, Generating, MOST_CONNECTIONS, MOST_MADE, MOST_NUMBER, Serving, Showing, SiteForm,
-    laws_of_limits,
+    Generating, MOST_CONNECTIONS, MOST_MADE, MOST_NUMBER, ProgramCommand, Serving, Showing,
+    SiteForm, laws_of_limits,
 };
 pub use words::command_in;

@@ -7,8 +7,8 @@ use Rattle.http_routes.specs.declared.fault.RequestFault.{RequestFault}
 use Rattle.http_messages.specs.declared.head.Field.{Field}
 use Rattle.http_messages.specs.declared.head.Head.{Head}
 use Rattle.http_messages.specs.Framing.{only_named}
-use Rattle.http_routes.specs.declared.place.Place.{Place}
-use Rattle.http_routes.specs.declared.place.Place.TheVariants.{Site, SiteReport, SiteEarl, SiteCsv, Import, Member, Page, PageReport, PageEarl, PageNames, Edits, Judgements, Outcomes}
+use Rattle.http_routes.specs.declared.place.Resource.{Resource}
+use Rattle.http_routes.specs.declared.place.Resource.TheVariants.{Site, SiteReport, SiteEarl, SiteCsv, Import, Member, Page, PageReport, PageEarl, PageNames, Edits, Judgements, Outcomes}
 use Rattle.http_routes.specs.declared.names.Names.{Names}
 use Rattle.http_routes.specs.declared.names.Names.TheVariants.{One, Two}
 use Rattle.http_routes.specs.declared.call.Method.{Method}
@@ -26,7 +26,7 @@ abbrev AreNames : Names → Type 0
 AreNames (One site) = IsTrue (is_name site)
 AreNames (Two site other) = IsTrue (is_name site) × IsTrue (is_name other)
 
-abbrev Placed : Place × Names → Type 0
+abbrev Placed : Resource × Names → Type 0
 Placed named = AreNames named.1
 
 names_in : (parts : List (List ℕ × List ℕ)) → IfSome (names_of parts) AreNames
@@ -39,15 +39,15 @@ names_of_place : (target : List ℕ) → IfSome (place_of target) Placed
 unfolding place_of
 names_of_place target = of (row_of (path target))
   where
-    with : (place : Place) (names : Option Names) → IfSome names AreNames → IfSome (with_names place names) Placed
+    with : (place : Resource) (names : Option Names) → IfSome names AreNames → IfSome (with_names place names) Placed
     with place None are = tt
     with place (Some names) are = are
 
-    of : (row : Option (Place × List (List ℕ × List ℕ))) → IfSome (with_parts row) Placed
+    of : (row : Option (Resource × List (List ℕ × List ℕ))) → IfSome (with_parts row) Placed
     of None = tt
     of (Some (place, parts)) = with place (names_of parts) (names_in parts)
 
-names_of_route : (p : Place) (n : Names) (m : Method) → AreNames n → IfSome (route_of p n m) HasNames
+names_of_route : (p : Resource) (n : Names) (m : Method) → AreNames n → IfSome (route_of p n m) HasNames
 names_of_route Site (One site) Put are = are
 names_of_route Import (One site) Post are = are
 names_of_route Member (Two site user) Put are = are
@@ -77,11 +77,11 @@ names_with_route : (h : Head) (r : Option Route) → IfSome r HasNames → IfOk 
 names_with_route h None names = tt
 names_with_route h (Some r) names = names_called r (caller_of h) names (name_of_field (only_named (codes "x-caller") h))
 
-names_with_method : (h : Head) (p : Place) (n : Names) (m : Option Method) → AreNames n → IfOk (with_method h p n m) IsNamed
+names_with_method : (h : Head) (p : Resource) (n : Names) (m : Option Method) → AreNames n → IfOk (with_method h p n m) IsNamed
 names_with_method h p n None names = tt
 names_with_method h p n (Some m) names = names_with_route h (route_of p n m) (names_of_route p n m names)
 
-names_with_place : (h : Head) (p : Option (Place × Names)) → IfSome p Placed → IfOk (with_place h p) IsNamed
+names_with_place : (h : Head) (p : Option (Resource × Names)) → IfSome p Placed → IfOk (with_place h p) IsNamed
 names_with_place h None names = tt
 names_with_place h (Some (p, n)) names = names_with_method h p n (method_of h.method) names
 

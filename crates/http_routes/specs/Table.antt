@@ -4,8 +4,8 @@ use Rattle.matchit.specs.Rows.{RowsOf}
 use Rattle.matchit.specs.Router.{RouteOf}
 use Rattle.segment_routes.specs.Pieces.{Piece, Word, Name, Pieces}
 use Rattle.segment_routes.specs.Spelling.{rows_of}
-use Rattle.http_routes.specs.declared.place.Place.{Place}
-use Rattle.http_routes.specs.declared.place.Place.TheVariants.{Site, SiteReport, SiteEarl, SiteCsv, Import, Member, Page, PageReport, PageEarl, PageNames, Edits, Judgements, Outcomes}
+use Rattle.http_routes.specs.declared.place.Resource.{Resource}
+use Rattle.http_routes.specs.declared.place.Resource.TheVariants.{Site, SiteReport, SiteEarl, SiteCsv, Import, Member, Page, PageReport, PageEarl, PageNames, Edits, Judgements, Outcomes}
 
 abbrev pub site : Piece
 site = Name (codes "site")
@@ -26,7 +26,7 @@ in_page pieces = in_site (Word (codes "pages") ∷ page ∷ pieces)
 
 -- The first row that fits a path says what the path names. A word stands before another one that comes after it by bytes and before
 -- a name, and a longer path before the one that it begins with.
-abbrev pub table : List (Pieces × Place)
+abbrev pub table : List (Pieces × Resource)
 table =
     (in_site (Word (codes "csv") ∷ []), SiteCsv)
     ∷ (in_site (Word (codes "earl") ∷ []), SiteEarl)
@@ -44,5 +44,5 @@ table =
     ∷ []
 
 -- the same as `matchit` holds it
-abbrev pub rows : RowsOf (RouteOf Place)
+abbrev pub rows : RowsOf (RouteOf Resource)
 rows = rows_of table

@@ -5,7 +5,7 @@ ghost use Rattle.http_routes.specs.declared.names.Names.TheVariants.{One, Two};
 
 use crate::fault::RequestFault;
 use crate::names::{Names, name_of};
-use crate::place::{Place, Table};
+use crate::place::{Resource, Table};
 use http_messages::Head;
 use std::alloc::Global;
 use texts::{OutOfMemory, Text};
@@ -117,7 +117,7 @@ fn method_of(text: &[u8]) -> Option<Method>
 }
 
 // The route of a place that has the method.
-fn route_of(place: Place, names: Names, method: Method) -> Option<Route>
+fn route_of(place: Resource, names: Names, method: Method) -> Option<Route>
     ensures { result ≡ route_of place names method }
 {
     match names {
@@ -127,34 +127,34 @@ fn route_of(place: Place, names: Names, method: Method) -> Option<Route>
 }
 
 // The routes of a site.
-fn of_site(place: Place, site: Text, method: Method) -> Option<Route>
+fn of_site(place: Resource, site: Text, method: Method) -> Option<Route>
     ensures { result ≡ route_of place (One site) method }
 {
     match (place, method) {
-        (Place::Site, Method::Put) => Some(Route::PutSite { site }),
-        (Place::Import, Method::Post) => Some(Route::Import { site }),
-        (Place::SiteReport, Method::Get) => Some(Route::SiteReport { site }),
-        (Place::SiteEarl, Method::Get) => Some(Route::SiteEarl { site }),
-        (Place::SiteCsv, Method::Get) => Some(Route::SiteCsv { site }),
+        (Resource::Site, Method::Put) => Some(Route::PutSite { site }),
+        (Resource::Import, Method::Post) => Some(Route::Import { site }),
+        (Resource::SiteReport, Method::Get) => Some(Route::SiteReport { site }),
+        (Resource::SiteEarl, Method::Get) => Some(Route::SiteEarl { site }),
+        (Resource::SiteCsv, Method::Get) => Some(Route::SiteCsv { site }),
         _ => None,
     }
 }
 
 // The routes of what a site holds.
-fn below_site(place: Place, site: Text, other: Text, method: Method) -> Option<Route>
+fn below_site(place: Resource, site: Text, other: Text, method: Method) -> Option<Route>
     ensures { result ≡ route_of place (Two site other) method }
 {
     match (place, method) {
-        (Place::Member, Method::Put) => Some(Route::PutMember { site, user: other }),
-        (Place::Page, Method::Put) => Some(Route::PutPage { site, page: other }),
-        (Place::Page, Method::Get) => Some(Route::GetPage { site, page: other }),
-        (Place::Page, Method::Delete) => Some(Route::DropPage { site, page: other }),
-        (Place::Edits, Method::Post) => Some(Route::EditPage { site, page: other }),
-        (Place::Judgements, Method::Post) => Some(Route::Judge { site, page: other }),
-        (Place::Outcomes, Method::Get) => Some(Route::GetOutcomes { site, page: other }),
-        (Place::PageReport, Method::Get) => Some(Route::GetReport { site, page: other }),
-        (Place::PageEarl, Method::Get) => Some(Route::GetEarl { site, page: other }),
-        (Place::PageNames, Method::Get) => Some(Route::GetNames { site, page: other }),
+        (Resource::Member, Method::Put) => Some(Route::PutMember { site, user: other }),
+        (Resource::Page, Method::Put) => Some(Route::PutPage { site, page: other }),
+        (Resource::Page, Method::Get) => Some(Route::GetPage { site, page: other }),
+        (Resource::Page, Method::Delete) => Some(Route::DropPage { site, page: other }),
+        (Resource::Edits, Method::Post) => Some(Route::EditPage { site, page: other }),
+        (Resource::Judgements, Method::Post) => Some(Route::Judge { site, page: other }),
+        (Resource::Outcomes, Method::Get) => Some(Route::GetOutcomes { site, page: other }),
+        (Resource::PageReport, Method::Get) => Some(Route::GetReport { site, page: other }),
+        (Resource::PageEarl, Method::Get) => Some(Route::GetEarl { site, page: other }),
+        (Resource::PageNames, Method::Get) => Some(Route::GetNames { site, page: other }),
         _ => None,
     }
 }

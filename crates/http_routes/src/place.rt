@@ -13,7 +13,7 @@ use texts::OutOfMemory;
 
 /// What a path names: each row of the table stands for one.
 #[derive(Clone, Copy, Debug, PartialEq, Eq)]
-pub(crate) enum Place {
+pub(crate) enum Resource {
     Site,
     SiteReport,
     SiteEarl,
@@ -32,7 +32,7 @@ pub(crate) enum Place {
 /// The table of routes, which is made once: then paths are looked up in it, without memory of its own.
 #[derive(Drop)]
 pub struct Table {
-    router: Router<Place>,
+    router: Router<Resource>,
 }
 
 impl Model for Table {
@@ -61,7 +61,7 @@ impl Table {
         &self,
         alloc: Global,
         target: &[u8],
-    ) -> Result<Option<(Place, Names)>, OutOfMemory>
+    ) -> Result<Option<(Resource, Names)>, OutOfMemory>
         ensures { IfOk result (λ place. place ≡ place_of target.now) }
     {
         let path = path_of(target);
@@ -79,32 +79,35 @@ impl Table {
 }
 
 // The routes of the table, in any order.
-fn router(alloc: Global) -> Result<Router<Place>, InsertError>
+fn router(alloc: Global) -> Result<Router<Resource>, InsertError>
     ensures { IfOk result (λ router. router ≡ rows) }
 {
     let mut router = Router::new(alloc);
-    router.insert("/sites/{site}", Place::Site)?;
-    router.insert("/sites/{site}/report", Place::SiteReport)?;
-    router.insert("/sites/{site}/earl", Place::SiteEarl)?;
-    router.insert("/sites/{site}/csv", Place::SiteCsv)?;
-    router.insert("/sites/{site}/import", Place::Import)?;
-    router.insert("/sites/{site}/members/{user}", Place::Member)?;
-    router.insert("/sites/{site}/pages/{page}", Place::Page)?;
-    router.insert("/sites/{site}/pages/{page}/report", Place::PageReport)?;
-    router.insert("/sites/{site}/pages/{page}/earl", Place::PageEarl)?;
-    router.insert("/sites/{site}/pages/{page}/names", Place::PageNames)?;
-    router.insert("/sites/{site}/pages/{page}/edits", Place::Edits)?;
-    router.insert("/sites/{site}/pages/{page}/judgements", Place::Judgements)?;
-    router.insert("/sites/{site}/pages/{page}/outcomes", Place::Outcomes)?;
+    router.insert("/sites/{site}", Resource::Site)?;
+    router.insert("/sites/{site}/report", Resource::SiteReport)?;
+    router.insert("/sites/{site}/earl", Resource::SiteEarl)?;
+    router.insert("/sites/{site}/csv", Resource::SiteCsv)?;
+    router.insert("/sites/{site}/import", Resource::Import)?;
+    router.insert("/sites/{site}/members/{user}", Resource::Member)?;
+    router.insert("/sites/{site}/pages/{page}", Resource::Page)?;
+    router.insert("/sites/{site}/pages/{page}/report", Resource::PageReport)?;
+    router.insert("/sites/{site}/pages/{page}/earl", Resource::PageEarl)?;
+    router.insert("/sites/{site}/pages/{page}/names", Resource::PageNames)?;
+    router.insert("/sites/{site}/pages/{page}/edits", Resource::Edits)?;
+    router.insert(
+        "/sites/{site}/pages/{page}/judgements",
+        Resource::Judgements,
+    )?;
+    router.insert("/sites/{site}/pages/{page}/outcomes", Resource::Outcomes)?;
     Ok(router)
 }
 
 // A place with the names that its parameters are, if they are names.
 fn with_parts(
     alloc: Global,
-    place: Place,
+    place: Resource,
     parts: ParamsIter<'_, '_, '_>,
-) -> Result<Option<(Place, Names)>, OutOfMemory>
+) -> Result<Option<(Resource, Names)>, OutOfMemory>
     requires { AllText parts }
     ensures { IfOk result (λ named. named ≡ with_parts (Some (place, parts.entry))) }
 {

@@ -13,7 +13,7 @@ use Rattle.rule_core.specs.Books.{Book}
 use Rattle.judge_core.specs.declared.judgement.Judgement.{Judgement}
 use Rattle.judge_core.specs.declared.outcomes.OutRow.{OutRow}
 use Rattle.judge_core.specs.Outcomes.{row_of, atomic_row, atomic_rows, composite_row, composite_rows, inputs_of, rule_rows, outcomes}
-use Rattle.judged_rows.specs.declared.parts.Part.{Part}
+use Rattle.judged_rows.specs.declared.parts.RulePart.{RulePart}
 use Rattle.judged_rows.specs.Merging.{AreOn}
 use Rattle.judged_rows.specs.Parts.{SaysByAtomic, Suffice, IsPart, AreParts, rows_found}
 use Rattle.judged_rows.proofs.Merged.{filter_map_map, same_number}
@@ -38,7 +38,7 @@ filter_map_none f (x ∷ xs) none = ap (λ o. cons_option o (filter_map f xs)) (
 
 -- ---- the nodes of a page suffice for every composite rule
 
-pub all_suffice : (book : Book) (page : Document) (js : List Judgement) (part : Part) → part.nodes ≡ map (λ (row : Row). row.id) (rows_of page.trees) → Suffice book page js part
+pub all_suffice : (book : Book) (page : Document) (js : List Judgement) (part : RulePart) → part.nodes ≡ map (λ (row : Row). row.id) (rows_of page.trees) → Suffice book page js part
 all_suffice book page js part is = record {
   rows = ap (filter_map (composite_row book page js part.info)) is ∙ filter_map_map (composite_row book page js part.info) (λ (row : Row). row.id) (rows_of page.trees);
   inputs = all_of (λ input. ap (filter_map (atomic_row book page js input)) is ∙ filter_map_map (atomic_row book page js input) (λ (row : Row). row.id) (rows_of page.trees)) (inputs_of part.info);
@@ -53,7 +53,7 @@ on_own book page js rule n = own (book.means rule page n)
     own None = tt
     own (Some verdict) = refl
 
-found_in : (book : Book) (page : Document) (js : List Judgement) (input : RuleNo) (parts : List Part) → AllByRecursion (IsPart book page js) parts →
+found_in : (book : Book) (page : Document) (js : List Judgement) (input : RuleNo) (parts : List RulePart) → AllByRecursion (IsPart book page js) parts →
     (has_atomic (map (λ p. p.info) parts) input.0 ≡ false → atomic_rows book page js input ≡ []) → rows_found parts input.0 ≡ atomic_rows book page js input
 found_in book page js input [] each strange = sym (strange refl)
 found_in book page js input (p ∷ parts) each strange = here (input.0 == p.info.no.0) refl strange (found_in book page js input parts each.1)
@@ -62,51 +62,51 @@ found_in book page js input (p ∷ parts) each strange = here (input.0 == p.info
     kind true e is none = each.0.atomic e ∙ ap (atomic_rows book page js) is
     kind false e is none = (each.0.composite e).0 ∙ sym (none refl)
 
-    here : (b : Bool) → eqb input.0 p.info.no.0 ≡ b → (option_map_or is_atomic (cond b (Some p.info) (info_of (map (λ (q : Part). q.info) parts) input.0)) false ≡ false → atomic_rows book page js input ≡ []) →
-        ((has_atomic (map (λ (q : Part). q.info) parts) input.0 ≡ false → atomic_rows book page js input ≡ []) → rows_found parts input.0 ≡ atomic_rows book page js input) →
-        option_map_or (λ (q : Part). q.rows) (cond b (Some p) (find (λ (q : Part). input.0 == q.info.no.0) parts)) [] ≡ atomic_rows book page js input
+    here : (b : Bool) → eqb input.0 p.info.no.0 ≡ b → (option_map_or is_atomic (cond b (Some p.info) (info_of (map (λ (q : RulePart). q.info) parts) input.0)) false ≡ false → atomic_rows book page js input ≡ []) →
+        ((has_atomic (map (λ (q : RulePart). q.info) parts) input.0 ≡ false → atomic_rows book page js input ≡ []) → rows_found parts input.0 ≡ atomic_rows book page js input) →
+        option_map_or (λ (q : RulePart). q.rows) (cond b (Some p) (find (λ (q : RulePart). input.0 == q.info.no.0) parts)) [] ≡ atomic_rows book page js input
     here true e strange later = kind (is_atomic p.info) refl (sym (ap (λ (n : ℕ). record { 0 = n }) (same_number input.0 p.info.no.0 e))) strange
     here false e strange later = later strange
 
-pub found : (book : Book) (page : Document) (js : List Judgement) (parts : List Part) → SaysByAtomic book → AreParts book page js parts → (input : RuleNo) → rows_found parts input.0 ≡ atomic_rows book page js input
+pub found : (book : Book) (page : Document) (js : List Judgement) (parts : List RulePart) → SaysByAtomic book → AreParts book page js parts → (input : RuleNo) → rows_found parts input.0 ≡ atomic_rows book page js input
 found book page js parts says are input =
     found_in book page js input parts are.each (λ no.
     filter_map_none _ (rows_of page.trees) (λ row. ap (option_map (row_of input row.id js)) (says input (ap (λ infos. has_atomic infos input.0) (sym are.whole) ∙ no) page row.id)))
 
-pub inputs_found : (book : Book) (page : Document) (js : List Judgement) (parts : List Part) (part : Part) → SaysByAtomic book → AreParts book page js parts → Suffice book page js part →
+pub inputs_found : (book : Book) (page : Document) (js : List Judgement) (parts : List RulePart) (part : RulePart) → SaysByAtomic book → AreParts book page js parts → Suffice book page js part →
     AllByRecursion (λ input. rows_found parts input.0 ≡ filter_map (atomic_row book page js input) part.nodes) (inputs_of part.info)
 inputs_found book page js parts part says are suffice = all_map (λ input same. found book page js parts says are input ∙ sym same) (inputs_of part.info) suffice.inputs
 
 -- ---- the parts one after another
 
-abbrev pub merged_of : Book → Document → List Judgement → Part → List OutRow
+abbrev pub merged_of : Book → Document → List Judgement → RulePart → List OutRow
 merged_of book page js p = cond (is_atomic p.info) [] (composite_rows book page js p.info)
 
-part_rows : (book : Book) (page : Document) (js : List Judgement) (p : Part) → IsPart book page js p → p.rows ++ merged_of book page js p ≡ rule_rows book page js p.info
+part_rows : (book : Book) (page : Document) (js : List Judgement) (p : RulePart) → IsPart book page js p → p.rows ++ merged_of book page js p ≡ rule_rows book page js p.info
 part_rows book page js p is = kind (is_atomic p.info) refl
   where
     kind : (b : Bool) → is_atomic p.info ≡ b → p.rows ++ cond b [] (composite_rows book page js p.info) ≡ cond b (atomic_rows book page js p.info.no) (composite_rows book page js p.info)
     kind true e = append-nil p.rows ∙ is.atomic e
     kind false e = ap (λ l. l ++ composite_rows book page js p.info) (is.composite e).0
 
-zipped : (book : Book) (page : Document) (js : List Judgement) (parts : List Part) → AllByRecursion (IsPart book page js) parts →
+zipped : (book : Book) (page : Document) (js : List Judgement) (parts : List RulePart) → AllByRecursion (IsPart book page js) parts →
     flat_map (λ p. p.0.rows ++ p.1) (zip parts (map (merged_of book page js) parts)) ≡ flat_map (rule_rows book page js) (map (λ p. p.info) parts)
 zipped book page js [] each = refl
 zipped book page js (p ∷ parts) each =
     ap (λ l. l ++ flat_map (λ q. q.0.rows ++ q.1) (zip parts (map (merged_of book page js) parts))) (part_rows book page js p each.0)
     ∙ ap (λ l. rule_rows book page js p.info ++ l) (zipped book page js parts each.1)
 
-pub whole : (book : Book) (page : Document) (js : List Judgement) (parts : List Part) (groups : List (List OutRow)) → AreParts book page js parts → groups ≡ map (merged_of book page js) parts →
+pub whole : (book : Book) (page : Document) (js : List Judgement) (parts : List RulePart) (groups : List (List OutRow)) → AreParts book page js parts → groups ≡ map (merged_of book page js) parts →
     flat_map (λ p. p.0.rows ++ p.1) (zip parts groups) ≡ outcomes book page js
 whole book page js parts groups are is =
     ap (λ l. flat_map (λ p. p.0.rows ++ p.1) (zip parts l)) is ∙ zipped book page js parts are.each ∙ ap (flat_map (rule_rows book page js)) are.whole
 
 -- one part more
-pub infos_more : (infos : List RuleInfo) (i : ℕ) (d : RuleInfo) (parts now : List Part) (p : Part) → i < length infos → map (λ q. q.info) parts ≡ take i infos → now ≡ parts ++ p ∷ [] → p.info ≡ get_or infos i d →
+pub infos_more : (infos : List RuleInfo) (i : ℕ) (d : RuleInfo) (parts now : List RulePart) (p : RulePart) → i < length infos → map (λ q. q.info) parts ≡ take i infos → now ≡ parts ++ p ∷ [] → p.info ≡ get_or infos i d →
     map (λ q. q.info) now ≡ take (i + 1) infos
 infos_more infos i d parts now p within so_far more here =
-    ap (map (λ (q : Part). q.info)) more ∙ each parts ∙ ap (λ l. l ++ p.info ∷ []) so_far ∙ ap (λ info. take i infos ++ info ∷ []) here ∙ sym (take_more infos i d within)
+    ap (map (λ (q : RulePart). q.info)) more ∙ each parts ∙ ap (λ l. l ++ p.info ∷ []) so_far ∙ ap (λ info. take i infos ++ info ∷ []) here ∙ sym (take_more infos i d within)
   where
-    each : (parts : List Part) → map (λ (q : Part). q.info) (parts ++ p ∷ []) ≡ map (λ (q : Part). q.info) parts ++ p.info ∷ []
+    each : (parts : List RulePart) → map (λ (q : RulePart). q.info) (parts ++ p ∷ []) ≡ map (λ (q : RulePart). q.info) parts ++ p.info ∷ []
     each [] = refl
     each (q ∷ parts) = ap (λ l. q.info ∷ l) (each parts)

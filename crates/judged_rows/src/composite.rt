@@ -8,7 +8,7 @@ ghost use Rattle.judged_rows.specs.Merging.{with_row, head_on, AreOn, filled_by,
 ghost use Rattle.judged_rows.specs.Parts.{rows_found};
 
 use crate::leading::{after, head_on};
-use crate::parts::{Part, rows_found};
+use crate::parts::{RulePart, rows_found};
 use crate::rows::push_row;
 use judge_core::{OutRow, merge_composite};
 use rule_core::{Auto, Reason, RuleInfo, RuleNo};
@@ -77,7 +77,7 @@ fn with_input(alloc: Global, slots: &[Slot], rows: &[OutRow]) -> Result<Vec<Slot
 fn with_number(
     alloc: Global,
     slots: Vec<Slot>,
-    parts: &[Part],
+    parts: &[RulePart],
     number: u16,
 ) -> Result<Vec<Slot>, OutOfMemory>
     ensures { (f : NodeId → Option OutRow) → AreOn f
@@ -109,7 +109,7 @@ fn all_slots(
     alloc: Global,
     info: &RuleInfo,
     nodes: &[NodeId],
-    parts: &[Part],
+    parts: &[RulePart],
 ) -> Result<Vec<Slot>, OutOfMemory>
     ensures { (f : RuleNo → NodeId → Option OutRow) → ((rule : RuleNo) → AreOn (f rule))
         → AllByRecursion (λ input. rows_found parts.now input.0 ≡ filter_map (f input) nodes.now) (inputs_of info.now)
@@ -152,7 +152,7 @@ pub(crate) fn composite_rows(
     alloc: Global,
     info: &RuleInfo,
     nodes: &[NodeId],
-    parts: &[Part],
+    parts: &[RulePart],
 ) -> Result<Vec<OutRow>, OutOfMemory>
     ensures { (f : RuleNo → NodeId → Option OutRow) → ((rule : RuleNo) → AreOn (f rule))
         → AllByRecursion (λ input. rows_found parts.now input.0 ≡ filter_map (f input) nodes.now) (inputs_of info.now)

@@ -12,5 +12,5 @@ mod rows;
 
 pub use leading::{after, head_on, split_rule};
 pub use on_node::{ByNode, by_node};
-pub use parts::{Part, atomic_part, composite_part, joined_parts};
+pub use parts::{RulePart, atomic_part, composite_part, joined_parts};
 pub use rows::{push_row, row_again, row_of};

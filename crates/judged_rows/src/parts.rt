@@ -17,7 +17,7 @@ use std::alloc::Global;
 
 /// The part of a rule in the outcomes of a page.
 #[derive(Drop)]
-pub struct Part {
+pub struct RulePart {
     pub info: RuleInfo,
     /// The rows of an atomic rule; none for a composite one.
     pub rows: List<OutRow>,
@@ -26,12 +26,12 @@ pub struct Part {
 }
 
 /// The part of an atomic rule, by its rows.
-pub fn atomic_part(alloc: Global, info: &RuleInfo, rows: List<OutRow>) -> Part
+pub fn atomic_part(alloc: Global, info: &RuleInfo, rows: List<OutRow>) -> RulePart
     ensures info { result.info ≡ info.now }
     ensures part { (book : Book) (page : Document) (js : List Judgement) → is_atomic info.now ≡ true
         → rows ≡ atomic_rows book page js info.now.no → IsPart book page js result }
 {
-    Part {
+    RulePart {
         info: *info,
         rows,
         nodes: List::from_vec(Vec::new(alloc)),
@@ -40,13 +40,13 @@ pub fn atomic_part(alloc: Global, info: &RuleInfo, rows: List<OutRow>) -> Part
 
 /// The part of a composite rule in the outcomes of a page: it may have rows on all nodes. Fails only for want of
 /// memory.
-pub fn composite_part(alloc: Global, info: &RuleInfo, tree: &Tree) -> Result<Part, OutOfMemory>
+pub fn composite_part(alloc: Global, info: &RuleInfo, tree: &Tree) -> Result<RulePart, OutOfMemory>
     ensures info { IfOk result (λ part. part.info ≡ info.now) }
     ensures part { (book : Book) (js : List Judgement) → is_atomic info.now ≡ false
         → IfOk result (λ part. IsPart book tree.now js part) }
 {
     let nodes = nodes_of(alloc, tree)?;
-    Ok(Part {
+    Ok(RulePart {
         info: *info,
         rows: List::from_vec(Vec::new(alloc)),
         nodes: List::from_vec(nodes),
@@ -64,14 +64,14 @@ fn nodes_of(alloc: Global, tree: &Tree) -> Result<Vec<NodeId>, OutOfMemory>
     Ok(nodes)
 }
 
-fn part_numbered(parts: &[Part], number: u16) -> Option<&Part>
+fn part_numbered(parts: &[RulePart], number: u16) -> Option<&RulePart>
     ensures { option_copied result ≡ find (λ p. number == p.info.no.0) parts.now }
 {
     parts.iter().find(|part| number == part.info.no.0)
 }
 
 /// The rows in the part of the rule of a number; none where there is no such rule.
-pub(crate) fn rows_found(parts: &[Part], number: u16) -> &[OutRow]
+pub(crate) fn rows_found(parts: &[RulePart], number: u16) -> &[OutRow]
     ensures { result.now ≡ rows_found parts.now number }
 {
     match part_numbered(parts, number) {
@@ -81,7 +81,11 @@ pub(crate) fn rows_found(parts: &[Part], number: u16) -> &[OutRow]
 }
 
 // The rows of a composite rule, by the parts of its inputs; none for an atomic rule.
-fn merged_rows(alloc: Global, part: &Part, parts: &[Part]) -> Result<List<OutRow>, OutOfMemory>
+fn merged_rows(
+    alloc: Global,
+    part: &RulePart,
+    parts: &[RulePart],
+) -> Result<List<OutRow>, OutOfMemory>
     ensures { (book : Book) (page : Document) (js : List Judgement) → SaysByAtomic book → AreParts book page js parts.now
         → IsPart book page js part.now → IfOk result
         (λ rows. rows ≡ (if is_atomic part.now.info then [] else composite_rows book page js part.now.info)) }
@@ -94,7 +98,7 @@ fn merged_rows(alloc: Global, part: &Part, parts: &[Part]) -> Result<List<OutRow
 }
 
 // The rows of the composite rules, by the parts of their inputs.
-fn all_merged(alloc: Global, parts: &[Part]) -> Result<Vec<List<OutRow>>, OutOfMemory>
+fn all_merged(alloc: Global, parts: &[RulePart]) -> Result<Vec<List<OutRow>>, OutOfMemory>
     ensures { (book : Book) (page : Document) (js : List Judgement) → SaysByAtomic book → AreParts book page js parts.now → IfOk result
         (λ groups. groups.items
         ≡ map (λ p. if is_atomic p.info then [] else composite_rows book page js p.info) parts.now) }
@@ -116,7 +120,7 @@ fn append(rows: &mut Vec<OutRow>, more: List<OutRow>) -> Result<(), OutOfMemory>
 
 /// The outcomes of a page whose parts these are: the rows of each rule in turn, those of composite rules merged. Fails
 /// only for want of memory.
-pub fn joined_parts(alloc: Global, parts: Vec<Part>) -> Result<Vec<OutRow>, OutOfMemory>
+pub fn joined_parts(alloc: Global, parts: Vec<RulePart>) -> Result<Vec<OutRow>, OutOfMemory>
     ensures { (book : Book) (page : Document) (js : List Judgement) → SaysByAtomic book → AreParts book page js parts.items
         → IfOk result (λ rows. rows.items ≡ outcomes book page js) }
 {

@@ -12,7 +12,9 @@ ghost use Rattle.reaudit.specs.Costs.{affected_cost, whole_cost};
 use crate::again::atomic_again;
 use crate::nodes::{Nodes, nodes_of};
 use judge_core::{Judgement, OutRow, Outcomes, infos_of};
-use judged_rows::{ByNode, Part, atomic_part, by_node, composite_part, joined_parts, split_rule};
+use judged_rows::{
+    ByNode, RulePart, atomic_part, by_node, composite_part, joined_parts, split_rule,
+};
 use rule_core::{RuleBook, RuleInfo};
 use snap_tree::{List, OutOfMemory, Tree};
 use std::alloc::Global;
@@ -66,7 +68,7 @@ fn parts_again<B: RuleBook>(
     nodes: &Nodes,
     rows: &[OutRow],
     by_node: &ByNode<'_>,
-) -> Result<Vec<Part>, OutOfMemory>
+) -> Result<Vec<RulePart>, OutOfMemory>
     requires infos { infos.now ≡ B.book.infos }
     requires address { old.now.address ≡ new.now.address }
     requires nodes { AreNodes old.now new.now nodes.now }
@@ -99,7 +101,7 @@ fn part_again<B: RuleBook>(
     nodes: &Nodes,
     rows: &[OutRow],
     by_node: &ByNode<'_>,
-) -> Result<Part, OutOfMemory>
+) -> Result<RulePart, OutOfMemory>
     requires known { Contains B.book.infos info.now }
     requires address { old.now.address ≡ new.now.address }
     requires nodes { AreNodes old.now new.now nodes.now }

@@ -13,7 +13,7 @@ use Rattle.snap_tree.specs.Rows.{has_number}
 use Rattle.texts.specs.Words.{words}
 use Rattle.acc_tree.specs.declared.attributes.Attribute.TheVariants as attribute
 use Rattle.acc_tree.specs.Seen.{text_at, is_blank_at}
-use Rattle.rules_tables.specs.declared.heads.Place.{Place}
+use Rattle.rules_tables.specs.declared.heads.CellPlace.{CellPlace}
 use Rattle.rules_tables.specs.declared.heads.Cells.{Cells}
 use Rattle.rules_tables.specs.declared.heads.Heads.{Heads}
 use Rattle.rules_tables.specs.declared.table_ids.TableIds.{TableIds}
@@ -82,7 +82,7 @@ is_none false true true = refl
 is_none false true false = refl
 is_none false false m = refl
 
-places_more : (places now : List Place) (before : List Placed) (p : Placed) → places ≡ map place_at before → now ≡ places ++ place_at p ∷ [] → now ≡ map place_at (before ++ p ∷ [])
+places_more : (places now : List CellPlace) (before : List Placed) (p : Placed) → places ≡ map place_at before → now ≡ places ++ place_at p ∷ [] → now ≡ map place_at (before ++ p ∷ [])
 places_more places now before p so_far more = more ∙ ap (λ ps. ps ++ place_at p ∷ []) so_far ∙ sym (map-append place_at before (p ∷ []))
 
 pub data_more : (old mid new : Cells) (before : List Placed) (p : Placed) → Keeps old before → mid.places.items ≡ old.places.items ++ place_at p ∷ [] → mid.open ≡ old.open → mid.named ≡ old.named → HasData mid new p → is_data p.cell ≡ true → Keeps new (before ++ p ∷ [])
@@ -125,16 +125,16 @@ any_turn : (f : Placed → Bool) (g : List Placed) → list_any f (in_turn g) �
 any_turn f [] = refl
 any_turn f (p ∷ g) = list_any-append f (in_turn g) (p ∷ []) ∙ swapped (list_any f (in_turn g)) (f p) ∙ ap (λ b. f p || b) (any_turn f g)
 
-place_both : (n : NodeId) (xs ys : List Place) → place_among n (xs ++ ys) ≡ option_or (place_among n xs) (place_among n ys)
+place_both : (n : NodeId) (xs ys : List CellPlace) → place_among n (xs ++ ys) ≡ option_or (place_among n xs) (place_among n ys)
 place_both n [] ys = refl
 place_both n (x ∷ xs) ys = by (eqb x.id.0 n.0) (place_both n xs ys)
   where
     by : (b : Bool) → place_among n (xs ++ ys) ≡ option_or (place_among n xs) (place_among n ys)
-        → option_map (λ (p : Place). p.area) (cond b (Some x) (find (λ (p : Place). eqb p.id.0 n.0) (xs ++ ys))) ≡ option_or (option_map (λ (p : Place). p.area) (cond b (Some x) (find (λ (p : Place). eqb p.id.0 n.0) xs))) (place_among n ys)
+        → option_map (λ (p : CellPlace). p.area) (cond b (Some x) (find (λ (p : CellPlace). eqb p.id.0 n.0) (xs ++ ys))) ≡ option_or (option_map (λ (p : CellPlace). p.area) (cond b (Some x) (find (λ (p : CellPlace). eqb p.id.0 n.0) xs))) (place_among n ys)
     by true h = refl
     by false h = h
 
-one_place : (b : Bool) (p : Place) → option_map (λ (p : Place). p.area) (cond b (Some p) None) ≡ cond b (Some p.area) None
+one_place : (b : Bool) (p : CellPlace) → option_map (λ (p : CellPlace). p.area) (cond b (Some p) None) ≡ cond b (Some p.area) None
 one_place true p = refl
 one_place false p = refl
 

@@ -8,7 +8,7 @@ use Rattle.snap_tree.specs.Trees.{Trees}
 use Rattle.acc_tree.specs.declared.attributes.Attribute.TheVariants as attribute
 use Rattle.acc_tree.specs.Seen.{text_at, is_blank_at}
 use Rattle.rules_tables.specs.declared.grid.Area.{Area}
-use Rattle.rules_tables.specs.declared.heads.Place.{Place}
+use Rattle.rules_tables.specs.declared.heads.CellPlace.{CellPlace}
 use Rattle.rules_tables.specs.declared.heads.Cells.{Cells}
 use Rattle.rules_tables.specs.declared.heads.Heads.{Heads}
 use Rattle.rules_tables.specs.declared.survey.TheConstants.{MOST_SLOTS}
@@ -21,11 +21,11 @@ use Rattle.rules_tables.specs.TableRows.{table_rows}
 use Rattle.rules_tables.specs.Tables.{below}
 
 -- the place of a number among some
-abbrev pub place_among : NodeId → List Place → Option Area
+abbrev pub place_among : NodeId → List CellPlace → Option Area
 place_among n places = option_map (λ p. p.area) (find (λ p. p.id.0 == n.0) places)
 
 -- a header leads to a place that isn't its own
-abbrev pub leads_to : Row → Option Area → Place → Bool
+abbrev pub leads_to : Row → Option Area → CellPlace → Bool
 leads_to header o p = not (p.id.0 == header.id.0) && is_led_to (direction_of header) o p.area
 
 -- a cell that isn't the header names it
@@ -40,7 +40,7 @@ abbrev pub finds : Cells → Row → Bool
 finds cells header = finds_at cells header (place_among header.id cells.places.items)
 
 -- the place of a cell
-abbrev pub place_at : Placed → Place
+abbrev pub place_at : Placed → CellPlace
 place_at p = record { id = p.cell.id; area = p.area }
 
 -- what is kept of some cells: the places of all, and what finds those that are assigned to a header

@@ -18,7 +18,7 @@ use std::collections::BTreeMap;
 
 /// A cell's number, and the slots that it covers.
 #[derive(Clone, Copy, Debug, PartialEq, Eq)]
-pub(crate) struct Place {
+pub(crate) struct CellPlace {
     id: NodeId,
     area: Area,
 }
@@ -27,14 +27,14 @@ pub(crate) struct Place {
 #[derive(Drop)]
 pub(crate) struct Cells<'a> {
     /// The places of all.
-    places: Vec<Place>,
+    places: Vec<CellPlace>,
     /// The places of the data cells whose `headers` is blank: a header is assigned those that it leads to.
-    open: Vec<Place>,
+    open: Vec<CellPlace>,
     /// By each word of the `headers` of the other data cells, which of them have it.
     named: Bearers<'a>,
 }
 
-fn place_among(n: NodeId, places: &[Place]) -> Option<Area>
+fn place_among(n: NodeId, places: &[CellPlace]) -> Option<Area>
     ensures { result ≡ place_among n places.now }
 {
     match places.iter().find(|place| place.id.0 == n.0) {
@@ -43,7 +43,7 @@ fn place_among(n: NodeId, places: &[Place]) -> Option<Area>
     }
 }
 
-fn leads_to_any(header: &Row, place: Option<Area>, places: &[Place]) -> bool
+fn leads_to_any(header: &Row, place: Option<Area>, places: &[CellPlace]) -> bool
     ensures { result ≡ list_any (leads_to (seen_row header.now) place) places.now }
 {
     let direction = direction_of(header);
@@ -74,7 +74,7 @@ impl<'a> Cells<'a> {
         ensures { OnOk result (HasData self.old self.new (record { cell = seen_row cell.now; area = area })) }
     {
         if is_blank_at(cell, Attribute::Headers) {
-            self.open.push(Place { id: cell.id, area })?;
+            self.open.push(CellPlace { id: cell.id, area })?;
         } else {
             put_words(&mut self.named, text_at(cell, Attribute::Headers), cell.id)?;
         }
@@ -87,7 +87,7 @@ impl<'a> Cells<'a> {
             → OnOk result (Keeps self.new (before ++ seen_placed placed.now ∷ [])) }
     {
         let PlacedCell { cell, area } = *placed;
-        self.places.push(Place { id: cell.id, area })?;
+        self.places.push(CellPlace { id: cell.id, area })?;
         if is_data(cell) {
             self.add_data(cell, area)?;
         }

@@ -16,7 +16,7 @@ use Rattle.snap_tree.specs.Faults.{tree_fault}
 use Rattle.snap_edit.specs.declared.edit.Edit.TheVariants.{Insert, Remove, Move}
 use Rattle.snap_edit.specs.declared.fault.EditKind.{EditKind}
 use Rattle.snap_edit.specs.declared.fault.EditKind.TheVariants.{NoNode, NumberTaken, RootMoved, IntoItself, Tree}
-use Rattle.snap_edit.specs.declared.fault.Refusal.{Refusal}
+use Rattle.snap_edit.specs.declared.fault.EditRefusal.{EditRefusal}
 use Rattle.snap_edit.specs.Trees.{without, inserted, hung}
 use Rattle.snap_edit.specs.Edits.{at, is_root, is_within, in_place, has_taken, alone_fault, taken_alone, effect}
 use Rattle.snap_edit.specs.Places.{subtree_at, rest_without, hung_rows, IsNodeAt, at_movable, IsMovableAt, IsPlaceIn}
@@ -201,7 +201,7 @@ elsewhere {rows = rows} p k l e =
     ∙ ap (λ t. moved_in t p k l.stands.there) (sym l.out.regrown ∙ ap grown (sym l.rest_is))
 
 pub move_declined :
-    {rows rest subtree : List Row} {n : NodeId} {place : ℕ} (f : Refusal) (p : NodeId) (k : ℕ)
+    {rows rest subtree : List Row} {n : NodeId} {place : ℕ} (f : EditRefusal) (p : NodeId) (k : ℕ)
     (l : Lifted rows rest subtree n place)
     → is_within p l.stands.there ≡ false
     → ((next : Result Trees EditKind) → Declines f (in_place (grown rest) p k next))

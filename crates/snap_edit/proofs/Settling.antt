@@ -17,8 +17,8 @@ use Rattle.snap_edit.specs.declared.fault.EditKind.TheVariants.{Tree}
 use Rattle.snap_edit.specs.declared.fault.EditFault.{EditFault}
 use Rattle.snap_edit.specs.declared.fault.EditFault.TheVariants.{At}
 use Rattle.snap_edit.specs.declared.fault.EditFault.TheVariants as fault
-use Rattle.snap_edit.specs.declared.fault.Refusal.{Refusal}
-use Rattle.snap_edit.specs.declared.fault.Refusal.TheVariants.{Kind, OutOfMemory}
+use Rattle.snap_edit.specs.declared.fault.EditRefusal.{EditRefusal}
+use Rattle.snap_edit.specs.declared.fault.EditRefusal.TheVariants.{Kind, OutOfMemory}
 use Rattle.snap_edit.specs.Edits.{settled, effect, then_settled, edited, followed, edited_from, continued, Refuses}
 use Rattle.snap_edit.specs.Made.{Makes, Declines, fault_at, BreaksAt}
 
@@ -48,14 +48,14 @@ pub breaks :
 breaks rows (Err kind) f m e = absurd m
 breaks rows (Ok t) f m e = settled_by t (ap tree_fault m.0 ∙ e)
 
-pub declined : (f : Refusal) (answer : Result Trees EditKind) → Declines f answer → Declines f (then_settled answer)
+pub declined : (f : EditRefusal) (answer : Result Trees EditKind) → Declines f answer → Declines f (then_settled answer)
 declined (Kind kind) answer d = ap then_settled d
 declined OutOfMemory answer d = tt
 
 -- ---- one after another
 
 pub refused_at :
-    (index : ℕ) (f : Refusal) (e : Edit) (edits : List Edit) (t : Trees)
+    (index : ℕ) (f : EditRefusal) (e : Edit) (edits : List Edit) (t : Trees)
     → Declines f (edited t e) → Refuses (fault_at index f) (edited_from index (e ∷ edits) t)
 refused_at index (Kind kind) e edits t d = ap (followed index (edited_from (index + 1) edits)) d
 refused_at index OutOfMemory e edits t d = tt

@@ -11,8 +11,8 @@ use Rattle.snap_edit.specs.declared.fault.EditKind.TheVariants.{Tree}
 use Rattle.snap_edit.specs.declared.fault.EditFault.{EditFault}
 use Rattle.snap_edit.specs.declared.fault.EditFault.TheVariants.{At}
 use Rattle.snap_edit.specs.declared.fault.EditFault.TheVariants as fault
-use Rattle.snap_edit.specs.declared.fault.Refusal.{Refusal}
-use Rattle.snap_edit.specs.declared.fault.Refusal.TheVariants.{Kind, OutOfMemory}
+use Rattle.snap_edit.specs.declared.fault.EditRefusal.{EditRefusal}
+use Rattle.snap_edit.specs.declared.fault.EditRefusal.TheVariants.{Kind, OutOfMemory}
 
 -- rows whose numbers differ and which name the nodes above them, as a page's do
 pub record IsPage (rows : List Row) : Type 0 where
@@ -25,12 +25,12 @@ Makes rows (Err kind) = ⊥
 Makes rows (Ok t) = (rows_of t ≡ rows) × AreNamed None t
 
 -- a refusal names the answered fault, unless memory ran out
-abbrev pub Declines : Refusal → Result Trees EditKind → Type 0
+abbrev pub Declines : EditRefusal → Result Trees EditKind → Type 0
 Declines (Kind kind) answer = answer ≡ Err kind
 Declines OutOfMemory answer = Unit {0}
 
 -- the fault of the edit of this index
-abbrev pub fault_at : ℕ → Refusal → EditFault
+abbrev pub fault_at : ℕ → EditRefusal → EditFault
 fault_at index (Kind kind) = At index kind
 fault_at index OutOfMemory = fault.OutOfMemory
 

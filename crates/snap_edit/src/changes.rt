@@ -9,7 +9,7 @@ ghost use Rattle.snap_edit.specs.Edits.{attrs_changed, effect};
 ghost use Rattle.snap_edit.specs.Made.{Makes, Declines};
 
 use crate::attrs::attrs_after;
-use crate::fault::{EditKind, Refusal};
+use crate::fault::{EditKind, EditRefusal};
 use crate::place::{element_at, node_at};
 use snap_tree::{Attr, Body, Facts, List, NodeId, OutOfMemory, Row, SharedBody, Text};
 use std::alloc::Global;
@@ -52,7 +52,7 @@ pub(crate) fn change_attr(
     node: NodeId,
     name: &Text,
     value: Option<&Text>,
-) -> Result<Vec<Row>, Refusal>
+) -> Result<Vec<Row>, EditRefusal>
     requires { tree_fault rows.items ≡ None }
     ensures made { IfOk result (λ new. Makes new.items
         (attrs_changed (grown rows.items) node (attrs_after name.now (option_copied value.entry)))) }
@@ -71,14 +71,14 @@ pub(crate) fn set_text(
     mut rows: Vec<Row>,
     node: NodeId,
     text: &Text,
-) -> Result<Vec<Row>, Refusal>
+) -> Result<Vec<Row>, EditRefusal>
     requires { tree_fault rows.items ≡ None }
     ensures made { IfOk result (λ new. Makes new.items (effect (grown rows.items) (SetText node text.now))) }
     ensures refused { IfErr result (λ f. Declines f (effect (grown rows.items) (SetText node text.now))) }
 {
     let place = node_at(rows.as_slice(), node)?;
     if !rows[place].is_text() {
-        return Err(Refusal::Kind(EditKind::NotText));
+        return Err(EditRefusal::Kind(EditKind::NotText));
     }
     let text = text.copy(alloc)?;
     rows[place].body = SharedBody::new(alloc, Body::Words { text })?;
@@ -86,7 +86,11 @@ pub(crate) fn set_text(
 }
 
 /// Replaces the facts of a node.
-pub(crate) fn set_facts(mut rows: Vec<Row>, node: NodeId, facts: Facts) -> Result<Vec<Row>, Refusal>
+pub(crate) fn set_facts(
+    mut rows: Vec<Row>,
+    node: NodeId,
+    facts: Facts,
+) -> Result<Vec<Row>, EditRefusal>
     requires { tree_fault rows.items ≡ None }
     ensures made { IfOk result (λ new. Makes new.items (effect (grown rows.items) (SetFacts node facts))) }
     ensures refused { IfErr result (λ f. Declines f (effect (grown rows.items) (SetFacts node facts))) }

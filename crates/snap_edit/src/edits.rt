@@ -7,13 +7,13 @@ ghost use Rattle.snap_edit.specs.Made.{Makes, Declines, fault_at, BreaksAt};
 
 use crate::changes::{change_attr, set_facts, set_text};
 use crate::edit::{Edit, MOST_EDITS};
-use crate::fault::{EditFault, EditKind, Refusal};
+use crate::fault::{EditFault, EditKind, EditRefusal};
 use crate::moves::{insert, move_to, remove};
 use snap_tree::{BuildFault, List, Raw, Row, Tree, copies_of, tree_fault};
 use std::alloc::Global;
 
 // Carries one edit out on a page's rows. The new rows aren't tried.
-fn carry_out(alloc: Global, rows: Vec<Row>, edit: &Edit) -> Result<Vec<Row>, Refusal>
+fn carry_out(alloc: Global, rows: Vec<Row>, edit: &Edit) -> Result<Vec<Row>, EditRefusal>
     requires { tree_fault rows.items ≡ None }
     ensures made { IfOk result (λ new. Makes new.items (effect (grown rows.items) edit.now)) }
     ensures refused { IfErr result (λ f. Declines f (effect (grown rows.items) edit.now)) }
@@ -38,7 +38,7 @@ fn carry_out(alloc: Global, rows: Vec<Row>, edit: &Edit) -> Result<Vec<Row>, Ref
 }
 
 // Carries one edit out on a page's rows, and tries the new rows.
-fn step(alloc: Global, rows: Vec<Row>, edit: &Edit) -> Result<Vec<Row>, Refusal>
+fn step(alloc: Global, rows: Vec<Row>, edit: &Edit) -> Result<Vec<Row>, EditRefusal>
     requires { tree_fault rows.items ≡ None }
     ensures sound { IfOk result (λ new. tree_fault new.items ≡ None) }
     ensures edited { IfOk result (λ new. edited (grown rows.items) edit.now ≡ Ok (grown new.items)) }
@@ -49,18 +49,18 @@ fn step(alloc: Global, rows: Vec<Row>, edit: &Edit) -> Result<Vec<Row>, Refusal>
         Err(refusal) => return Err(refusal),
     };
     match tree_fault(alloc, new.as_slice())? {
-        Some(fault) => Err(Refusal::Kind(EditKind::Tree(fault))),
+        Some(fault) => Err(EditRefusal::Kind(EditKind::Tree(fault))),
         None => Ok(new),
     }
 }
 
 // The fault of the edit of this index.
-fn fault_at(index: u32, refusal: Refusal) -> EditFault
+fn fault_at(index: u32, refusal: EditRefusal) -> EditFault
     ensures { result ≡ fault_at index refusal }
 {
     match refusal {
-        Refusal::Kind(kind) => EditFault::At { index, kind },
-        Refusal::OutOfMemory => EditFault::OutOfMemory,
+        EditRefusal::Kind(kind) => EditFault::At { index, kind },
+        EditRefusal::OutOfMemory => EditFault::OutOfMemory,
     }
 }
 

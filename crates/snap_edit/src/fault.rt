@@ -1,5 +1,5 @@
 ghost use Rattle.std.specs.Prelude.{◌≡◌};
-ghost use Rattle.snap_edit.specs.declared.fault.Refusal.TheVariants.{OutOfMemory};
+ghost use Rattle.snap_edit.specs.declared.fault.EditRefusal.TheVariants.{OutOfMemory};
 ghost use Rattle.snap_edit.specs.declared.fault.EditFault.TheVariants as fault;
 ghost use Rattle.snap_edit.specs.Numbers.{kind_number};
 
@@ -66,31 +66,31 @@ impl From<snap_tree::OutOfMemory> for EditFault {
 
 /// Why one edit isn't carried out.
 #[derive(Clone, Copy)]
-pub(crate) enum Refusal {
+pub(crate) enum EditRefusal {
     Kind(EditKind),
     OutOfMemory,
 }
 
-impl From<AllocError> for Refusal {
+impl From<AllocError> for EditRefusal {
     ghost from_gives = { λ _ f. f ≡ OutOfMemory };
 
     fn from(_error: AllocError) -> Self {
-        Refusal::OutOfMemory
+        EditRefusal::OutOfMemory
     }
 }
 
-impl<T: Drop> From<AllocFailed<T>> for Refusal {
+impl<T: Drop> From<AllocFailed<T>> for EditRefusal {
     ghost from_gives = { λ _ f. f ≡ OutOfMemory };
 
     fn from(_error: AllocFailed<T>) -> Self {
-        Refusal::OutOfMemory
+        EditRefusal::OutOfMemory
     }
 }
 
-impl From<snap_tree::OutOfMemory> for Refusal {
+impl From<snap_tree::OutOfMemory> for EditRefusal {
     ghost from_gives = { λ _ f. f ≡ OutOfMemory };
 
     fn from(_error: snap_tree::OutOfMemory) -> Self {
-        Refusal::OutOfMemory
+        EditRefusal::OutOfMemory
     }
 }

@@ -10,7 +10,7 @@ ghost use Rattle.snap_edit.specs.Places.{IsMovableAt, at_movable};
 ghost use Rattle.snap_edit.specs.Made.{Makes, Declines};
 
 use crate::alone::alone_fault;
-use crate::fault::{EditKind, Refusal};
+use crate::fault::{EditKind, EditRefusal};
 use crate::place::{node_at, place_of, row_at};
 use crate::subtree::{place_in, put_in, take_out};
 use crate::taken::has_taken;
@@ -25,20 +25,24 @@ fn is_root(row: &Row) -> bool
 }
 
 // The place of a node that may be taken out; or its NoNode or RootMoved.
-fn movable_at(rows: &[Row], node: NodeId) -> Result<usize, Refusal>
+fn movable_at(rows: &[Row], node: NodeId) -> Result<usize, EditRefusal>
     requires { tree_fault rows.now ≡ None }
     ensures place { IfOk result (λ place. IsMovableAt rows.now node place) }
     ensures refused { IfErr result (λ f. (next : Spot → Result Trees EditKind) → Declines f (at_movable (grown rows.now) node next)) }
 {
     let place = node_at(rows, node)?;
     if is_root(row_at(rows, place)) {
-        return Err(Refusal::Kind(EditKind::RootMoved));
+        return Err(EditRefusal::Kind(EditKind::RootMoved));
     }
     Ok(place)
 }
 
 /// Takes a node out, and all that is below it.
-pub(crate) fn remove(alloc: Global, mut rows: Vec<Row>, node: NodeId) -> Result<Vec<Row>, Refusal>
+pub(crate) fn remove(
+    alloc: Global,
+    mut rows: Vec<Row>,
+    node: NodeId,
+) -> Result<Vec<Row>, EditRefusal>
     requires { tree_fault rows.items ≡ None }
     ensures made { IfOk result (λ new. Makes new.items (effect (grown rows.items) (Remove node))) }
     ensures refused { IfErr result (λ f. Declines f (effect (grown rows.items) (Remove node))) }
@@ -55,17 +59,17 @@ pub(crate) fn insert(
     parent: NodeId,
     place: u32,
     new: &List<Row>,
-) -> Result<Vec<Row>, Refusal>
+) -> Result<Vec<Row>, EditRefusal>
     requires { tree_fault rows.items ≡ None }
     ensures made { IfOk result (λ all. Makes all.items (effect (grown rows.items) (Insert parent place new.now))) }
     ensures refused { IfErr result (λ f. Declines f (effect (grown rows.items) (Insert parent place new.now))) }
 {
     let begin = place_in(alloc, rows.as_slice(), parent, place)?;
     if has_taken(alloc, rows.as_slice(), new.as_slice())? {
-        return Err(Refusal::Kind(EditKind::NumberTaken));
+        return Err(EditRefusal::Kind(EditKind::NumberTaken));
     }
     if let Some(fault) = alone_fault(alloc, new.as_slice())? {
-        return Err(Refusal::Kind(EditKind::Tree(fault)));
+        return Err(EditRefusal::Kind(EditKind::Tree(fault)));
     }
     let subtree = copies_of(alloc, new.as_slice())?;
     put_in(&mut rows, begin, subtree, parent)?;
@@ -79,7 +83,7 @@ pub(crate) fn move_to(
     node: NodeId,
     parent: NodeId,
     place: u32,
-) -> Result<Vec<Row>, Refusal>
+) -> Result<Vec<Row>, EditRefusal>
     requires { tree_fault rows.items ≡ None }
     ensures made { IfOk result (λ new. Makes new.items (effect (grown rows.items) (Move node parent place))) }
     ensures refused { IfErr result (λ f. Declines f (effect (grown rows.items) (Move node parent place))) }
@@ -87,7 +91,7 @@ pub(crate) fn move_to(
     let from = movable_at(rows.as_slice(), node)?;
     let subtree = take_out(alloc, &mut rows, from)?;
     if place_of(subtree.as_slice(), parent).is_some() {
-        return Err(Refusal::Kind(EditKind::IntoItself));
+        return Err(EditRefusal::Kind(EditKind::IntoItself));
     }
     let begin = place_in(alloc, rows.as_slice(), parent, place)?;
     put_in(&mut rows, begin, subtree, parent)?;

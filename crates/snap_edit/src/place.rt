@@ -8,7 +8,7 @@ ghost use Rattle.snap_edit.specs.Edits.{at};
 ghost use Rattle.snap_edit.specs.Places.{IsNodeAt, IsElementAt, of_element};
 ghost use Rattle.snap_edit.specs.Made.{Declines};
 
-use crate::fault::{EditKind, Refusal};
+use crate::fault::{EditKind, EditRefusal};
 use snap_tree::{NodeId, Row};
 
 /// The place of a node's row; None where the rows don't hold the number.
@@ -36,24 +36,24 @@ pub(crate) fn row_at(rows: &[Row], place: usize) -> &Row
 }
 
 /// The place of a node's row, or its NoNode.
-pub(crate) fn node_at(rows: &[Row], node: NodeId) -> Result<usize, Refusal>
+pub(crate) fn node_at(rows: &[Row], node: NodeId) -> Result<usize, EditRefusal>
     ensures place { IfOk result (λ place. IsNodeAt rows.now node place) }
     ensures refused { IfErr result (λ f. (next : Spot → Result Trees EditKind) → Declines f (at (grown rows.now) node next)) }
 {
     match place_of(rows, node) {
         Some(place) => Ok(place),
-        None => Err(Refusal::Kind(EditKind::NoNode)),
+        None => Err(EditRefusal::Kind(EditKind::NoNode)),
     }
 }
 
 /// The place of an element's row; or the node's NoNode or NotElement.
-pub(crate) fn element_at(rows: &[Row], node: NodeId) -> Result<usize, Refusal>
+pub(crate) fn element_at(rows: &[Row], node: NodeId) -> Result<usize, EditRefusal>
     ensures place { IfOk result (λ place. IsElementAt rows.now node place) }
     ensures refused { IfErr result (λ f. (next : Result Trees EditKind) → Declines f (of_element (grown rows.now) node next)) }
 {
     let place = node_at(rows, node)?;
     if row_at(rows, place).is_text() {
-        return Err(Refusal::Kind(EditKind::NotElement));
+        return Err(EditRefusal::Kind(EditKind::NotElement));
     }
     Ok(place)
 }

@@ -7,7 +7,7 @@ ghost use Rattle.snap_edit.specs.declared.fault.EditKind.{EditKind};
 ghost use Rattle.snap_edit.specs.Edits.{in_place};
 ghost use Rattle.snap_edit.specs.Made.{IsPage, Declines};
 
-use crate::fault::{EditKind, Refusal};
+use crate::fault::{EditKind, EditRefusal};
 use crate::place::element_at;
 use snap_tree::{Branches, NodeId, OutOfMemory, Row, run_below, sizes_of};
 use std::alloc::Global;
@@ -71,7 +71,7 @@ pub(crate) fn place_in(
     rows: &[Row],
     parent: NodeId,
     count: u32,
-) -> Result<usize, Refusal>
+) -> Result<usize, EditRefusal>
     requires { IsPage rows.now }
     ensures place { IfOk result (λ place. IsPlaceIn rows.now parent count place) }
     ensures refused { IfErr result (λ f. (next : Result Trees EditKind) → Declines f (in_place (grown rows.now) parent count next)) }
@@ -79,7 +79,7 @@ pub(crate) fn place_in(
     let above = element_at(rows, parent)?;
     match place_below(alloc, rows, above, count)? {
         Some(place) => Ok(place),
-        None => Err(Refusal::Kind(EditKind::PlaceOut)),
+        None => Err(EditRefusal::Kind(EditKind::PlaceOut)),
     }
 }
 

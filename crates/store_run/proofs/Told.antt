@@ -9,18 +9,18 @@ use Rattle.keep_sql.specs.declared.keeper.Prepared.{Prepared}
 use Rattle.keep_sql.specs.declared.keeper.Prepared.TheVariants as prepared
 use Rattle.keep_sql.specs.Keeper.{Keeper, tables, told_of, IsNoted}
 use Rattle.desk_http.specs.Desk.{Desk}
-use Rattle.store_run.specs.declared.refusal.Refusal.{Refusal}
-use Rattle.store_run.specs.declared.refusal.Refusal.TheVariants.{OtherEdition, NoMemory}
+use Rattle.store_run.specs.declared.refusal.StoreRefusal.{StoreRefusal}
+use Rattle.store_run.specs.declared.refusal.StoreRefusal.TheVariants.{OtherEdition, NoMemory}
 use Rattle.store_run.specs.Refusal.{edition_line, TellsLine, TellsOrWants}
 use Rattle.store_run.specs.Run.{IsUntouched, RefusalCause, IsRefused, RunsStore}
 
-pub refused : {S L : Type 0} (g : Ghosts S) (refusal : Refusal) (keeper keeper' : Keeper S) (old new : Outside) (before now : Desk L) (number : ℕ) → RefusalCause g refusal keeper keeper' → IsUntouched old new before now →
+pub refused : {S L : Type 0} (g : Ghosts S) (refusal : StoreRefusal) (keeper keeper' : Keeper S) (old new : Outside) (before now : Desk L) (number : ℕ) → RefusalCause g refusal keeper keeper' → IsUntouched old new before now →
     TellsOrWants refusal old.err new.err number → IsRefused g keeper keeper' old new before now number
 refused g refusal keeper keeper' old new before now number cause untouched (inl told) = record { refusal = refusal; cause = cause; untouched = untouched; told = told }
 refused g refusal keeper keeper' old new before now number cause untouched (inr wants) = record { refusal = NoMemory; cause = tt; untouched = untouched; told = wants }
 
 -- where nothing was done but that
-pub store_refused : {S L : Type 0} (g : Ghosts S) (book : Book) (words : List (List ℕ)) (keeper keeper' : Keeper S) (input : Input) (out err err' : Output) (wire : L → Option Wire) (broken : L → ℕ) (door : Doorway) (log : Option (List L)) (calls : List ℕ) (number : ℕ) (refusal : Refusal) →
+pub store_refused : {S L : Type 0} (g : Ghosts S) (book : Book) (words : List (List ℕ)) (keeper keeper' : Keeper S) (input : Input) (out err err' : Output) (wire : L → Option Wire) (broken : L → ℕ) (door : Doorway) (log : Option (List L)) (calls : List ℕ) (number : ℕ) (refusal : StoreRefusal) →
     TellsOrWants refusal err err' number → RefusalCause g refusal keeper keeper' → keeper'.ready ≡ None → keeper.faults ≤ keeper'.faults →
     RunsStore g book words keeper keeper' (record { input = input; out = out; err = err }) (record { input = input; out = out; err = err' })
     (record { wire = wire; broken = broken; door = door; log = log; tables = tables g keeper; faults = keeper.faults; calls = calls })
@@ -39,5 +39,5 @@ pub told_edition : (number planned : ℕ) (line : List ℕ) (old new : Output) (
 told_edition number planned line old new result told nine is =
     inl (subst (λ n. TellsLine n (edition_line number) old new result) nine (subst (λ l. TellsLine planned l old new result) is told))
 
-pub same_refusal : (refusal : Refusal) (number : ℕ) (old new : Output) (result : ℕ) → TellsOrWants (OtherEdition number) old new result → refusal ≡ OtherEdition number → TellsOrWants refusal old new result
+pub same_refusal : (refusal : StoreRefusal) (number : ℕ) (old new : Output) (result : ℕ) → TellsOrWants (OtherEdition number) old new result → refusal ≡ OtherEdition number → TellsOrWants refusal old new result
 same_refusal refusal number old new result told is = subst (λ r. TellsOrWants r old new result) (sym is) told

@@ -4,11 +4,11 @@ use Rattle.streams.specs.Told.{Output}
 use Rattle.streams.specs.Streams.{Took, BrokeOff}
 use Rattle.audit_run.specs.declared.status.Status.TheVariants as status
 use Rattle.audit_run.specs.Status.{status_number, status_line}
-use Rattle.store_run.specs.declared.refusal.Refusal.{Refusal}
-use Rattle.store_run.specs.declared.refusal.Refusal.TheVariants.{OtherEdition, StoreFault, NoMemory}
+use Rattle.store_run.specs.declared.refusal.StoreRefusal.{StoreRefusal}
+use Rattle.store_run.specs.declared.refusal.StoreRefusal.TheVariants.{OtherEdition, StoreFault, NoMemory}
 
 -- the number that a run ends with
-abbrev pub refusal_number : Refusal → ℕ
+abbrev pub refusal_number : StoreRefusal → ℕ
 refusal_number (OtherEdition number) = 9
 refusal_number StoreFault = status_number status.StoreFault
 refusal_number NoMemory = status_number status.NoMemory
@@ -17,7 +17,7 @@ refusal_number NoMemory = status_number status.NoMemory
 abbrev pub edition_line : ℕ → List ℕ
 edition_line number = codes "edition fault " ++ decimal number ++ codes "\n"
 
-abbrev pub refusal_line : Refusal → List ℕ
+abbrev pub refusal_line : StoreRefusal → List ℕ
 refusal_line (OtherEdition number) = edition_line number
 refusal_line StoreFault = status_line status.StoreFault
 refusal_line NoMemory = status_line status.NoMemory
@@ -28,9 +28,9 @@ abbrev pub TellsLine : ℕ → List ℕ → Output → Output → ℕ → Type 0
 TellsLine planned line old new number =
     ((number ≡ planned) × Took old new line) ⊎ ((number ≡ status_number status.WriteFault) × BrokeOff old new line)
 
-abbrev pub TellsRefusal : Refusal → Output → Output → ℕ → Type 0
+abbrev pub TellsRefusal : StoreRefusal → Output → Output → ℕ → Type 0
 TellsRefusal refusal old new number = TellsLine (refusal_number refusal) (refusal_line refusal) old new number
 
 -- a refusal is told, or want of memory in its place
-abbrev pub TellsOrWants : Refusal → Output → Output → ℕ → Type 0
+abbrev pub TellsOrWants : StoreRefusal → Output → Output → ℕ → Type 0
 TellsOrWants refusal old new number = TellsRefusal refusal old new number ⊎ TellsRefusal NoMemory old new number

@@ -7,8 +7,8 @@ use Rattle.streams.specs.Told.{Outside}
 use Rattle.keep_sql.specs.Keeper.{Keeper, tables, HasEdition}
 use Rattle.desk_http.specs.Desk.{Desk}
 use Rattle.desk_run.specs.Run.{Runs}
-use Rattle.store_run.specs.declared.refusal.Refusal.{Refusal}
-use Rattle.store_run.specs.declared.refusal.Refusal.TheVariants.{OtherEdition, StoreFault, NoMemory}
+use Rattle.store_run.specs.declared.refusal.StoreRefusal.{StoreRefusal}
+use Rattle.store_run.specs.declared.refusal.StoreRefusal.TheVariants.{OtherEdition, StoreFault, NoMemory}
 use Rattle.store_run.specs.Refusal.{TellsRefusal}
 
 -- Nothing was read, nothing was written on standard output, the door was asked nothing, and no book judged. The keeper
@@ -24,14 +24,14 @@ pub record IsUntouched {L : Type 0} (old new : Outside) (before now : Desk L) : 
 
 module _ {S : Type 0} (g : Ghosts S) where
   -- why a store isn't run over: the edition that its rows note, where it is clean and open, or a fault that the keeper counted
-  abbrev pub RefusalCause : Refusal → Keeper S → Keeper S → Type 0
+  abbrev pub RefusalCause : StoreRefusal → Keeper S → Keeper S → Type 0
   RefusalCause (OtherEdition number) old new = (number ≢ 1) × HasEdition g number new.waiting
   RefusalCause StoreFault old new = Rose old.faults new.faults
   RefusalCause NoMemory old new = Unit {0}
 
   -- the store is refused
   pub record IsRefused {L : Type 0} (keeper keeper' : Keeper S) (old new : Outside) (before now : Desk L) (number : ℕ) : Type 0 where
-    pub refusal : Refusal
+    pub refusal : StoreRefusal
     pub cause : RefusalCause refusal keeper keeper'
     pub untouched : IsUntouched old new before now
     pub told : TellsRefusal refusal old.err new.err number

@@ -8,7 +8,7 @@ use streams::{Sink, write_all};
 
 /// Why a store isn't run over.
 #[derive(Clone, Copy, Debug, PartialEq, Eq)]
-pub enum Refusal {
+pub enum StoreRefusal {
     /// The store's rows are of this edition, which isn't 1.
     OtherEdition { number: u64 },
     /// The store can't be prepared.
@@ -16,41 +16,45 @@ pub enum Refusal {
     NoMemory,
 }
 
-impl Refusal {
+impl StoreRefusal {
     /// The number that a run ends with.
     pub fn number(self) -> u8
         ensures { result ≡ refusal_number self }
     {
         match self {
-            Refusal::OtherEdition { .. } => 9,
-            Refusal::StoreFault => Status::StoreFault.number(),
-            Refusal::NoMemory => Status::NoMemory.number(),
+            StoreRefusal::OtherEdition { .. } => 9,
+            StoreRefusal::StoreFault => Status::StoreFault.number(),
+            StoreRefusal::NoMemory => Status::NoMemory.number(),
         }
     }
 }
 
 /// Tells a refusal by a line on `err`, and gives the number that a run ends with then: that of the refusal, and 4 where
 /// the line can't be written. Where there is no memory for the line on an edition, want of memory is told in its place.
-pub fn refuse<E: Sink>(alloc: Global, err: &mut E, refusal: Refusal) -> u8
+pub fn refuse<E: Sink>(alloc: Global, err: &mut E, refusal: StoreRefusal) -> u8
     ensures { TellsOrWants refusal (E.told err.old) (E.told err.new) result }
 {
     match refusal {
-        Refusal::OtherEdition { number } => refuse_edition(alloc, err, number),
-        Refusal::StoreFault => tell_line(err, refusal.number(), Status::StoreFault.line()),
-        Refusal::NoMemory => tell_line(err, refusal.number(), Status::NoMemory.line()),
+        StoreRefusal::OtherEdition { number } => refuse_edition(alloc, err, number),
+        StoreRefusal::StoreFault => tell_line(err, refusal.number(), Status::StoreFault.line()),
+        StoreRefusal::NoMemory => tell_line(err, refusal.number(), Status::NoMemory.line()),
     }
 }
 
 fn refuse_edition<E: Sink>(alloc: Global, err: &mut E, number: u64) -> u8
-    ensures { TellsOrWants (Refusal.OtherEdition number) (E.told err.old) (E.told err.new) result }
+    ensures { TellsOrWants (StoreRefusal.OtherEdition number) (E.told err.old) (E.told err.new) result }
 {
     match edition_line(alloc, number) {
         Ok(line) => tell_line(
             err,
-            Refusal::OtherEdition { number }.number(),
+            StoreRefusal::OtherEdition { number }.number(),
             line.as_str(),
         ),
-        Err(OutOfMemory) => tell_line(err, Refusal::NoMemory.number(), Status::NoMemory.line()),
+        Err(OutOfMemory) => tell_line(
+            err,
+            StoreRefusal::NoMemory.number(),
+            Status::NoMemory.line(),
+        ),
     }
 }
 

@@ -2,7 +2,7 @@ ghost use Rattle.std.specs.Prelude.{◌≡◌, ◌<◌, None, map, vec_len};
 ghost use Rattle.keep_sql.specs.Keeper.{tables};
 ghost use Rattle.store_run.specs.Run.{RunsStore};
 
-use crate::refusal::{Refusal, refuse};
+use crate::refusal::{StoreRefusal, refuse};
 use desk_run::run;
 use keep_core::KeepFault;
 use keep_sql::{Prepared, SqlKeeper};
@@ -52,9 +52,9 @@ pub fn run_store<
     match keeper.prepare(alloc) {
         Ok(Prepared::Ready) => run(rt, alloc, words, input, out, err, keeper, door, books),
         Ok(Prepared::OtherEdition { number }) => {
-            refuse(alloc, err, Refusal::OtherEdition { number })
+            refuse(alloc, err, StoreRefusal::OtherEdition { number })
         }
-        Err(KeepFault::Failed) => refuse(alloc, err, Refusal::StoreFault),
-        Err(KeepFault::OutOfMemory) => refuse(alloc, err, Refusal::NoMemory),
+        Err(KeepFault::Failed) => refuse(alloc, err, StoreRefusal::StoreFault),
+        Err(KeepFault::OutOfMemory) => refuse(alloc, err, StoreRefusal::NoMemory),
     }
 }

@@ -1,4 +1,4 @@
-use desk_words::{Command, Generating, Serving, Showing, command_in};
+use desk_words::{Generating, ProgramCommand, Serving, Showing, command_in};
 use std::alloc::{AllocError, Global};
 use std::test::Fail;
 use texts::Text;
@@ -15,11 +15,11 @@ fn texts(alloc: Global, words: &str) -> Result<Vec<Text>, AllocError> {
 }
 
 // A command in one line; an empty one where there is none.
-fn line_of(alloc: Global, command: Option<Command>) -> Result<String, AllocError> {
+fn line_of(alloc: Global, command: Option<ProgramCommand>) -> Result<String, AllocError> {
     match command {
         None => Ok(String::new(alloc)),
-        Some(Command::Audit) => String::from_str(alloc, "audit"),
-        Some(Command::Serve(serving)) => {
+        Some(ProgramCommand::Audit) => String::from_str(alloc, "audit"),
+        Some(ProgramCommand::Serve(serving)) => {
             let Serving {
                 port,
                 workers,
@@ -27,10 +27,10 @@ fn line_of(alloc: Global, command: Option<Command>) -> Result<String, AllocError
             } = serving;
             format!(in alloc; "port {port} workers {workers} connections {connections}")
         }
-        Some(Command::Generate(Generating { number, pages })) => {
+        Some(ProgramCommand::Generate(Generating { number, pages })) => {
             format!(in alloc; "number {number} pages {pages}")
         }
-        Some(Command::Show(Showing { form, site })) => {
+        Some(ProgramCommand::Show(Showing { form, site })) => {
             let form = form.word();
             let site = site.as_str();
             format!(in alloc; "{form} of {site}")

@@ -1,7 +1,7 @@
 use Rattle.std.proofs.Common.{◌∙◌, ℕ, List, ap, sym, map, option_map, Bor}
 use Rattle.clap.specs.Words.{found_of, rows_of}
 use Rattle.desk_words.specs.Words.{serve_app, serving_of}
-use Rattle.desk_words.specs.declared.command.Command.TheVariants.{Serve}
+use Rattle.desk_words.specs.declared.command.ProgramCommand.TheVariants.{Serve}
 use Rattle.desk_words.proofs.Refused.{makes}
 use Rattle.desk_words.proofs.words.serve_in.Goals as goal
 

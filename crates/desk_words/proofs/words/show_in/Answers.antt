@@ -1,7 +1,7 @@
 use Rattle.std.proofs.Common.{◌∙◌, ℕ, List, ap, sym, map, option_map, Bor}
 use Rattle.clap.specs.Words.{found_of, rows_of}
 use Rattle.desk_words.specs.Words.{show_app, form_word, showing_of}
-use Rattle.desk_words.specs.declared.command.Command.TheVariants.{Show}
+use Rattle.desk_words.specs.declared.command.ProgramCommand.TheVariants.{Show}
 use Rattle.desk_words.proofs.Refused.{makes}
 use Rattle.desk_words.proofs.words.show_in.Goals as goal
 

@@ -6,7 +6,7 @@ use Rattle.std.proofs.lemmas.Iterator.{YieldsList-from_zip}
 use Rattle.std.proofs.lemmas.Iterator.Adapters.{YieldsList-from_vec}
 use Rattle.std.proofs.lemmas.Iterator.Consumers.{YieldsList-end}
 use Rattle.judge_core.specs.declared.outcomes.OutRow.{OutRow}
-use Rattle.judged_rows.specs.declared.parts.Part.{Part}
+use Rattle.judged_rows.specs.declared.parts.RulePart.{RulePart}
 use Rattle.judged_rows.specs.Parts.{AreParts}
 use Rattle.judged_rows.proofs.Merged.{map_id}
 use Rattle.judged_rows.proofs.PartLaws.{whole, merged_of}
@@ -23,4 +23,4 @@ returns c =
     let other = YieldsList-from_vec merged.items (ap into_iter_items second ∙ c.into_iter-2.ensures.rest) (ap into_iter_len second ∙ c.into_iter-2.ensures.len ∙ merged.ok.0) in
     let all = YieldsList-end (YieldsList-from_zip one other) c.loop-part.yielded c.loop-part.part-iterator c.loop-part.yielded_by c.next.result c.next.new.self c.in-None.is c.next.ensures.steps in
     let groups = c.in_ok-merged.ensures book page js says (subst (AreParts book page js) (sym c.as_slice.ensures.value) are) ∙ ap (map (merged_of book page js)) c.as_slice.ensures.value in
-    c.loop-part.invariant ∙ ap (flat_map (λ (p : Part × List OutRow). p.0.rows ++ p.1)) (sym (map_id c.loop-part.yielded) ∙ all.0) ∙ whole book page js parts.items merged.items are groups
+    c.loop-part.invariant ∙ ap (flat_map (λ (p : RulePart × List OutRow). p.0.rows ++ p.1)) (sym (map_id c.loop-part.yielded) ∙ all.0) ∙ whole book page js parts.items merged.items are groups

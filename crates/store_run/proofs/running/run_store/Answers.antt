@@ -1,6 +1,6 @@
 use Rattle.std.proofs.Common.{◌≢◌, Ok}
 use Rattle.keep_sql.specs.declared.keeper.Prepared.TheVariants as prepared
-use Rattle.store_run.specs.declared.refusal.Refusal.TheVariants.{OtherEdition}
+use Rattle.store_run.specs.declared.refusal.StoreRefusal.TheVariants.{OtherEdition}
 use Rattle.store_run.proofs.Told.{store_refused, other_edition}
 use Rattle.store_run.proofs.running.run_store.Goals as goal
 

@@ -1,4 +1,4 @@
--- How the program starts: the words of a command among its arguments.
+-- What the arguments of the program give: the words of a command, or what it finds where they give none.
 use Rattle.std.specs.Prelude.{◌≡◌, ℕ, ◌<◌, List, ◌∷◌, length, Result, Ok, Err}
 use Rattle.audit_run.specs.declared.found.Found.{Found}
 use Rattle.audit_run.specs.declared.found.Found.TheVariants.{Usage, StoreFault, NoMemory}
