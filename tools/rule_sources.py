@@ -11,9 +11,11 @@ from typing import Iterator
 from serving import ROOT
 
 CRATES = pathlib.Path(ROOT, "crates")
-ROW = re.compile(r'atomic!\((\d+), b"(\w+)", (\w+), (\w+)\)')
-COMPOSITE = re.compile(r'no: RuleNo\((\d+)\),\s*id: \*b"(\w+)",\s*applies: Class::(\w+),\s*expects: Class::(\w+),\s*inputs: \[([^\]]+)\]')
-INFO = re.compile(r'RuleInfo::atomic\((\d+), b"(\w+)", Class::(\w+), Class::(\w+)\)')
+INFO = re.compile(r'no: RuleNo\(([\w:]+)\),\s*id: \*b"(\w+)",\s*applies: Class::(\w+),\s*expects: Class::(\w+),\s*inputs: \[([^\]]+)\]')
+OWN = re.compile(r"^impl (\w+) \{\n(?:    ///.*\n)*    pub const NO: u16 = (\d+);\n.*?^    pub const INFO: RuleInfo = RuleInfo \{(.*?)^    \};",
+                 re.MULTILINE | re.DOTALL)
+COMPOSITE = re.compile(r"^const (\w+): RuleInfo = RuleInfo \{(.*?)^\};", re.MULTILINE | re.DOTALL)
+TABLE = re.compile(r"static INFOS: .*?\[\n(.*?)\];", re.DOTALL)
 FUNCTION = re.compile(r"^( *)(?:pub(?:\(\w+\))? )?fn (\w+)(.*?)^\1\}$", re.MULTILINE | re.DOTALL)
 IMPORT = re.compile(r"^use crate::(\w+)::(?:(\w+)|\{([^}]*)\});", re.MULTILINE)
 ARM = re.compile(r"(?:(\w+)::(\w+) => )?(?:Finding::(\w+)\()?Reason::(\w+)")
@@ -23,7 +25,7 @@ OUTCOMES = {"failed": "failed", "cant_tell": "cantTell", "passed": "passed"}
 
 @dataclass(frozen=True)
 class Info:
-    """A rule as its table has it: its number, id and classes, and the numbers of its inputs."""
+    """What a rule says of itself: its number, id and classes, and the numbers of its inputs."""
 
     number: int
     id: str
@@ -60,21 +62,36 @@ def source(path: pathlib.Path) -> Source:
     return Source(path, text, {found[2]: found[3] for found in FUNCTION.finditer(text)}, imports)
 
 
+def info_in(text: str, numbers: dict[str, int]) -> Info:
+    """The info that a text of the sources has, whose numbers are written as such, or by these names."""
+    told = INFO.search(text)
+    if not told:
+        raise SystemExit(f"no info can be read: {text}")
+    number, *inputs = [numbers[word] if "::" in word else int(word) for word in re.findall(r"\w+::NO|\d+", f"{told[1]} {told[5].split(';')[0]}")]
+    return Info(number, told[2], told[3], told[4], tuple(one for one in inputs if one != 0))
+
+
 def infos() -> list[Info]:
     """The rules of the book's table, in its order."""
     text = (CRATES / "rule_book" / "src" / "table.rt").read_text(encoding="utf-8")
-    found = [Info(int(no), rule, applies, expects) for no, rule, applies, expects in ROW.findall(text)]
-    composites = [Info(int(no), rule, applies, expects, tuple(map(int, inputs.split(","))))
-                  for no, rule, applies, expects, inputs in COMPOSITE.findall(text)]
-    return sorted(found + composites, key=lambda info: info.number)
+    known = {f"{name}::INFO": info for name, info in own_by_name().items()}
+    numbers = {f"{name}::NO": info.number for name, info in own_by_name().items()}
+    known |= {name: info_in(told, numbers) for name, told in COMPOSITE.findall(text)}
+    table = TABLE.search(text)
+    return [known[name] for name in re.findall(r"([\w:]+),", table[1] if table else "")]
+
+
+def own_by_name() -> dict[str, Info]:
+    """What each atomic rule says of itself, by its type."""
+    return {found[1]: info_in(found[3], {"Self::NO": int(found[2])}) for path in own_infos() if (found := OWN.search(source(path).text))}
 
 
 def own_infos() -> dict[pathlib.Path, Info]:
     """What each atomic rule says of itself, by its file."""
     found = {}
     for path in sorted(CRATES.glob("rules_*/src/*.rt")):
-        if told := INFO.search(source(path).text):
-            found[path] = Info(int(told[1]), told[2], told[3], told[4])
+        if told := OWN.search(source(path).text):
+            found[path] = info_in(told[3], {"Self::NO": int(told[2])})
     return found
 
 

@@ -1,4 +1,4 @@
--- The book of the thirty rules, in the order of their numbers.
+-- The book of all rules, in the order of their numbers.
 use Rattle.std.specs.Prelude.{List, [], ◌∷◌, filter, not, None, codes}
 use Rattle.rule_core.specs.declared.info.RuleInfo.{RuleInfo}
 use Rattle.rule_core.specs.declared.info.Class.TheVariants.{Whole}
@@ -31,7 +31,7 @@ use Rattle.rules_aria.specs.AriaHidden.{hidden_holds_no_focus, hidden_holds_no_f
 use Rattle.rules_tables.specs.HeadersReferToCells.{headers_refer_to_cells, headers_refer_to_cells_info}
 use Rattle.rules_tables.specs.HeaderHasCells.{header_has_cells, header_has_cells_info}
 
--- ACT rule cf77f2, Bypass Blocks of Repeated Content: a composite of the four rules on the ways to bypass
+-- ACT rule cf77f2, Bypass Blocks of Repeated Content: a composite of the rules on the ways to bypass
 abbrev pub blocks_can_be_bypassed_info : RuleInfo
 blocks_can_be_bypassed_info =
     record { no = record { 0 = 30 }; id = codes "cf77f2"; applies = Whole; expects = Whole; inputs = 26 ∷ 27 ∷ 28 ∷ 29 ∷ [] }

@@ -1,4 +1,4 @@
--- The book of the thirty rules is local: each atomic rule of it is.
+-- The book of all rules is local: each atomic rule of it is.
 use Rattle.std.proofs.Common.{refl}
 use Rattle.rule_core.specs.Books.{book_of}
 use Rattle.rule_core.specs.Local.{IsLocalBook}

@@ -25,7 +25,7 @@ use snap_tree::{NodeId, OutOfMemory, Tree};
 use std::alloc::Global;
 use std::marker::Model;
 
-/// The book of the thirty rules. Contracts see it as the number of its judgings so far, which at the
+/// The book of all rules. Contracts see it as the number of its judgings so far, which at the
 /// greatest `u64` stays.
 #[derive(Debug, Drop)]
 pub struct Thirty {
@@ -55,81 +55,58 @@ impl Thirty {
     }
 }
 
+// What the rule of a number answers to a call; what is given otherwise, by a number that is no atomic rule of the book.
+macro_rules! asked {
+    ($rule:expr, $call:ident $given:tt, $otherwise:expr) => {
+        match $rule.0 {
+            PageHasTitle::NO => PageHasTitle.$call $given,
+            TitleIsDescriptive::NO => TitleIsDescriptive.$call $given,
+            PageHasLang::NO => PageHasLang.$call $given,
+            LanguageIsKnown::NO => LanguageIsKnown.$call $given,
+            LanguageOfPartIsKnown::NO => LanguageOfPartIsKnown.$call $given,
+            ViewportAllowsZoom::NO => ViewportAllowsZoom.$call $given,
+            PageHasNoDelay::NO => PageHasNoDelay.$call $given,
+            ButtonHasName::NO => ButtonHasName.$call $given,
+            LinkHasName::NO => LinkHasName.$call $given,
+            ImageHasName::NO => ImageHasName.$call $given,
+            ImageButtonHasName::NO => ImageButtonHasName.$call $given,
+            FormFieldHasName::NO => FormFieldHasName.$call $given,
+            IframeHasName::NO => IframeHasName.$call $given,
+            HeadingHasName::NO => HeadingHasName.$call $given,
+            SvgImageHasName::NO => SvgImageHasName.$call $given,
+            HeadingIsDescriptive::NO => HeadingIsDescriptive.$call $given,
+            AutocompleteIsValid::NO => AutocompleteIsValid.$call $given,
+            RoleIsValid::NO => RoleIsValid.$call $given,
+            AriaAttributeIsDefined::NO => AriaAttributeIsDefined.$call $given,
+            AriaValueIsValid::NO => AriaValueIsValid.$call $given,
+            HasRequiredStates::NO => HasRequiredStates.$call $given,
+            OwnsRequiredElements::NO => OwnsRequiredElements.$call $given,
+            HiddenHoldsNoFocus::NO => HiddenHoldsNoFocus.$call $given,
+            HeadersReferToCells::NO => HeadersReferToCells.$call $given,
+            HeaderHasCells::NO => HeaderHasCells.$call $given,
+            HasHeadingToStart::NO => HasHeadingToStart.$call $given,
+            HasLandmark::NO => HasLandmark.$call $given,
+            HasSkipLink::NO => HasSkipLink.$call $given,
+            HasCollapse::NO => HasCollapse.$call $given,
+            _ => $otherwise,
+        }
+    };
+}
+
 // What the rule of a number says of a node; nothing by a number that is no atomic rule of the book.
 fn said(alloc: Global, tree: &Tree, rule: RuleNo, n: NodeId) -> Result<Option<Verdict>, OutOfMemory>
     ensures { IfOk result (λ verdict. verdict ≡ said thirty rule tree.now n) }
 {
-    match rule.0 {
-        1 => PageHasTitle.judge(alloc, tree, n),
-        2 => TitleIsDescriptive.judge(alloc, tree, n),
-        3 => PageHasLang.judge(alloc, tree, n),
-        4 => LanguageIsKnown.judge(alloc, tree, n),
-        5 => LanguageOfPartIsKnown.judge(alloc, tree, n),
-        6 => ViewportAllowsZoom.judge(alloc, tree, n),
-        7 => PageHasNoDelay.judge(alloc, tree, n),
-        8 => ButtonHasName.judge(alloc, tree, n),
-        9 => LinkHasName.judge(alloc, tree, n),
-        10 => ImageHasName.judge(alloc, tree, n),
-        11 => ImageButtonHasName.judge(alloc, tree, n),
-        12 => FormFieldHasName.judge(alloc, tree, n),
-        13 => IframeHasName.judge(alloc, tree, n),
-        14 => HeadingHasName.judge(alloc, tree, n),
-        15 => SvgImageHasName.judge(alloc, tree, n),
-        16 => HeadingIsDescriptive.judge(alloc, tree, n),
-        17 => AutocompleteIsValid.judge(alloc, tree, n),
-        18 => RoleIsValid.judge(alloc, tree, n),
-        19 => AriaAttributeIsDefined.judge(alloc, tree, n),
-        20 => AriaValueIsValid.judge(alloc, tree, n),
-        21 => HasRequiredStates.judge(alloc, tree, n),
-        22 => OwnsRequiredElements.judge(alloc, tree, n),
-        23 => HiddenHoldsNoFocus.judge(alloc, tree, n),
-        24 => HeadersReferToCells.judge(alloc, tree, n),
-        25 => HeaderHasCells.judge(alloc, tree, n),
-        26 => HasHeadingToStart.judge(alloc, tree, n),
-        27 => HasLandmark.judge(alloc, tree, n),
-        28 => HasSkipLink.judge(alloc, tree, n),
-        29 => HasCollapse.judge(alloc, tree, n),
-        _ => Ok(None),
-    }
+    asked!(rule, judge(alloc, tree, n), Ok(None))
 }
 
 // What the rule of a number says of a page, as the rule goes over it; nothing by a number that is no atomic rule of
 // the book.
+#[tactic(auto, using(crate::proofs::Numbered::by_number))]
 fn said_of_page(alloc: Global, tree: &Tree, rule: RuleNo) -> Result<Vec<NodeVerdict>, OutOfMemory>
     ensures { IfOk result (λ verdicts. verdicts.items ≡ page_verdicts (said thirty rule) tree.now) }
 {
-    match rule.0 {
-        1 => PageHasTitle.judge_page(alloc, tree),
-        2 => TitleIsDescriptive.judge_page(alloc, tree),
-        3 => PageHasLang.judge_page(alloc, tree),
-        4 => LanguageIsKnown.judge_page(alloc, tree),
-        5 => LanguageOfPartIsKnown.judge_page(alloc, tree),
-        6 => ViewportAllowsZoom.judge_page(alloc, tree),
-        7 => PageHasNoDelay.judge_page(alloc, tree),
-        8 => ButtonHasName.judge_page(alloc, tree),
-        9 => LinkHasName.judge_page(alloc, tree),
-        10 => ImageHasName.judge_page(alloc, tree),
-        11 => ImageButtonHasName.judge_page(alloc, tree),
-        12 => FormFieldHasName.judge_page(alloc, tree),
-        13 => IframeHasName.judge_page(alloc, tree),
-        14 => HeadingHasName.judge_page(alloc, tree),
-        15 => SvgImageHasName.judge_page(alloc, tree),
-        16 => HeadingIsDescriptive.judge_page(alloc, tree),
-        17 => AutocompleteIsValid.judge_page(alloc, tree),
-        18 => RoleIsValid.judge_page(alloc, tree),
-        19 => AriaAttributeIsDefined.judge_page(alloc, tree),
-        20 => AriaValueIsValid.judge_page(alloc, tree),
-        21 => HasRequiredStates.judge_page(alloc, tree),
-        22 => OwnsRequiredElements.judge_page(alloc, tree),
-        23 => HiddenHoldsNoFocus.judge_page(alloc, tree),
-        24 => HeadersReferToCells.judge_page(alloc, tree),
-        25 => HeaderHasCells.judge_page(alloc, tree),
-        26 => HasHeadingToStart.judge_page(alloc, tree),
-        27 => HasLandmark.judge_page(alloc, tree),
-        28 => HasSkipLink.judge_page(alloc, tree),
-        29 => HasCollapse.judge_page(alloc, tree),
-        _ => Ok(Vec::new(alloc)),
-    }
+    asked!(rule, judge_page(alloc, tree), Ok(Vec::new(alloc)))
 }
 
 // A count after so many more; at the greatest `u64` it stays.

@@ -7,7 +7,7 @@ ghost use Rattle.rules_aria.specs.AriaAttribute.{is_unknown, attribute_finding, 
 use crate::aria_lines::aria_lines;
 use acc_tree::aria_attrs;
 use aria_tables::{attr_of, is_later};
-use rule_core::{Class, Finding, Reason, Rule, RuleInfo, Verdict};
+use rule_core::{Class, Finding, Reason, Rule, RuleInfo, RuleNo, Verdict};
 use rule_sights::row_of;
 use snap_tree::{Attr, NodeId, OutOfMemory, Row, Tree};
 use std::alloc::Global;
@@ -19,6 +19,20 @@ use std::alloc::Global;
 /// those attributes.
 #[derive(Clone, Copy, Debug, PartialEq, Eq)]
 pub struct AriaAttributeIsDefined;
+
+impl AriaAttributeIsDefined {
+    /// Its number.
+    pub const NO: u16 = 19;
+
+    /// What the rule says of itself.
+    pub const INFO: RuleInfo = RuleInfo {
+        no: RuleNo(Self::NO),
+        id: *b"5f99a7",
+        applies: Class::SelfOnly,
+        expects: Class::SelfOnly,
+        inputs: [0; 4],
+    };
+}
 
 fn is_unknown(attr: &Attr) -> bool
     ensures { result ≡ is_unknown attr.now }
@@ -67,7 +81,7 @@ impl Rule for AriaAttributeIsDefined {
     ghost described = { aria_attribute_is_defined_info };
 
     fn info(&self) -> RuleInfo {
-        RuleInfo::atomic(19, b"5f99a7", Class::SelfOnly, Class::SelfOnly)
+        Self::INFO
     }
 
     fn judge(&self, alloc: Global, tree: &Tree, n: NodeId) -> Result<Option<Verdict>, OutOfMemory> {

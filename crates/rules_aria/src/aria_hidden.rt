@@ -5,7 +5,7 @@ ghost use Rattle.rules_aria.specs.AriaHidden.{stops_among, stops, hidden_finding
 use crate::joined::add_word;
 use acc_tree::{Attribute, Sight, is_hidden};
 use aria_tables::AriaAttr;
-use rule_core::{Class, Finding, Reason, Rule, RuleInfo, Verdict};
+use rule_core::{Class, Finding, Reason, Rule, RuleInfo, RuleNo, Verdict};
 use rule_sights::sight_with;
 use snap_tree::{NodeId, OutOfMemory, Row, Text, Tree};
 use std::alloc::Global;
@@ -16,6 +16,20 @@ use std::alloc::Global;
 /// numbers of those nodes.
 #[derive(Clone, Copy, Debug, PartialEq, Eq)]
 pub struct HiddenHoldsNoFocus;
+
+impl HiddenHoldsNoFocus {
+    /// Its number.
+    pub const NO: u16 = 23;
+
+    /// What the rule says of itself.
+    pub const INFO: RuleInfo = RuleInfo {
+        no: RuleNo(Self::NO),
+        id: *b"6cfa84",
+        applies: Class::SelfOnly,
+        expects: Class::Sub,
+        inputs: [0; 4],
+    };
+}
 
 fn stops_among(alloc: Global, rows: &[Row]) -> Result<Vec<NodeId>, OutOfMemory>
     ensures { IfOk result (λ nodes. nodes.items ≡ stops_among rows.now) }
@@ -85,7 +99,7 @@ impl Rule for HiddenHoldsNoFocus {
     ghost described = { hidden_holds_no_focus_info };
 
     fn info(&self) -> RuleInfo {
-        RuleInfo::atomic(23, b"6cfa84", Class::SelfOnly, Class::Sub)
+        Self::INFO
     }
 
     fn judge(&self, alloc: Global, tree: &Tree, n: NodeId) -> Result<Option<Verdict>, OutOfMemory> {

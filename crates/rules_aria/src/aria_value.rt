@@ -9,7 +9,7 @@ ghost use Rattle.rule_sights.specs.Nodes.{sight_where};
 use crate::aria_lines::aria_lines;
 use acc_tree::{Above, Sight, aria_attrs, exposed_at, first_found, sight_of};
 use aria_tables::{AriaAttr, attr_of, is_reference, value_ok};
-use rule_core::{Class, Finding, Reason, Rule, RuleInfo, Verdict};
+use rule_core::{Class, Finding, Reason, Rule, RuleInfo, RuleNo, Verdict};
 use snap_tree::{Attr, NodeId, OutOfMemory, Row, Tree, blank};
 use std::alloc::Global;
 
@@ -20,6 +20,20 @@ use std::alloc::Global;
 /// is the lines of all its ARIA attributes.
 #[derive(Clone, Copy, Debug, PartialEq, Eq)]
 pub struct AriaValueIsValid;
+
+impl AriaValueIsValid {
+    /// Its number.
+    pub const NO: u16 = 20;
+
+    /// What the rule says of itself.
+    pub const INFO: RuleInfo = RuleInfo {
+        no: RuleNo(Self::NO),
+        id: *b"6a7281",
+        applies: Class::SelfOnly,
+        expects: Class::Sub,
+        inputs: [0; 4],
+    };
+}
 
 fn filled_attr(attr: &Attr) -> Option<AriaAttr>
     ensures { result ≡ filled_attr attr.now }
@@ -112,7 +126,7 @@ impl Rule for AriaValueIsValid {
     ghost described = { aria_value_is_valid_info };
 
     fn info(&self) -> RuleInfo {
-        RuleInfo::atomic(20, b"6a7281", Class::SelfOnly, Class::Sub)
+        Self::INFO
     }
 
     fn judge(&self, alloc: Global, tree: &Tree, n: NodeId) -> Result<Option<Verdict>, OutOfMemory> {

@@ -10,7 +10,7 @@ use acc_tree::{
     Above, Attribute, InputType, Tag, attr, has, html_tag, included_at, input_type, is_word_at,
 };
 use aria_tables::{AriaAttr, is_among};
-use rule_core::{Class, Finding, Reason, Rule, RuleInfo, Verdict};
+use rule_core::{Class, Finding, Reason, Rule, RuleInfo, RuleNo, Verdict};
 use rule_sights::sight_with;
 use snap_tree::{NodeId, OutOfMemory, Row, Text, Tree, blank, next_word, same_folded};
 use std::alloc::Global;
@@ -85,6 +85,20 @@ const CONTACT_FIELDS: [&str; 10] = [
 /// detail tokens"). The evidence is autocomplete.
 #[derive(Clone, Copy, Debug, PartialEq, Eq)]
 pub struct AutocompleteIsValid;
+
+impl AutocompleteIsValid {
+    /// Its number.
+    pub const NO: u16 = 17;
+
+    /// What the rule says of itself.
+    pub const INFO: RuleInfo = RuleInfo {
+        no: RuleNo(Self::NO),
+        id: *b"73f2c2",
+        applies: Class::SelfOnly,
+        expects: Class::SelfOnly,
+        inputs: [0; 4],
+    };
+}
 
 fn begins_section(token: &str) -> bool
     ensures { result ≡ begins_section token.now }
@@ -289,7 +303,7 @@ impl Rule for AutocompleteIsValid {
     ghost described = { autocomplete_is_valid_info };
 
     fn info(&self) -> RuleInfo {
-        RuleInfo::atomic(17, b"73f2c2", Class::SelfOnly, Class::SelfOnly)
+        Self::INFO
     }
 
     fn judge(&self, alloc: Global, tree: &Tree, n: NodeId) -> Result<Option<Verdict>, OutOfMemory> {

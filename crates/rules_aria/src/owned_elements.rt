@@ -8,7 +8,7 @@ use acc_tree::{
     Above, Attribute, OwnedElement, Sight, explicit_at, included_at, is_word_at, owned_by,
 };
 use aria_tables::{AriaAttr, Role, allowed_owned, looks_through};
-use rule_core::{Class, Finding, Reason, Rule, RuleInfo, Verdict};
+use rule_core::{Class, Finding, Reason, Rule, RuleInfo, RuleNo, Verdict};
 use rule_sights::sight_with;
 use snap_tree::{NodeId, OutOfMemory, Row, Text, Tree};
 use std::alloc::Global;
@@ -21,6 +21,20 @@ use std::alloc::Global;
 /// the roles of what it owns.
 #[derive(Clone, Copy, Debug, PartialEq, Eq)]
 pub struct OwnsRequiredElements;
+
+impl OwnsRequiredElements {
+    /// Its number.
+    pub const NO: u16 = 22;
+
+    /// What the rule says of itself.
+    pub const INFO: RuleInfo = RuleInfo {
+        no: RuleNo(Self::NO),
+        id: *b"bc4a75",
+        applies: Class::SelfOnly,
+        expects: Class::Sub,
+        inputs: [0; 4],
+    };
+}
 
 fn are_allowed(allowed: &[Role], elements: &[OwnedElement]) -> bool
     ensures { result ≡ are_allowed allowed.now elements.now }
@@ -90,7 +104,7 @@ impl Rule for OwnsRequiredElements {
     ghost described = { owns_required_elements_info };
 
     fn info(&self) -> RuleInfo {
-        RuleInfo::atomic(22, b"bc4a75", Class::SelfOnly, Class::Sub)
+        Self::INFO
     }
 
     fn judge(&self, alloc: Global, tree: &Tree, n: NodeId) -> Result<Option<Verdict>, OutOfMemory> {

@@ -9,7 +9,7 @@ use acc_tree::{
     is_blank_at,
 };
 use aria_tables::{AriaAttr, Role, required_states, same_role};
-use rule_core::{Class, Finding, Reason, Rule, RuleInfo, Verdict};
+use rule_core::{Class, Finding, Reason, Rule, RuleInfo, RuleNo, Verdict};
 use rule_sights::sight_with;
 use snap_tree::{NodeId, OutOfMemory, Row, Tree};
 use std::alloc::Global;
@@ -21,6 +21,20 @@ use std::alloc::Global;
 /// those that are required is blank. The evidence is the lines of its ARIA attributes.
 #[derive(Clone, Copy, Debug, PartialEq, Eq)]
 pub struct HasRequiredStates;
+
+impl HasRequiredStates {
+    /// Its number.
+    pub const NO: u16 = 21;
+
+    /// What the rule says of itself.
+    pub const INFO: RuleInfo = RuleInfo {
+        no: RuleNo(Self::NO),
+        id: *b"4e8ab6",
+        applies: Class::SelfOnly,
+        expects: Class::SelfOnly,
+        inputs: [0; 4],
+    };
+}
 
 fn is_checked_by_type(kind: InputType) -> bool
     ensures { result ≡ is_checked_by_type kind }
@@ -89,7 +103,7 @@ impl Rule for HasRequiredStates {
     ghost described = { has_required_states_info };
 
     fn info(&self) -> RuleInfo {
-        RuleInfo::atomic(21, b"4e8ab6", Class::SelfOnly, Class::SelfOnly)
+        Self::INFO
     }
 
     fn judge(&self, alloc: Global, tree: &Tree, n: NodeId) -> Result<Option<Verdict>, OutOfMemory> {

@@ -5,7 +5,7 @@ ghost use Rattle.rules_aria.specs.Role.{names_known, is_outside, names_outside, 
 use crate::token::begins;
 use acc_tree::{Above, Attribute, attr, exposed_at};
 use aria_tables::role_of;
-use rule_core::{Class, Finding, Reason, Rule, RuleInfo, Verdict};
+use rule_core::{Class, Finding, Reason, Rule, RuleInfo, RuleNo, Verdict};
 use rule_sights::sight_with;
 use snap_tree::{NodeId, OutOfMemory, Row, Text, Tree, blank, next_word};
 use std::alloc::Global;
@@ -17,6 +17,20 @@ use std::alloc::Global;
 /// evidence is the role attribute.
 #[derive(Clone, Copy, Debug, PartialEq, Eq)]
 pub struct RoleIsValid;
+
+impl RoleIsValid {
+    /// Its number.
+    pub const NO: u16 = 18;
+
+    /// What the rule says of itself.
+    pub const INFO: RuleInfo = RuleInfo {
+        no: RuleNo(Self::NO),
+        id: *b"674b10",
+        applies: Class::SelfOnly,
+        expects: Class::SelfOnly,
+        inputs: [0; 4],
+    };
+}
 
 fn names_known(text: &str) -> bool
     ensures { result ≡ names_known text.now }
@@ -85,7 +99,7 @@ impl Rule for RoleIsValid {
     ghost described = { role_is_valid_info };
 
     fn info(&self) -> RuleInfo {
-        RuleInfo::atomic(18, b"674b10", Class::SelfOnly, Class::SelfOnly)
+        Self::INFO
     }
 
     fn judge(&self, alloc: Global, tree: &Tree, n: NodeId) -> Result<Option<Verdict>, OutOfMemory> {

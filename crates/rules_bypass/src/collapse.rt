@@ -1,7 +1,7 @@
 ghost use Rattle.rules_bypass.specs.Bypass.{has_collapse, has_collapse_info};
 
 use crate::bypass::Bypass;
-use rule_core::{Class, Rule, RuleInfo, Verdict};
+use rule_core::{Class, Rule, RuleInfo, RuleNo, Verdict};
 use rule_sights::page_root;
 use snap_tree::{NodeId, OutOfMemory, Tree};
 use std::alloc::Global;
@@ -14,13 +14,27 @@ use std::alloc::Global;
 #[derive(Clone, Copy, Debug, PartialEq, Eq)]
 pub struct HasCollapse;
 
+impl HasCollapse {
+    /// Its number.
+    pub const NO: u16 = 29;
+
+    /// What the rule says of itself.
+    pub const INFO: RuleInfo = RuleInfo {
+        no: RuleNo(Self::NO),
+        id: *b"3e12e1",
+        applies: Class::Whole,
+        expects: Class::Whole,
+        inputs: [0; 4],
+    };
+}
+
 impl Rule for HasCollapse {
     ghost means = { has_collapse };
 
     ghost described = { has_collapse_info };
 
     fn info(&self) -> RuleInfo {
-        RuleInfo::atomic(29, b"3e12e1", Class::Whole, Class::Whole)
+        Self::INFO
     }
 
     fn judge(&self, alloc: Global, tree: &Tree, n: NodeId) -> Result<Option<Verdict>, OutOfMemory> {

@@ -1,7 +1,7 @@
 ghost use Rattle.rules_bypass.specs.Bypass.{has_heading, has_heading_info};
 
 use crate::bypass::Bypass;
-use rule_core::{Class, Rule, RuleInfo, Verdict};
+use rule_core::{Class, Rule, RuleInfo, RuleNo, Verdict};
 use rule_sights::page_root;
 use snap_tree::{NodeId, OutOfMemory, Tree};
 use std::alloc::Global;
@@ -13,13 +13,27 @@ use std::alloc::Global;
 #[derive(Clone, Copy, Debug, PartialEq, Eq)]
 pub struct HasHeadingToStart;
 
+impl HasHeadingToStart {
+    /// Its number.
+    pub const NO: u16 = 26;
+
+    /// What the rule says of itself.
+    pub const INFO: RuleInfo = RuleInfo {
+        no: RuleNo(Self::NO),
+        id: *b"047fe0",
+        applies: Class::Whole,
+        expects: Class::Whole,
+        inputs: [0; 4],
+    };
+}
+
 impl Rule for HasHeadingToStart {
     ghost means = { has_heading };
 
     ghost described = { has_heading_info };
 
     fn info(&self) -> RuleInfo {
-        RuleInfo::atomic(26, b"047fe0", Class::Whole, Class::Whole)
+        Self::INFO
     }
 
     fn judge(&self, alloc: Global, tree: &Tree, n: NodeId) -> Result<Option<Verdict>, OutOfMemory> {

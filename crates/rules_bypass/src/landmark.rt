@@ -1,7 +1,7 @@
 ghost use Rattle.rules_bypass.specs.Bypass.{has_landmark, has_landmark_info};
 
 use crate::bypass::Bypass;
-use rule_core::{Class, Rule, RuleInfo, Verdict};
+use rule_core::{Class, Rule, RuleInfo, RuleNo, Verdict};
 use rule_sights::page_root;
 use snap_tree::{NodeId, OutOfMemory, Tree};
 use std::alloc::Global;
@@ -13,13 +13,27 @@ use std::alloc::Global;
 #[derive(Clone, Copy, Debug, PartialEq, Eq)]
 pub struct HasLandmark;
 
+impl HasLandmark {
+    /// Its number.
+    pub const NO: u16 = 27;
+
+    /// What the rule says of itself.
+    pub const INFO: RuleInfo = RuleInfo {
+        no: RuleNo(Self::NO),
+        id: *b"b40fd1",
+        applies: Class::Whole,
+        expects: Class::Whole,
+        inputs: [0; 4],
+    };
+}
+
 impl Rule for HasLandmark {
     ghost means = { has_landmark };
 
     ghost described = { has_landmark_info };
 
     fn info(&self) -> RuleInfo {
-        RuleInfo::atomic(27, b"b40fd1", Class::Whole, Class::Whole)
+        Self::INFO
     }
 
     fn judge(&self, alloc: Global, tree: &Tree, n: NodeId) -> Result<Option<Verdict>, OutOfMemory> {

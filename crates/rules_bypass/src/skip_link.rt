@@ -1,7 +1,7 @@
 ghost use Rattle.rules_bypass.specs.Bypass.{has_skip_link, has_skip_link_info};
 
 use crate::bypass::Bypass;
-use rule_core::{Class, Rule, RuleInfo, Verdict};
+use rule_core::{Class, Rule, RuleInfo, RuleNo, Verdict};
 use rule_sights::page_root;
 use snap_tree::{NodeId, OutOfMemory, Tree};
 use std::alloc::Global;
@@ -14,13 +14,27 @@ use std::alloc::Global;
 #[derive(Clone, Copy, Debug, PartialEq, Eq)]
 pub struct HasSkipLink;
 
+impl HasSkipLink {
+    /// Its number.
+    pub const NO: u16 = 28;
+
+    /// What the rule says of itself.
+    pub const INFO: RuleInfo = RuleInfo {
+        no: RuleNo(Self::NO),
+        id: *b"ye5d6e",
+        applies: Class::Whole,
+        expects: Class::Whole,
+        inputs: [0; 4],
+    };
+}
+
 impl Rule for HasSkipLink {
     ghost means = { has_skip_link };
 
     ghost described = { has_skip_link_info };
 
     fn info(&self) -> RuleInfo {
-        RuleInfo::atomic(28, b"ye5d6e", Class::Whole, Class::Whole)
+        Self::INFO
     }
 
     fn judge(&self, alloc: Global, tree: &Tree, n: NodeId) -> Result<Option<Verdict>, OutOfMemory> {

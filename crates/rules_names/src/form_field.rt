@@ -4,7 +4,7 @@ use crate::by_name::{JudgesByName, judge_alone, judge_in_turn};
 use crate::named::wants_name;
 use acc_tree::included_at;
 use aria_tables::Role;
-use rule_core::{Class, LastLong, NodeVerdict, Rule, RuleInfo, Verdict};
+use rule_core::{Class, LastLong, NodeVerdict, Rule, RuleInfo, RuleNo, Verdict};
 use rule_sights::sight_as;
 use snap_tree::{NodeId, OutOfMemory, Tree};
 use std::alloc::Global;
@@ -15,6 +15,20 @@ use std::alloc::Global;
 /// the name.
 #[derive(Clone, Copy, Debug, PartialEq, Eq)]
 pub struct FormFieldHasName;
+
+impl FormFieldHasName {
+    /// Its number.
+    pub const NO: u16 = 12;
+
+    /// What the rule says of itself.
+    pub const INFO: RuleInfo = RuleInfo {
+        no: RuleNo(Self::NO),
+        id: *b"e086e5",
+        applies: Class::SelfOnly,
+        expects: Class::Sub,
+        inputs: [0; 4],
+    };
+}
 
 /// The roles of form fields.
 const FORM_FIELDS: [Role; 11] = [
@@ -57,7 +71,7 @@ impl Rule for FormFieldHasName {
     ghost described = { form_field_has_name_info };
 
     fn info(&self) -> RuleInfo {
-        RuleInfo::atomic(12, b"e086e5", Class::SelfOnly, Class::Sub)
+        Self::INFO
     }
 
     fn judge(&self, alloc: Global, tree: &Tree, n: NodeId) -> Result<Option<Verdict>, OutOfMemory> {

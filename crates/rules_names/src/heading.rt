@@ -4,7 +4,7 @@ use crate::by_name::{JudgesByName, judge_alone, judge_in_turn};
 use crate::named::wants_name;
 use acc_tree::included_at;
 use aria_tables::Role;
-use rule_core::{Class, LastLong, NodeVerdict, Rule, RuleInfo, Verdict};
+use rule_core::{Class, LastLong, NodeVerdict, Rule, RuleInfo, RuleNo, Verdict};
 use rule_sights::sight_as;
 use snap_tree::{NodeId, OutOfMemory, Tree};
 use std::alloc::Global;
@@ -14,6 +14,20 @@ use std::alloc::Global;
 /// node of role heading. It fails where the name is empty. The evidence is the role and the name.
 #[derive(Clone, Copy, Debug, PartialEq, Eq)]
 pub struct HeadingHasName;
+
+impl HeadingHasName {
+    /// Its number.
+    pub const NO: u16 = 14;
+
+    /// What the rule says of itself.
+    pub const INFO: RuleInfo = RuleInfo {
+        no: RuleNo(Self::NO),
+        id: *b"ffd0e9",
+        applies: Class::SelfOnly,
+        expects: Class::Sub,
+        inputs: [0; 4],
+    };
+}
 
 impl JudgesByName for HeadingHasName {
     ghost says = { heading_has_name };
@@ -41,7 +55,7 @@ impl Rule for HeadingHasName {
     ghost described = { heading_has_name_info };
 
     fn info(&self) -> RuleInfo {
-        RuleInfo::atomic(14, b"ffd0e9", Class::SelfOnly, Class::Sub)
+        Self::INFO
     }
 
     fn judge(&self, alloc: Global, tree: &Tree, n: NodeId) -> Result<Option<Verdict>, OutOfMemory> {

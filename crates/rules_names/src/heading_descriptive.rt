@@ -9,7 +9,7 @@ use crate::named::named_verdict;
 use acc_name::name;
 use acc_tree::{Sight, included_at, role_at};
 use aria_tables::Role;
-use rule_core::{Class, Finding, LastLong, NodeVerdict, Reason, Rule, RuleInfo, Verdict};
+use rule_core::{Class, Finding, LastLong, NodeVerdict, Reason, Rule, RuleInfo, RuleNo, Verdict};
 use rule_sights::sight_as;
 use snap_tree::{NodeId, OutOfMemory, Text, Tree};
 use std::alloc::Global;
@@ -20,6 +20,20 @@ use std::alloc::Global;
 /// name.
 #[derive(Clone, Copy, Debug, PartialEq, Eq)]
 pub struct HeadingIsDescriptive;
+
+impl HeadingIsDescriptive {
+    /// Its number.
+    pub const NO: u16 = 16;
+
+    /// What the rule says of itself.
+    pub const INFO: RuleInfo = RuleInfo {
+        no: RuleNo(Self::NO),
+        id: *b"b49b2e",
+        applies: Class::Sub,
+        expects: Class::Sub,
+        inputs: [0; 4],
+    };
+}
 
 fn asks_a_person(
     alloc: Global,
@@ -75,7 +89,7 @@ impl Rule for HeadingIsDescriptive {
     ghost described = { heading_is_descriptive_info };
 
     fn info(&self) -> RuleInfo {
-        RuleInfo::atomic(16, b"b49b2e", Class::Sub, Class::Sub)
+        Self::INFO
     }
 
     fn judge(&self, alloc: Global, tree: &Tree, n: NodeId) -> Result<Option<Verdict>, OutOfMemory> {

@@ -3,7 +3,7 @@ ghost use Rattle.rules_names.specs.Iframe.{iframe_has_name, iframe_has_name_info
 use crate::by_name::{JudgesByName, judge_alone, judge_in_turn};
 use crate::named::wants_name;
 use acc_tree::included_at;
-use rule_core::{Class, LastLong, NodeVerdict, Rule, RuleInfo, Verdict};
+use rule_core::{Class, LastLong, NodeVerdict, Rule, RuleInfo, RuleNo, Verdict};
 use rule_sights::sight_of_html;
 use snap_tree::{NodeId, OutOfMemory, Tree};
 use std::alloc::Global;
@@ -13,6 +13,20 @@ use std::alloc::Global;
 /// HTML `iframe`. It fails where the name is empty. The evidence is the role and the name.
 #[derive(Clone, Copy, Debug, PartialEq, Eq)]
 pub struct IframeHasName;
+
+impl IframeHasName {
+    /// Its number.
+    pub const NO: u16 = 13;
+
+    /// What the rule says of itself.
+    pub const INFO: RuleInfo = RuleInfo {
+        no: RuleNo(Self::NO),
+        id: *b"cae760",
+        applies: Class::SelfOnly,
+        expects: Class::Sub,
+        inputs: [0; 4],
+    };
+}
 
 impl JudgesByName for IframeHasName {
     ghost says = { iframe_has_name };
@@ -40,7 +54,7 @@ impl Rule for IframeHasName {
     ghost described = { iframe_has_name_info };
 
     fn info(&self) -> RuleInfo {
-        RuleInfo::atomic(13, b"cae760", Class::SelfOnly, Class::Sub)
+        Self::INFO
     }
 
     fn judge(&self, alloc: Global, tree: &Tree, n: NodeId) -> Result<Option<Verdict>, OutOfMemory> {

@@ -10,7 +10,7 @@ use crate::named::{name_finding, named_verdict};
 use acc_name::name;
 use acc_tree::{Above, Sight, decorative_at, exposed_at, included_at, role_at};
 use aria_tables::Role;
-use rule_core::{Class, Finding, LastLong, NodeVerdict, Reason, Rule, RuleInfo, Verdict};
+use rule_core::{Class, Finding, LastLong, NodeVerdict, Reason, Rule, RuleInfo, RuleNo, Verdict};
 use rule_sights::sight_as;
 use snap_tree::{NodeId, OutOfMemory, Row, Text, Tree};
 use std::alloc::Global;
@@ -22,6 +22,20 @@ use std::alloc::Global;
 /// name.
 #[derive(Clone, Copy, Debug, PartialEq, Eq)]
 pub struct ImageHasName;
+
+impl ImageHasName {
+    /// Its number.
+    pub const NO: u16 = 10;
+
+    /// What the rule says of itself.
+    pub const INFO: RuleInfo = RuleInfo {
+        no: RuleNo(Self::NO),
+        id: *b"23a2a8",
+        applies: Class::SelfOnly,
+        expects: Class::Sub,
+        inputs: [0; 4],
+    };
+}
 
 fn is_included_image(above: &Above, row: &Row) -> bool
     ensures { result ≡ is_included_image above.now (seen_row row.now) }
@@ -90,7 +104,7 @@ impl Rule for ImageHasName {
     ghost described = { image_has_name_info };
 
     fn info(&self) -> RuleInfo {
-        RuleInfo::atomic(10, b"23a2a8", Class::SelfOnly, Class::Sub)
+        Self::INFO
     }
 
     fn judge(&self, alloc: Global, tree: &Tree, n: NodeId) -> Result<Option<Verdict>, OutOfMemory> {

@@ -6,7 +6,7 @@ use crate::by_name::{JudgesByName, judge_alone, judge_in_turn};
 use crate::elements::is_image_input;
 use crate::named::wants_name;
 use acc_tree::{Above, Attribute, included_at};
-use rule_core::{Class, LastLong, NodeVerdict, Rule, RuleInfo, Verdict};
+use rule_core::{Class, LastLong, NodeVerdict, Rule, RuleInfo, RuleNo, Verdict};
 use rule_sights::sight_with;
 use snap_tree::{NodeId, OutOfMemory, Row, Tree};
 use std::alloc::Global;
@@ -16,6 +16,20 @@ use std::alloc::Global;
 /// HTML `input` of type image. It fails where the name is empty. The evidence is the role and the name.
 #[derive(Clone, Copy, Debug, PartialEq, Eq)]
 pub struct ImageButtonHasName;
+
+impl ImageButtonHasName {
+    /// Its number.
+    pub const NO: u16 = 11;
+
+    /// What the rule says of itself.
+    pub const INFO: RuleInfo = RuleInfo {
+        no: RuleNo(Self::NO),
+        id: *b"59796f",
+        applies: Class::SelfOnly,
+        expects: Class::Sub,
+        inputs: [0; 4],
+    };
+}
 
 fn is_target(above: &Above, row: &Row) -> bool
     ensures { result ≡ is_image_button_target above.now (seen_row row.now) }
@@ -49,7 +63,7 @@ impl Rule for ImageButtonHasName {
     ghost described = { image_button_has_name_info };
 
     fn info(&self) -> RuleInfo {
-        RuleInfo::atomic(11, b"59796f", Class::SelfOnly, Class::Sub)
+        Self::INFO
     }
 
     fn judge(&self, alloc: Global, tree: &Tree, n: NodeId) -> Result<Option<Verdict>, OutOfMemory> {

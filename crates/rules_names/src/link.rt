@@ -7,7 +7,7 @@ use crate::elements::is_html_element;
 use crate::named::wants_name;
 use acc_tree::{Above, included_at};
 use aria_tables::Role;
-use rule_core::{Class, LastLong, NodeVerdict, Rule, RuleInfo, Verdict};
+use rule_core::{Class, LastLong, NodeVerdict, Rule, RuleInfo, RuleNo, Verdict};
 use rule_sights::sight_as;
 use snap_tree::{NodeId, OutOfMemory, Row, Tree};
 use std::alloc::Global;
@@ -17,6 +17,20 @@ use std::alloc::Global;
 /// HTML element of role link. It fails where the name is empty. The evidence is the role and the name.
 #[derive(Clone, Copy, Debug, PartialEq, Eq)]
 pub struct LinkHasName;
+
+impl LinkHasName {
+    /// Its number.
+    pub const NO: u16 = 9;
+
+    /// What the rule says of itself.
+    pub const INFO: RuleInfo = RuleInfo {
+        no: RuleNo(Self::NO),
+        id: *b"c487ae",
+        applies: Class::SelfOnly,
+        expects: Class::Sub,
+        inputs: [0; 4],
+    };
+}
 
 fn is_target(above: &Above, row: &Row) -> bool
     ensures { result ≡ is_link_target above.now (seen_row row.now) }
@@ -50,7 +64,7 @@ impl Rule for LinkHasName {
     ghost described = { link_has_name_info };
 
     fn info(&self) -> RuleInfo {
-        RuleInfo::atomic(9, b"c487ae", Class::SelfOnly, Class::Sub)
+        Self::INFO
     }
 
     fn judge(&self, alloc: Global, tree: &Tree, n: NodeId) -> Result<Option<Verdict>, OutOfMemory> {

@@ -7,7 +7,7 @@ use crate::elements::is_svg_element;
 use crate::named::wants_name;
 use acc_tree::{Above, Attribute, explicit_at, included_at};
 use aria_tables::Role;
-use rule_core::{Class, LastLong, NodeVerdict, Rule, RuleInfo, Verdict};
+use rule_core::{Class, LastLong, NodeVerdict, Rule, RuleInfo, RuleNo, Verdict};
 use rule_sights::sight_with;
 use snap_tree::{NodeId, OutOfMemory, Row, Tree};
 use std::alloc::Global;
@@ -18,6 +18,20 @@ use std::alloc::Global;
 /// the name.
 #[derive(Clone, Copy, Debug, PartialEq, Eq)]
 pub struct SvgImageHasName;
+
+impl SvgImageHasName {
+    /// Its number.
+    pub const NO: u16 = 15;
+
+    /// What the rule says of itself.
+    pub const INFO: RuleInfo = RuleInfo {
+        no: RuleNo(Self::NO),
+        id: *b"7d6734",
+        applies: Class::SelfOnly,
+        expects: Class::Sub,
+        inputs: [0; 4],
+    };
+}
 
 fn is_target(above: &Above, row: &Row) -> bool
     ensures { result ≡ is_svg_image_target above.now (seen_row row.now) }
@@ -51,7 +65,7 @@ impl Rule for SvgImageHasName {
     ghost described = { svg_image_has_name_info };
 
     fn info(&self) -> RuleInfo {
-        RuleInfo::atomic(15, b"7d6734", Class::SelfOnly, Class::Sub)
+        Self::INFO
     }
 
     fn judge(&self, alloc: Global, tree: &Tree, n: NodeId) -> Result<Option<Verdict>, OutOfMemory> {

@@ -2,7 +2,7 @@ ghost use Rattle.rules_page.specs.Language.{page_has_lang, page_has_lang_info};
 
 use crate::filled::filled;
 use acc_tree::{Attribute, attr};
-use rule_core::{Class, Reason, Rule, RuleInfo, Verdict};
+use rule_core::{Class, Reason, Rule, RuleInfo, RuleNo, Verdict};
 use rule_sights::page_root;
 use snap_tree::{NodeId, OutOfMemory, Tree};
 use std::alloc::Global;
@@ -13,13 +13,27 @@ use std::alloc::Global;
 #[derive(Clone, Copy, Debug, PartialEq, Eq)]
 pub struct PageHasLang;
 
+impl PageHasLang {
+    /// Its number.
+    pub const NO: u16 = 3;
+
+    /// What the rule says of itself.
+    pub const INFO: RuleInfo = RuleInfo {
+        no: RuleNo(Self::NO),
+        id: *b"b5c3f8",
+        applies: Class::SelfOnly,
+        expects: Class::SelfOnly,
+        inputs: [0; 4],
+    };
+}
+
 impl Rule for PageHasLang {
     ghost means = { page_has_lang };
 
     ghost described = { page_has_lang_info };
 
     fn info(&self) -> RuleInfo {
-        RuleInfo::atomic(3, b"b5c3f8", Class::SelfOnly, Class::SelfOnly)
+        Self::INFO
     }
 
     fn judge(&self, alloc: Global, tree: &Tree, n: NodeId) -> Result<Option<Verdict>, OutOfMemory> {

@@ -4,7 +4,7 @@ ghost use Rattle.rules_page.specs.LanguageKnown.{language_verdict, language_is_k
 
 use crate::languages::tag_verdict;
 use acc_tree::{Attribute, attr};
-use rule_core::{Class, Rule, RuleInfo, Verdict};
+use rule_core::{Class, Rule, RuleInfo, RuleNo, Verdict};
 use rule_sights::page_root;
 use snap_tree::{NodeId, OutOfMemory, Row, Tree, blank};
 use std::alloc::Global;
@@ -15,6 +15,20 @@ use std::alloc::Global;
 /// letters. The evidence is lang.
 #[derive(Clone, Copy, Debug, PartialEq, Eq)]
 pub struct LanguageIsKnown;
+
+impl LanguageIsKnown {
+    /// Its number.
+    pub const NO: u16 = 4;
+
+    /// What the rule says of itself.
+    pub const INFO: RuleInfo = RuleInfo {
+        no: RuleNo(Self::NO),
+        id: *b"bf051a",
+        applies: Class::SelfOnly,
+        expects: Class::SelfOnly,
+        inputs: [0; 4],
+    };
+}
 
 fn verdict(alloc: Global, root: &Row) -> Result<Option<Verdict>, OutOfMemory>
     ensures { IfOk result (λ verdict. verdict ≡ language_verdict (seen_row root.now)) }
@@ -31,7 +45,7 @@ impl Rule for LanguageIsKnown {
     ghost described = { language_is_known_info };
 
     fn info(&self) -> RuleInfo {
-        RuleInfo::atomic(4, b"bf051a", Class::SelfOnly, Class::SelfOnly)
+        Self::INFO
     }
 
     fn judge(&self, alloc: Global, tree: &Tree, n: NodeId) -> Result<Option<Verdict>, OutOfMemory> {

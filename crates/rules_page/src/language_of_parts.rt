@@ -7,7 +7,7 @@ ghost use Rattle.rules_page.specs.LanguageOfParts.{is_html_part, is_shown_text, 
 
 use crate::languages::tag_verdict;
 use acc_tree::{Attribute, Sight, attr};
-use rule_core::{Class, Rule, RuleInfo, Verdict};
+use rule_core::{Class, Rule, RuleInfo, RuleNo, Verdict};
 use rule_sights::sight_with;
 use snap_tree::{Body, Branches, NodeId, OutOfMemory, Row, Space, Text, Tree, blank};
 use std::alloc::Global;
@@ -18,6 +18,20 @@ use std::alloc::Global;
 /// the primary subtag is unknown; a person has to judge one of three letters. The evidence is lang.
 #[derive(Clone, Copy, Debug, PartialEq, Eq)]
 pub struct LanguageOfPartIsKnown;
+
+impl LanguageOfPartIsKnown {
+    /// Its number.
+    pub const NO: u16 = 5;
+
+    /// What the rule says of itself.
+    pub const INFO: RuleInfo = RuleInfo {
+        no: RuleNo(Self::NO),
+        id: *b"de46e4",
+        applies: Class::Sub,
+        expects: Class::Sub,
+        inputs: [0; 4],
+    };
+}
 
 fn is_html_part(row: &Row) -> bool
     ensures { result ≡ is_html_part (seen_row row.now) }
@@ -75,7 +89,7 @@ impl Rule for LanguageOfPartIsKnown {
     ghost described = { language_of_part_is_known_info };
 
     fn info(&self) -> RuleInfo {
-        RuleInfo::atomic(5, b"de46e4", Class::Sub, Class::Sub)
+        Self::INFO
     }
 
     fn judge(&self, alloc: Global, tree: &Tree, n: NodeId) -> Result<Option<Verdict>, OutOfMemory> {

@@ -3,7 +3,7 @@ ghost use Rattle.acc_tree.specs.Seen.{seen};
 ghost use Rattle.rules_page.specs.PageTitle.{first_title, texts, page_title, page_has_title, page_has_title_info};
 
 use crate::filled::filled;
-use rule_core::{Class, Reason, Rule, RuleInfo, Verdict};
+use rule_core::{Class, Reason, Rule, RuleInfo, RuleNo, Verdict};
 use rule_sights::page_root;
 use snap_tree::{Body, Branches, NodeId, OutOfMemory, Text, Tree, tidy};
 use std::alloc::Global;
@@ -13,6 +13,20 @@ use std::alloc::Global;
 /// fails where there is no HTML element `title`, or the page title is blank. The evidence is the page title.
 #[derive(Clone, Copy, Debug, PartialEq, Eq)]
 pub struct PageHasTitle;
+
+impl PageHasTitle {
+    /// Its number.
+    pub const NO: u16 = 1;
+
+    /// What the rule says of itself.
+    pub const INFO: RuleInfo = RuleInfo {
+        no: RuleNo(Self::NO),
+        id: *b"2779a5",
+        applies: Class::SelfOnly,
+        expects: Class::Title,
+        inputs: [0; 4],
+    };
+}
 
 /// What is below the first HTML element `title` in document order; `None` where there is none.
 fn first_title(trees: Branches<'_>) -> Option<Branches<'_>>
@@ -71,7 +85,7 @@ impl Rule for PageHasTitle {
     ghost described = { page_has_title_info };
 
     fn info(&self) -> RuleInfo {
-        RuleInfo::atomic(1, b"2779a5", Class::SelfOnly, Class::Title)
+        Self::INFO
     }
 
     fn judge(&self, alloc: Global, tree: &Tree, n: NodeId) -> Result<Option<Verdict>, OutOfMemory> {

@@ -5,7 +5,7 @@ ghost use Rattle.rules_page.specs.Refresh.{after_white, is_over, is_over_after_d
 
 use crate::digits::{after_digits, begins_with_digit, number_at_start};
 use acc_tree::{Attribute, attr, is_word_at};
-use rule_core::{Class, Finding, Reason, Rule, RuleInfo, Verdict};
+use rule_core::{Class, Finding, Reason, Rule, RuleInfo, RuleNo, Verdict};
 use rule_sights::row_of;
 use snap_tree::{NodeId, OutOfMemory, Row, Tree};
 use std::alloc::Global;
@@ -16,6 +16,20 @@ use std::alloc::Global;
 /// seconds, which is twenty hours. The evidence is the content.
 #[derive(Clone, Copy, Debug, PartialEq, Eq)]
 pub struct PageHasNoDelay;
+
+impl PageHasNoDelay {
+    /// Its number.
+    pub const NO: u16 = 7;
+
+    /// What the rule says of itself.
+    pub const INFO: RuleInfo = RuleInfo {
+        no: RuleNo(Self::NO),
+        id: *b"bc659a",
+        applies: Class::Metas,
+        expects: Class::SelfOnly,
+        inputs: [0; 4],
+    };
+}
 
 fn after_white(text: &[u8]) -> &[u8]
     ensures { result.now ≡ after_white text.now }
@@ -149,7 +163,7 @@ impl Rule for PageHasNoDelay {
     ghost described = { page_has_no_delay_info };
 
     fn info(&self) -> RuleInfo {
-        RuleInfo::atomic(7, b"bc659a", Class::Metas, Class::SelfOnly)
+        Self::INFO
     }
 
     fn judge(&self, alloc: Global, tree: &Tree, n: NodeId) -> Result<Option<Verdict>, OutOfMemory> {

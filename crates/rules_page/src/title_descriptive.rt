@@ -2,7 +2,7 @@ ghost use Rattle.std.specs.Prelude.{◌≡◌, IfOk};
 ghost use Rattle.rules_page.specs.TitleDescriptive.{title_and_address, asks_a_person, title_is_descriptive, title_is_descriptive_info};
 
 use crate::page_title::page_title;
-use rule_core::{Class, Finding, Reason, Rule, RuleInfo, Verdict};
+use rule_core::{Class, Finding, Reason, Rule, RuleInfo, RuleNo, Verdict};
 use rule_sights::page_root;
 use snap_tree::{NodeId, OutOfMemory, Text, Tree, blank};
 use std::alloc::Global;
@@ -12,6 +12,20 @@ use std::alloc::Global;
 /// title isn't blank. A person has to judge it. The evidence is the page title and the address.
 #[derive(Clone, Copy, Debug, PartialEq, Eq)]
 pub struct TitleIsDescriptive;
+
+impl TitleIsDescriptive {
+    /// Its number.
+    pub const NO: u16 = 2;
+
+    /// What the rule says of itself.
+    pub const INFO: RuleInfo = RuleInfo {
+        no: RuleNo(Self::NO),
+        id: *b"c4a8a4",
+        applies: Class::Title,
+        expects: Class::Title,
+        inputs: [0; 4],
+    };
+}
 
 fn title_and_address(alloc: Global, title: &Text, address: &Text) -> Result<Text, OutOfMemory>
     ensures { IfOk result (λ text. text ≡ title_and_address title.now address.now) }
@@ -43,7 +57,7 @@ impl Rule for TitleIsDescriptive {
     ghost described = { title_is_descriptive_info };
 
     fn info(&self) -> RuleInfo {
-        RuleInfo::atomic(2, b"c4a8a4", Class::Title, Class::Title)
+        Self::INFO
     }
 
     fn judge(&self, alloc: Global, tree: &Tree, n: NodeId) -> Result<Option<Verdict>, OutOfMemory> {

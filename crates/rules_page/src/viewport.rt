@@ -5,7 +5,7 @@ ghost use Rattle.rules_page.specs.Viewport.{fraction, with_fraction, thousandths
 
 use crate::digits::{GREATEST, digit};
 use acc_tree::{Attribute, attr, is_word_at, whole_number};
-use rule_core::{Class, Finding, Reason, Rule, RuleInfo, Verdict};
+use rule_core::{Class, Finding, Reason, Rule, RuleInfo, RuleNo, Verdict};
 use rule_sights::row_of;
 use snap_tree::{NodeId, OutOfMemory, Row, Text, Tree, same_folded};
 use std::alloc::Global;
@@ -16,6 +16,20 @@ use std::alloc::Global;
 /// `no`, or maximum-scale is below 2. The evidence is the content.
 #[derive(Clone, Copy, Debug, PartialEq, Eq)]
 pub struct ViewportAllowsZoom;
+
+impl ViewportAllowsZoom {
+    /// Its number.
+    pub const NO: u16 = 6;
+
+    /// What the rule says of itself.
+    pub const INFO: RuleInfo = RuleInfo {
+        no: RuleNo(Self::NO),
+        id: *b"b4f0c3",
+        applies: Class::SelfOnly,
+        expects: Class::SelfOnly,
+        inputs: [0; 4],
+    };
+}
 
 /// A key by which a viewport can keep a page from being zoomed.
 #[derive(Clone, Copy)]
@@ -224,7 +238,7 @@ impl Rule for ViewportAllowsZoom {
     ghost described = { viewport_allows_zoom_info };
 
     fn info(&self) -> RuleInfo {
-        RuleInfo::atomic(6, b"b4f0c3", Class::SelfOnly, Class::SelfOnly)
+        Self::INFO
     }
 
     fn judge(&self, alloc: Global, tree: &Tree, n: NodeId) -> Result<Option<Verdict>, OutOfMemory> {

@@ -11,7 +11,9 @@ use crate::heads::{Heads, heads_among, heads_of};
 use crate::tables::{below, in_table};
 use acc_tree::{Above, included_at, role_at};
 use aria_tables::Role;
-use rule_core::{Class, Finding, NodeVerdict, Reason, Rule, RuleInfo, Verdict, push_verdict};
+use rule_core::{
+    Class, Finding, NodeVerdict, Reason, Rule, RuleInfo, RuleNo, Verdict, push_verdict,
+};
 use rule_sights::sight_of_html;
 use snap_tree::{Branches, NodeId, OutOfMemory, Row, Text, Tree};
 use std::alloc::Global;
@@ -23,6 +25,20 @@ use std::alloc::Global;
 /// 100,000 slots isn't searched, and a person has to judge. The evidence is the number of the table's cells.
 #[derive(Clone, Copy, Debug, PartialEq, Eq)]
 pub struct HeaderHasCells;
+
+impl HeaderHasCells {
+    /// Its number.
+    pub const NO: u16 = 25;
+
+    /// What the rule says of itself.
+    pub const INFO: RuleInfo = RuleInfo {
+        no: RuleNo(Self::NO),
+        id: *b"d0f69e",
+        applies: Class::SelfOnly,
+        expects: Class::Table,
+        inputs: [0; 4],
+    };
+}
 
 fn is_header_role(role: Option<Role>) -> bool
     ensures { result ≡ is_header_role role }
@@ -127,7 +143,7 @@ impl Rule for HeaderHasCells {
     ghost described = { header_has_cells_info };
 
     fn info(&self) -> RuleInfo {
-        RuleInfo::atomic(25, b"d0f69e", Class::SelfOnly, Class::Table)
+        Self::INFO
     }
 
     fn judge(&self, alloc: Global, tree: &Tree, n: NodeId) -> Result<Option<Verdict>, OutOfMemory> {

@@ -13,7 +13,9 @@ use crate::table_ids::{TableIds, all_ids, ids_among, ids_inside};
 use crate::table_rows::is_cell;
 use crate::tables::{below, in_table};
 use acc_tree::{Above, Attribute, attr, exposed_at, is_blank_at, text_at};
-use rule_core::{Class, Finding, NodeVerdict, Reason, Rule, RuleInfo, Verdict, push_verdict};
+use rule_core::{
+    Class, Finding, NodeVerdict, Reason, Rule, RuleInfo, RuleNo, Verdict, push_verdict,
+};
 use rule_sights::sight_with;
 use snap_tree::{Branches, NodeId, OutOfMemory, Row, Tree, next_word};
 use std::alloc::Global;
@@ -24,6 +26,20 @@ use std::alloc::Global;
 /// token is the id of no other `td` or `th` of that table. The evidence is `headers`.
 #[derive(Clone, Copy, Debug, PartialEq, Eq)]
 pub struct HeadersReferToCells;
+
+impl HeadersReferToCells {
+    /// Its number.
+    pub const NO: u16 = 24;
+
+    /// What the rule says of itself.
+    pub const INFO: RuleInfo = RuleInfo {
+        no: RuleNo(Self::NO),
+        id: *b"a25f45",
+        applies: Class::SelfOnly,
+        expects: Class::Table,
+        inputs: [0; 4],
+    };
+}
 
 fn refer_inside(ids: &Bearers<'_>, inside: &Branches<'_>, n: NodeId, text: &str) -> bool
     requires { AreIds (seen inside.now) ids.now }
@@ -129,7 +145,7 @@ impl Rule for HeadersReferToCells {
     ghost described = { headers_refer_to_cells_info };
 
     fn info(&self) -> RuleInfo {
-        RuleInfo::atomic(24, b"a25f45", Class::SelfOnly, Class::Table)
+        Self::INFO
     }
 
     fn judge(&self, alloc: Global, tree: &Tree, n: NodeId) -> Result<Option<Verdict>, OutOfMemory> {
