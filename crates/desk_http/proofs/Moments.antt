@@ -1,13 +1,9 @@
--- What stands beside a link or a door, of a keeper and of books.
-use Rattle.std.proofs.Common.{ℕ, List, Option, map}
+-- The desk by what stands beside its door, and what a keeper tells.
+use Rattle.std.proofs.Common.{ℕ, List, Option}
 use Rattle.links.specs.Wires.{Wire}
 use Rattle.links.specs.Doors.{Doorway}
-use Rattle.keep_core.specs.Tables.{Tables}
 use Rattle.desk_core.specs.Told.{Told}
 use Rattle.desk_http.specs.Desk.{Moment, Desk}
-
-abbrev pub moment : {K B : Type 0} → (K → Option Tables) → (K → ℕ) → (B → ℕ) → K → List B → Moment
-moment tables faults calls keeper books = record { tables = tables keeper; faults = faults keeper; calls = map calls books }
 
 -- the desk of a door, with this beside it
 abbrev pub desk_with : {L : Type 0} → (L → Option Wire) → (L → ℕ) → Doorway → Option (List L) → Moment → Desk L

@@ -1,4 +1,4 @@
-ghost use Rattle.std.specs.Prelude.{◌≡◌, ◌<◌, ◌≤◌, List, [], length, map, IfOk, IsTrue};
+ghost use Rattle.std.specs.Prelude.{◌≡◌, ◌<◌, ◌≤◌, List, [], length, IfOk, IsTrue};
 ghost use Rattle.std.specs.Vec.{vec_capacity};
 ghost use Rattle.rule_core.specs.declared.info.RuleInfo.{RuleInfo};
 ghost use Rattle.rule_core.specs.Infos.{is_orderly};
@@ -6,6 +6,7 @@ ghost use Rattle.desk_core.specs.Fitting.{FitsRequest};
 ghost use Rattle.http_messages.specs.declared.item.Sent.TheVariants as came;
 ghost use Rattle.desk_http.specs.Printed.{bytes_of, PrintsReply, PrintsAnswer};
 ghost use Rattle.http_replies.specs.Answers.{answer_bytes, no_memory};
+ghost use Rattle.desk_http.specs.Desk.{moment_of};
 ghost use Rattle.desk_http.specs.Answering.{as_request};
 ghost use Rattle.desk_http.specs.Serving.{Responds, RespondsTo, IsEither};
 
@@ -35,8 +36,8 @@ pub(crate) fn answer<R: Threads + Sync, K: Keeper, B: RuleBook + Send>(
 ) -> Printed
     requires some { 0 < length books.old }
     ensures { Responds B.book sent.now closes
-        (record { tables = K.tables keeper.old; faults = K.faults keeper.old; calls = map B.calls books.old })
-        (record { tables = K.tables keeper.new; faults = K.faults keeper.new; calls = map B.calls books.new }) (bytes_of result) }
+        (moment_of K.Keeper B.calls keeper.old books.old)
+        (moment_of K.Keeper B.calls keeper.new books.new) (bytes_of result) }
 {
     match sent {
         Sent::Refused(fault) => refuse(alloc, &books[0], Answer::Misread(*fault), closes),
@@ -55,8 +56,8 @@ fn answer_message<R: Threads + Sync, K: Keeper, B: RuleBook + Send>(
 ) -> Printed
     requires some { 0 < length books.old }
     ensures { Responds B.book (came.Asked message.now) closes
-        (record { tables = K.tables keeper.old; faults = K.faults keeper.old; calls = map B.calls books.old })
-        (record { tables = K.tables keeper.new; faults = K.faults keeper.new; calls = map B.calls books.new }) (bytes_of result) }
+        (moment_of K.Keeper B.calls keeper.old books.old)
+        (moment_of K.Keeper B.calls keeper.new books.new) (bytes_of result) }
 {
     match request_of(
         alloc,
@@ -131,8 +132,8 @@ fn answer_request<R: Threads + Sync, K: Keeper, B: RuleBook + Send>(
     requires some { 0 < length books.old }
     requires fits { FitsRequest B.book (as_request asked) }
     ensures { RespondsTo B.book (as_request asked) closes
-        (record { tables = K.tables keeper.old; faults = K.faults keeper.old; calls = map B.calls books.old })
-        (record { tables = K.tables keeper.new; faults = K.faults keeper.new; calls = map B.calls books.new }) (bytes_of result) }
+        (moment_of K.Keeper B.calls keeper.old books.old)
+        (moment_of K.Keeper B.calls keeper.new books.new) (bytes_of result) }
 {
     match paper_for(alloc, &books[0]) {
         Ok(paper) => hand_over(rt, alloc, keeper, books, asked, paper, closes),
@@ -156,8 +157,8 @@ fn hand_over<R: Threads + Sync, K: Keeper, B: RuleBook + Send>(
     requires empty { paper.room.items ≡ [] }
     requires room { MOST_REPLY ≤ vec_capacity paper.room }
     ensures { RespondsTo B.book (as_request asked) closes
-        (record { tables = K.tables keeper.old; faults = K.faults keeper.old; calls = map B.calls books.old })
-        (record { tables = K.tables keeper.new; faults = K.faults keeper.new; calls = map B.calls books.new }) (bytes_of result) }
+        (moment_of K.Keeper B.calls keeper.old books.old)
+        (moment_of K.Keeper B.calls keeper.new books.new) (bytes_of result) }
 {
     let Asked { caller, command } = asked;
     let reply = handle(rt, alloc, books, keeper, &caller, command);

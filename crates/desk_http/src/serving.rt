@@ -1,8 +1,9 @@
-ghost use Rattle.std.specs.Prelude.{◌≡◌, ◌<◌, ◌≤◌, List, length, map, OnOk};
+ghost use Rattle.std.specs.Prelude.{◌≡◌, ◌<◌, ◌≤◌, List, length, OnOk};
 ghost use Rattle.rule_core.specs.declared.info.RuleInfo.{RuleInfo};
 ghost use Rattle.streams.specs.Streams.{Counts};
 ghost use Rattle.links.specs.Wires.{IsUntouched};
 ghost use Rattle.links.specs.Doors.{TookBack};
+ghost use Rattle.desk_http.specs.Desk.{moment_of, desk_of};
 ghost use Rattle.desk_http.specs.Linking.{Finishes, CountsFaults, full};
 ghost use Rattle.desk_http.specs.Serving.{KeepsSound, ServesItem, Serves, Ends, IsFull};
 ghost use Rattle.desk_http.specs.Doors.{ServesDoor, ServesOne};
@@ -38,8 +39,8 @@ pub fn serve<R: Threads + Sync, D: Door, K: Keeper, B: RuleBook + Send>(
 ) -> Result<(), Failed>
     requires some { 0 < length books.old }
     ensures served { ServesDoor B.book
-        (record { wire = D.Conn.wire; broken = D.Conn.faults; door = D.told door.old; log = D.log door.old; tables = K.tables keeper.old; faults = K.faults keeper.old; calls = map B.calls books.old })
-        (record { wire = D.Conn.wire; broken = D.Conn.faults; door = D.told door.new; log = D.log door.new; tables = K.tables keeper.new; faults = K.faults keeper.new; calls = map B.calls books.new }) }
+        (desk_of D.Door D.Conn.Link K.Keeper B.calls door.old keeper.old books.old)
+        (desk_of D.Door D.Conn.Link K.Keeper B.calls door.new keeper.new books.new) }
     ensures sound { KeepsSound B.book (K.tables keeper.old) (K.tables keeper.new) }
     ensures heard { (D.told door.new).heard ≡ (D.told door.old).heard }
     ensures given_back { (D.told door.new).out ≡ (D.told door.old).out }
@@ -70,8 +71,8 @@ fn serve_next<R: Threads + Sync, D: Door, K: Keeper, B: RuleBook + Send>(
     requires out { 0 < (D.told door.old).out }
     requires untouched { IsUntouched (D.Conn.wire link) (D.Conn.faults link) }
     ensures served { ServesOne B.book
-        (record { wire = D.Conn.wire; broken = D.Conn.faults; door = D.told door.old; log = D.log door.old; tables = K.tables keeper.old; faults = K.faults keeper.old; calls = map B.calls books.old })
-        (record { wire = D.Conn.wire; broken = D.Conn.faults; door = D.told door.new; log = D.log door.new; tables = K.tables keeper.new; faults = K.faults keeper.new; calls = map B.calls books.new }) }
+        (desk_of D.Door D.Conn.Link K.Keeper B.calls door.old keeper.old books.old)
+        (desk_of D.Door D.Conn.Link K.Keeper B.calls door.new keeper.new books.new) }
     ensures sound { KeepsSound B.book (K.tables keeper.old) (K.tables keeper.new) }
     ensures took { TookBack (D.told door.old) (D.told door.new) }
     ensures kept { K.faults keeper.old ≤ K.faults keeper.new }
@@ -100,8 +101,8 @@ pub fn serve_link<R: Threads + Sync, L: Link, K: Keeper, B: RuleBook + Send>(
 ) -> LinkEnd
     requires some { 0 < length books.old }
     ensures served { Serves B.book (Ends (Finishes B.book.infos result)) (L.wire link.old) (L.wire link.new)
-        (record { tables = K.tables keeper.old; faults = K.faults keeper.old; calls = map B.calls books.old })
-        (record { tables = K.tables keeper.new; faults = K.faults keeper.new; calls = map B.calls books.new }) }
+        (moment_of K.Keeper B.calls keeper.old books.old)
+        (moment_of K.Keeper B.calls keeper.new books.new) }
     ensures sound { KeepsSound B.book (K.tables keeper.old) (K.tables keeper.new) }
     ensures faults { CountsFaults result (L.faults link.old) (L.faults link.new) }
     ensures never_falls { L.faults link.old ≤ L.faults link.new }
@@ -122,8 +123,8 @@ fn serve_by<R: Threads + Sync, L: Link, K: Keeper, B: RuleBook + Send>(
 ) -> LinkEnd
     requires some { 0 < length books.old }
     ensures served { Serves B.book (Ends (Finishes B.book.infos result)) (L.wire link.old) (L.wire link.new)
-        (record { tables = K.tables keeper.old; faults = K.faults keeper.old; calls = map B.calls books.old })
-        (record { tables = K.tables keeper.new; faults = K.faults keeper.new; calls = map B.calls books.new }) }
+        (moment_of K.Keeper B.calls keeper.old books.old)
+        (moment_of K.Keeper B.calls keeper.new books.new) }
     ensures sound { KeepsSound B.book (K.tables keeper.old) (K.tables keeper.new) }
     ensures faults { CountsFaults result (L.faults link.old) (L.faults link.new) }
     ensures never_falls { L.faults link.old ≤ L.faults link.new }
@@ -162,8 +163,8 @@ fn serve_item<R: Threads + Sync, L: Link, K: Keeper, B: RuleBook + Send>(
 ) -> Result<(), Failed>
     requires some { 0 < length books.old }
     ensures served { ServesItem B.book item result (L.wire link.old) (L.wire link.new)
-        (record { tables = K.tables keeper.old; faults = K.faults keeper.old; calls = map B.calls books.old })
-        (record { tables = K.tables keeper.new; faults = K.faults keeper.new; calls = map B.calls books.new }) }
+        (moment_of K.Keeper B.calls keeper.old books.old)
+        (moment_of K.Keeper B.calls keeper.new books.new) }
     ensures sound { KeepsSound B.book (K.tables keeper.old) (K.tables keeper.new) }
     ensures reads { L.reads link.new ≡ L.reads link.old }
     ensures counts { Counts (L.faults link.old) (L.faults link.new) result }

@@ -7,11 +7,17 @@ use Rattle.desk_words.specs.declared.command.ProgramCommand.{ProgramCommand}
 use Rattle.audit_run.specs.declared.status.Status.{Status}
 use Rattle.audit_run.specs.declared.status.Status.TheVariants.{UsageFault, WriteFault, NoMemory}
 use Rattle.audit_run.specs.Status.{status_number, status_line, OneOf}
+use Rattle.streams.specs.declared.source.Source as sources
+use Rattle.streams.specs.declared.sink.Sink as sinks
 use Rattle.streams.specs.Told.{Input, Outside}
 use Rattle.streams.specs.Streams.{ReadsAtMost, NoFaults}
 use Rattle.audit_run.specs.Telling.{Writing, line_alone, Tells}
 use Rattle.desk_http.specs.Desk.{Desk}
 use Rattle.desk_run.specs.Commands.{CommandCause, CommandBound, CommandComplete}
+
+-- all that a run meets, of a source and two sinks
+abbrev pub outside_of : {I O E : Type 0} → sources.Ghosts I → sinks.Ghosts O → sinks.Ghosts E → I → O → E → Outside
+outside_of source out err i o e = record { input = source.told i; out = out.told o; err = err.told e }
 
 -- nothing was read, and nothing changed
 pub record NothingDone {L : Type 0} (old new : Input) (before now : Desk L) : Type 0 where

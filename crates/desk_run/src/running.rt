@@ -3,8 +3,9 @@ ghost use Rattle.audit_run.specs.declared.auditing.TheConstants.{MOST_READ};
 ghost use Rattle.streams.specs.Streams.{ReadsAtMost};
 ghost use Rattle.audit_run.specs.Telling.{status_of, writing_of};
 ghost use Rattle.audit_run.specs.Audit.{AuditCause};
+ghost use Rattle.desk_http.specs.Desk.{desk_of};
 ghost use Rattle.desk_run.specs.Desk.{Spares};
-ghost use Rattle.desk_run.specs.Run.{Cause, Runs};
+ghost use Rattle.desk_run.specs.Run.{outside_of, Cause, Runs};
 
 use crate::generate::generate;
 use crate::serve::serve;
@@ -40,10 +41,10 @@ pub fn run<R: Threads + Sync, I: Source, O: Sink, E: Sink, K: Keeper, D: Door, B
     requires some { 0 < vec_len books.old }
     requires unheard { (D.told door.old).heard ≡ None }
     ensures { Runs B.book words.now
-        (record { input = I.told input.old; out = O.told out.old; err = E.told err.old })
-        (record { input = I.told input.new; out = O.told out.new; err = E.told err.new })
-        (record { wire = D.Conn.wire; broken = D.Conn.faults; door = D.told door.old; log = D.log door.old; tables = K.tables keeper.old; faults = K.faults keeper.old; calls = map B.calls books.old.items })
-        (record { wire = D.Conn.wire; broken = D.Conn.faults; door = D.told door.new; log = D.log door.new; tables = K.tables keeper.new; faults = K.faults keeper.new; calls = map B.calls books.new.items })
+        (outside_of I.Source O.Sink E.Sink input.old out.old err.old)
+        (outside_of I.Source O.Sink E.Sink input.new out.new err.new)
+        (desk_of D.Door D.Conn.Link K.Keeper B.calls door.old keeper.old books.old.items)
+        (desk_of D.Door D.Conn.Link K.Keeper B.calls door.new keeper.new books.new.items)
         result }
 {
     let found = find(rt, alloc, words, input, keeper, door, books.as_mut_slice());
@@ -63,8 +64,8 @@ fn find<R: Threads + Sync, I: Source, K: Keeper, D: Door, B: RuleBook + Send>(
     requires some { 0 < length books.old }
     requires unheard { (D.told door.old).heard ≡ None }
     ensures cause { Cause B.book words.now (I.told input.old) (I.told input.new)
-        (record { wire = D.Conn.wire; broken = D.Conn.faults; door = D.told door.old; log = D.log door.old; tables = K.tables keeper.old; faults = K.faults keeper.old; calls = map B.calls books.old })
-        (record { wire = D.Conn.wire; broken = D.Conn.faults; door = D.told door.new; log = D.log door.new; tables = K.tables keeper.new; faults = K.faults keeper.new; calls = map B.calls books.new })
+        (desk_of D.Door D.Conn.Link K.Keeper B.calls door.old keeper.old books.old)
+        (desk_of D.Door D.Conn.Link K.Keeper B.calls door.new keeper.new books.new)
         (status_of result) (writing_of result) }
     ensures never_falls { (I.told input.old).faults ≤ (I.told input.new).faults }
     ensures stops { ReadsAtMost MOST_READ (I.told input.old) (I.told input.new) }

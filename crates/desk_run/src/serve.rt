@@ -1,9 +1,10 @@
-ghost use Rattle.std.specs.Prelude.{◌≡◌, ◌<◌, ◌≤◌, None, OnOk, map, length, take};
+ghost use Rattle.std.specs.Prelude.{◌≡◌, ◌<◌, ◌≤◌, None, OnOk, map, length};
 ghost use Rattle.streams.specs.Streams.{Counts};
+ghost use Rattle.desk_http.specs.Desk.{desk_of};
 ghost use Rattle.desk_http.specs.Serving.{KeepsSound};
 ghost use Rattle.desk_http.specs.Doors.{ServesDoor};
 ghost use Rattle.audit_run.specs.Telling.{status_of, writing_of};
-ghost use Rattle.desk_run.specs.Desk.{Spares};
+ghost use Rattle.desk_run.specs.Desk.{with_first, Spares};
 ghost use Rattle.desk_run.specs.Serve.{ServeCause};
 
 use audit_run::Found;
@@ -28,8 +29,8 @@ pub fn serve<R: Threads + Sync, K: Keeper, D: Door, B: RuleBook + Send>(
     requires workers { 1 ≤ serving.workers }
     requires unheard { (D.told door.old).heard ≡ None }
     ensures { ServeCause B.book serving
-        (record { wire = D.Conn.wire; broken = D.Conn.faults; door = D.told door.old; log = D.log door.old; tables = K.tables keeper.old; faults = K.faults keeper.old; calls = map B.calls books.old })
-        (record { wire = D.Conn.wire; broken = D.Conn.faults; door = D.told door.new; log = D.log door.new; tables = K.tables keeper.new; faults = K.faults keeper.new; calls = map B.calls books.new })
+        (desk_of D.Door D.Conn.Link K.Keeper B.calls door.old keeper.old books.old)
+        (desk_of D.Door D.Conn.Link K.Keeper B.calls door.new keeper.new books.new)
         (status_of result) (writing_of result) }
 {
     if serving.workers > books.len() as u64 {
@@ -56,8 +57,8 @@ fn serve_by<R: Threads + Sync, K: Keeper, D: Door, B: RuleBook + Send>(
     requires some { 1 ≤ workers }
     requires enough { workers ≤ length books.old }
     ensures served { ServesDoor B.book
-        (record { wire = D.Conn.wire; broken = D.Conn.faults; door = D.told door.old; log = D.log door.old; tables = K.tables keeper.old; faults = K.faults keeper.old; calls = take workers (map B.calls books.old) })
-        (record { wire = D.Conn.wire; broken = D.Conn.faults; door = D.told door.new; log = D.log door.new; tables = K.tables keeper.new; faults = K.faults keeper.new; calls = take workers (map B.calls books.new) }) }
+        (with_first workers (desk_of D.Door D.Conn.Link K.Keeper B.calls door.old keeper.old books.old))
+        (with_first workers (desk_of D.Door D.Conn.Link K.Keeper B.calls door.new keeper.new books.new)) }
     ensures sound { KeepsSound B.book (K.tables keeper.old) (K.tables keeper.new) }
     ensures heard { (D.told door.new).heard ≡ (D.told door.old).heard }
     ensures given_back { (D.told door.new).out ≡ (D.told door.old).out }

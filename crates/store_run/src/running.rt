@@ -1,10 +1,11 @@
-ghost use Rattle.std.specs.Prelude.{◌≡◌, ◌<◌, None, map, vec_len};
-ghost use Rattle.keep_sql.specs.Keeper.{tables};
+ghost use Rattle.std.specs.Prelude.{◌≡◌, ◌<◌, None, vec_len};
+ghost use Rattle.desk_http.specs.Desk.{desk_of};
+ghost use Rattle.desk_run.specs.Run.{outside_of};
 ghost use Rattle.store_run.specs.Run.{RunsStore};
 
 use crate::refusal::{StoreRefusal, refuse};
 use desk_run::run;
-use keep_core::KeepFault;
+use keep_core::{KeepFault, Keeper};
 use keep_sql::{Prepared, SqlKeeper};
 use links::Door;
 use rule_core::RuleBook;
@@ -43,10 +44,10 @@ pub fn run_store<
     requires some { 0 < vec_len books.old }
     requires unheard { (D.told door.old).heard ≡ None }
     ensures { RunsStore S.Store B.book words.now keeper.old keeper.new
-        (record { input = I.told input.old; out = O.told out.old; err = E.told err.old })
-        (record { input = I.told input.new; out = O.told out.new; err = E.told err.new })
-        (record { wire = D.Conn.wire; broken = D.Conn.faults; door = D.told door.old; log = D.log door.old; tables = tables S.Store keeper.old; faults = keeper.old.faults; calls = map B.calls books.old.items })
-        (record { wire = D.Conn.wire; broken = D.Conn.faults; door = D.told door.new; log = D.log door.new; tables = tables S.Store keeper.new; faults = keeper.new.faults; calls = map B.calls books.new.items })
+        (outside_of I.Source O.Sink E.Sink input.old out.old err.old)
+        (outside_of I.Source O.Sink E.Sink input.new out.new err.new)
+        (desk_of D.Door D.Conn.Link ⟦<SqlKeeper<S> as Keeper>⟧ B.calls door.old keeper.old books.old.items)
+        (desk_of D.Door D.Conn.Link ⟦<SqlKeeper<S> as Keeper>⟧ B.calls door.new keeper.new books.new.items)
         result }
 {
     match keeper.prepare(alloc) {

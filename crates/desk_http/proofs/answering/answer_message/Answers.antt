@@ -2,14 +2,14 @@ use Rattle.std.proofs.Common.{◌≡◌, ℕ, List, Ok, subst}
 use Rattle.rule_core.specs.Books.{Book}
 use Rattle.http_commands.specs.Requests.{request_of}
 use Rattle.desk_http.specs.Printed.{bytes_of}
-use Rattle.desk_http.proofs.Moments.{moment}
+use Rattle.desk_http.specs.Desk.{moment_of}
 use Rattle.desk_http.proofs.Responding.{unread, asked_so}
 use Rattle.desk_http.proofs.answering.answer_message.Goals as goal
 
 pub returns-in-Ok-Ok : goal.returns-in-Ok-Ok
 returns-in-Ok-Ok g c =
     let keeper = g.K.Keeper in
-    let beside = moment keeper.tables keeper.faults g.B.RuleBook.calls in
+    let beside = moment_of keeper g.B.RuleBook.calls in
     let book : Book = g.B.RuleBook.book in
     let P : List ℕ → Type 0 = λ body. Ok c.in-Ok-Ok.asked ≡ request_of book.infos c.args.message.now.head body in
     let made : P c.as_slice.result.now = rw c.in-Ok-Ok.field-0-is at c.in-Ok-Ok.ensures.exact in
@@ -19,7 +19,7 @@ returns-in-Ok-Ok g c =
 pub returns-in-Err : goal.returns-in-Err
 returns-in-Err g c =
     let keeper = g.K.Keeper in
-    let beside = moment keeper.tables keeper.faults g.B.RuleBook.calls in
+    let beside = moment_of keeper g.B.RuleBook.calls in
     let book : Book = g.B.RuleBook.book in
     unread book c.args.message.now c.args.closes (beside c.args.keeper.now c.args.books.now)
     c.no_memory.result.now (c.no_memory.ensures book.infos)

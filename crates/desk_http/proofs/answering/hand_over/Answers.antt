@@ -3,7 +3,7 @@ use Rattle.rule_core.specs.declared.info.RuleInfo.{RuleInfo}
 use Rattle.rule_core.specs.Books.{Book}
 use Rattle.desk_http.specs.Printed.{bytes_of, PrintsReply}
 use Rattle.desk_http.specs.Answering.{as_request}
-use Rattle.desk_http.proofs.Moments.{moment}
+use Rattle.desk_http.specs.Desk.{moment_of}
 use Rattle.desk_http.proofs.Responding.{others_rest, costs_of, answered}
 use Rattle.desk_http.proofs.answering.hand_over.Goals as goal
 
@@ -11,7 +11,7 @@ pub returns : goal.returns
 returns g c =
     let keeper = g.K.Keeper in
     let calls = g.B.RuleBook.calls in
-    let beside = moment keeper.tables keeper.faults calls in
+    let beside = moment_of keeper calls in
     let book : Book = g.B.RuleBook.book in
     let P : List RuleInfo → Type 0 = λ infos. PrintsReply infos c.handle-reply.result c.args.closes (bytes_of c.print_reply.result) in
     answered book (as_request c.args.asked) c.args.closes (beside c.args.keeper.now c.args.books.now) (beside c.handle-reply.new.keeper c.handle-reply.new.books)

@@ -2,7 +2,8 @@ use Rattle.std.proofs.Common.{◌∙◌, refl, arith}
 use Rattle.std.proofs.lemmas.Result.{err_from_is_err_and}
 use Rattle.counts.proofs.CountLaws.{rose_after}
 use Rattle.rule_core.specs.Books.{Book}
-use Rattle.desk_http.proofs.Moments.{moment, desk_with}
+use Rattle.desk_http.specs.Desk.{moment_of}
+use Rattle.desk_http.proofs.Moments.{desk_with}
 use Rattle.desk_http.proofs.Tables.{keeps_join}
 use Rattle.desk_http.proofs.DoorLaws.{door_none, door_more, door_keeps}
 use Rattle.desk_http.proofs.serving.serve.Goals as goal
@@ -12,7 +13,7 @@ loop-table-init g c =
     let door = g.D.Door in
     let link = g.D.Conn.Link in
     let keeper = g.K.Keeper in
-    let beside = moment keeper.tables keeper.faults g.B.RuleBook.calls in
+    let beside = moment_of keeper g.B.RuleBook.calls in
     let book : Book = g.B.RuleBook.book in
     record {
       served = door_none book (desk_with link.wire link.faults (door.told c.args.door.now) (door.log c.args.door.now) (beside c.args.keeper.now c.args.books.now));
@@ -39,7 +40,7 @@ loop-table-preserved g c =
     let door = g.D.Door in
     let link = g.D.Conn.Link in
     let keeper = g.K.Keeper in
-    let beside = moment keeper.tables keeper.faults g.B.RuleBook.calls in
+    let beside = moment_of keeper g.B.RuleBook.calls in
     let book : Book = g.B.RuleBook.book in
     let i = c.loop-table.invariant in
     let one = c.serve_next.ensures in
@@ -62,7 +63,7 @@ returns-in-None-clause-served g c =
     let door = g.D.Door in
     let link = g.D.Conn.Link in
     let keeper = g.K.Keeper in
-    let beside = moment keeper.tables keeper.faults g.B.RuleBook.calls in
+    let beside = moment_of keeper g.B.RuleBook.calls in
     let book : Book = g.B.RuleBook.book in
     let ended = rw c.in-None.is at c.in_ok-link.ensures.gives in
     door_keeps book link.wire link.faults (door.told c.args.door.now) (door.told c.loop-table.door) (door.told c.next.new.self)
@@ -96,7 +97,7 @@ returns-in_err-link-clause-served g c =
     let door = g.D.Door in
     let link = g.D.Conn.Link in
     let keeper = g.K.Keeper in
-    let beside = moment keeper.tables keeper.faults g.B.RuleBook.calls in
+    let beside = moment_of keeper g.B.RuleBook.calls in
     let book : Book = g.B.RuleBook.book in
     door_keeps book link.wire link.faults (door.told c.args.door.now) (door.told c.loop-table.door) (door.told c.next.new.self)
     (door.log c.args.door.now) (door.log c.loop-table.door) (door.log c.next.new.self)

@@ -2,7 +2,8 @@ use Rattle.std.proofs.Common.{◌≡◌, ◌≤◌}
 use Rattle.rule_core.specs.Books.{Book}
 use Rattle.desk_http.specs.Serving.{KeepsSound}
 use Rattle.desk_http.specs.Doors.{ServesDoor}
-use Rattle.desk_http.proofs.Moments.{moment, desk_with}
+use Rattle.desk_http.specs.Desk.{moment_of}
+use Rattle.desk_http.proofs.Moments.{desk_with}
 use Rattle.desk_http.proofs.serving.serve.Given as goal
 
 abbrev pub invariant-loop-table : goal.invariant-loop-table
@@ -10,7 +11,7 @@ invariant-loop-table g l =
     let door = g.D.Door in
     let link = g.D.Conn.Link in
     let keeper = g.K.Keeper in
-    let beside = moment keeper.tables keeper.faults g.B.RuleBook.calls in
+    let beside = moment_of keeper g.B.RuleBook.calls in
     let desk = desk_with link.wire link.faults in
     let book : Book = g.B.RuleBook.book in
     record {

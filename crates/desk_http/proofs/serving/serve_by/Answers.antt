@@ -4,7 +4,7 @@ use Rattle.rule_core.specs.Books.{Book}
 use Rattle.desk_http.specs.declared.link_end.LinkEnd.TheVariants as end
 use Rattle.desk_http.specs.Linking.{Finishes, CountsFaults}
 use Rattle.desk_http.specs.Serving.{SoFar, Ends}
-use Rattle.desk_http.proofs.Moments.{moment}
+use Rattle.desk_http.specs.Desk.{moment_of}
 use Rattle.desk_http.proofs.Tables.{keeps_join}
 use Rattle.desk_http.proofs.Served.{begins, one_more, goes_on, closes, breaks, ended_between, ended_within, failed_between, not_held}
 use Rattle.desk_http.proofs.serving.serve_by.Goals as goal
@@ -13,7 +13,7 @@ pub loop-held-init : goal.loop-held-init
 loop-held-init g c =
     let link = g.L.Link in
     let keeper = g.K.Keeper in
-    let beside = moment keeper.tables keeper.faults g.B.RuleBook.calls in
+    let beside = moment_of keeper g.B.RuleBook.calls in
     let book : Book = g.B.RuleBook.book in
     record {
       served = begins book c.new-held.result.items (link.wire c.args.link.now) (beside c.args.keeper.now c.args.books.now) c.new-held.ensures.items;
@@ -26,7 +26,7 @@ pub returns-in-Ok-Ended-clause-served : goal.returns-in-Ok-Ended-clause-served
 returns-in-Ok-Ended-clause-served g c =
     let link = g.L.Link in
     let keeper = g.K.Keeper in
-    let beside = moment keeper.tables keeper.faults g.B.RuleBook.calls in
+    let beside = moment_of keeper g.B.RuleBook.calls in
     let book : Book = g.B.RuleBook.book in
     ended_between book c.loop-held.held.items c.read_item.new.held.items (link.wire c.args.link.now) (link.wire c.loop-held.link) (link.wire c.read_item.new.link)
     (beside c.args.keeper.now c.args.books.now) (beside c.loop-held.keeper c.loop-held.books)
@@ -48,7 +48,7 @@ pub returns-in-Ok-Cut-clause-served : goal.returns-in-Ok-Cut-clause-served
 returns-in-Ok-Cut-clause-served g c =
     let link = g.L.Link in
     let keeper = g.K.Keeper in
-    let beside = moment keeper.tables keeper.faults g.B.RuleBook.calls in
+    let beside = moment_of keeper g.B.RuleBook.calls in
     let book : Book = g.B.RuleBook.book in
     ended_within book c.loop-held.held.items c.read_item.new.held.items (link.wire c.args.link.now) (link.wire c.loop-held.link) (link.wire c.read_item.new.link)
     (beside c.args.keeper.now c.args.books.now) (beside c.loop-held.keeper c.loop-held.books)
@@ -70,7 +70,7 @@ pub returns-in-Err-Failed-clause-served : goal.returns-in-Err-Failed-clause-serv
 returns-in-Err-Failed-clause-served g c =
     let link = g.L.Link in
     let keeper = g.K.Keeper in
-    let beside = moment keeper.tables keeper.faults g.B.RuleBook.calls in
+    let beside = moment_of keeper g.B.RuleBook.calls in
     let book : Book = g.B.RuleBook.book in
     failed_between book c.loop-held.held.items c.read_item.new.held.items (link.wire c.args.link.now) (link.wire c.loop-held.link) (link.wire c.read_item.new.link)
     (beside c.args.keeper.now c.args.books.now) (beside c.loop-held.keeper c.loop-held.books)
@@ -94,7 +94,7 @@ pub returns-in-Err-clause-served : goal.returns-in-Err-clause-served
 returns-in-Err-clause-served g c =
     let link = g.L.Link in
     let keeper = g.K.Keeper in
-    let beside = moment keeper.tables keeper.faults g.B.RuleBook.calls in
+    let beside = moment_of keeper g.B.RuleBook.calls in
     let book : Book = g.B.RuleBook.book in
     one_more book c.in-Ok-Came.item (Err c.in-Err.field-0) c.loop-held.held.items c.read_item.new.held.items (link.wire c.args.link.now) (link.wire c.loop-held.link) (link.wire c.read_item.new.link) (link.wire c.serve_item.new.link)
     (beside c.args.keeper.now c.args.books.now) (beside c.loop-held.keeper c.loop-held.books) (beside c.serve_item.new.keeper c.serve_item.new.books)
@@ -124,7 +124,7 @@ pub returns-then-closes-clause-served : goal.returns-then-closes-clause-served
 returns-then-closes-clause-served g c =
     let link = g.L.Link in
     let keeper = g.K.Keeper in
-    let beside = moment keeper.tables keeper.faults g.B.RuleBook.calls in
+    let beside = moment_of keeper g.B.RuleBook.calls in
     let book : Book = g.B.RuleBook.book in
     one_more book c.in-Ok-Came.item (Ok c.in-Ok.field-0) c.loop-held.held.items c.read_item.new.held.items (link.wire c.args.link.now) (link.wire c.loop-held.link) (link.wire c.read_item.new.link) (link.wire c.serve_item.new.link)
     (beside c.args.keeper.now c.args.books.now) (beside c.loop-held.keeper c.loop-held.books) (beside c.serve_item.new.keeper c.serve_item.new.books)
@@ -157,7 +157,7 @@ pub loop-held-preserved : goal.loop-held-preserved
 loop-held-preserved g c =
     let link = g.L.Link in
     let keeper = g.K.Keeper in
-    let beside = moment keeper.tables keeper.faults g.B.RuleBook.calls in
+    let beside = moment_of keeper g.B.RuleBook.calls in
     let book : Book = g.B.RuleBook.book in
     let rises : keeper.faults c.loop-held.keeper ≤ keeper.faults c.serve_item.new.keeper = c.serve_item.ensures.served.settles.never_falls in
     record {
@@ -174,7 +174,7 @@ pub returns-in-Err-OutOfMemory-clause-served : goal.returns-in-Err-OutOfMemory-c
 returns-in-Err-OutOfMemory-clause-served g c =
     let link = g.L.Link in
     let keeper = g.K.Keeper in
-    let beside = moment keeper.tables keeper.faults g.B.RuleBook.calls in
+    let beside = moment_of keeper g.B.RuleBook.calls in
     let book : Book = g.B.RuleBook.book in
     not_held book c.close_full.result c.loop-held.held.items c.read_item.new.held.items (link.wire c.args.link.now) (link.wire c.loop-held.link) (link.wire c.read_item.new.link) (link.wire c.close_full.new.link)
     (beside c.args.keeper.now c.args.books.now) (beside c.loop-held.keeper c.loop-held.books)

@@ -2,14 +2,14 @@ use Rattle.std.proofs.Common.{◌≡◌, ◌≤◌}
 use Rattle.rule_core.specs.Books.{Book}
 use Rattle.http_messages.specs.Reading.{weight}
 use Rattle.desk_http.specs.Serving.{KeepsSound, Serves, SoFar}
-use Rattle.desk_http.proofs.Moments.{moment}
+use Rattle.desk_http.specs.Desk.{moment_of}
 use Rattle.desk_http.proofs.serving.serve_by.Given as goal
 
 abbrev pub invariant-loop-held : goal.invariant-loop-held
 invariant-loop-held g l =
     let link = g.L.Link in
     let keeper = g.K.Keeper in
-    let beside = moment keeper.tables keeper.faults g.B.RuleBook.calls in
+    let beside = moment_of keeper g.B.RuleBook.calls in
     let book : Book = g.B.RuleBook.book in
     record {
       served : Serves book (SoFar book.infos l.held.items) (link.wire l.initial.link) (link.wire l.link)

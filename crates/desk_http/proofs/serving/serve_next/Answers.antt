@@ -1,5 +1,5 @@
 use Rattle.rule_core.specs.Books.{Book}
-use Rattle.desk_http.proofs.Moments.{moment}
+use Rattle.desk_http.specs.Desk.{moment_of}
 use Rattle.desk_http.proofs.DoorLaws.{one_served}
 use Rattle.desk_http.proofs.serving.serve_next.Goals as goal
 
@@ -8,7 +8,7 @@ returns-clause-served g c =
     let door = g.D.Door in
     let link = g.D.Conn.Link in
     let keeper = g.K.Keeper in
-    let beside = moment keeper.tables keeper.faults g.B.RuleBook.calls in
+    let beside = moment_of keeper g.B.RuleBook.calls in
     let book : Book = g.B.RuleBook.book in
     one_served book link.wire link.faults c.serve_by.new.link c.serve_by.result (link.wire c.args.link) (link.faults c.args.link)
     (door.told c.args.door.now) (door.told c.done.new.self) (door.log c.args.door.now) (door.log c.done.new.self)

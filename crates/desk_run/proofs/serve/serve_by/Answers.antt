@@ -1,5 +1,6 @@
 use Rattle.std.proofs.Common.{arith}
-use Rattle.desk_http.proofs.Moments.{moment, desk_with}
+use Rattle.desk_http.specs.Desk.{moment_of}
+use Rattle.desk_http.proofs.Moments.{desk_with}
 use Rattle.desk_run.proofs.Judged.{judged_before, judged_after, served_by}
 use Rattle.desk_run.proofs.serve.serve_by.Goals as goal
 
@@ -10,7 +11,7 @@ returns-clause-served g c =
     let keeper = g.K.Keeper in
     let calls = g.B.RuleBook.calls in
     let desk = desk_with link.wire link.faults in
-    let beside = moment keeper.tables keeper.faults calls in
+    let beside = moment_of keeper calls in
     served_by g.B.RuleBook.book (desk (door.told c.args.door.now) (door.log c.args.door.now) (beside c.args.keeper.now c.args.books.now))
     (desk (door.told c.serve.new.door) (door.log c.serve.new.door) (beside c.serve.new.keeper c.serve.new.books)) _ _ _ _
     (judged_before calls c.args.workers c.args.books.now _ c.split_at_mut-first.ensures.front)
