@@ -17,7 +17,7 @@ use Rattle.judge_core.specs.Equality.{same_row}
 use Rattle.judge_core.proofs.Equal.{rows_decide}
 use Rattle.store_statements.specs.Stored.{outcomes_of, outcomes_at}
 use Rattle.store_statements.specs.Changes.{IsReady, Makes, ChangesOutcomes}
-use Rattle.store_tables.specs.Batches.{outcome_cells, outcomes_cells, outcome_rows}
+use Rattle.store_tables.specs.Outcomes.{outcome_cells, outcomes_cells, outcome_rows}
 use Rattle.store_tables.proofs.Appending.{in_order_same}
 use Rattle.store_tables.proofs.Written.{cells_in_order}
 use Rattle.store_tables.proofs.Rewritten.{outcomes_written}

@@ -13,8 +13,11 @@ use Rattle.keep_core.specs.declared.site.Site.{Site}
 use Rattle.keep_core.specs.declared.page.Page.{Page}
 use Rattle.store_statements.specs.Stored.{Stored, stored, sites_in, pages_of, site_at, members_at, page_at, heads_at, judgements_at, outcomes_at}
 use Rattle.store_tables.specs.Reading.{read_counted}
-use Rattle.store_tables.specs.Rows.{judgement_from, outcome_from}
-use Rattle.store_tables.specs.Told.{is_site, is_page, site_shown, page_shown, judgements_shown, outcomes_shown}
+use Rattle.store_tables.specs.Judgements.{judgement_from, judgements_shown}
+use Rattle.store_tables.specs.Outcomes.{outcome_from, outcomes_shown}
+use Rattle.store_tables.specs.Sites.{site_shown}
+use Rattle.store_tables.specs.Pages.{page_shown}
+use Rattle.store_tables.specs.Told.{is_site, is_page}
 use Rattle.store_tables.specs.Batches.{ReadsSite, ReadsPage}
 use Rattle.store_tables.proofs.Steps.{some_same, none_some}
 use Rattle.store_tables.proofs.Counted.{first_counted}

@@ -19,8 +19,9 @@ use Rattle.keep_core.specs.Fits.{FitsSite, FitsHead, FitsHeads}
 use Rattle.sql_rows.specs.Tables.{name_at}
 use Rattle.store_tables.specs.Reading.{◌>>=◌, read_each}
 use Rattle.store_tables.specs.Cells.{number_in, text_in, named, role_in}
-use Rattle.store_tables.specs.Rows.{member_from, site_from, head_from}
-use Rattle.store_tables.specs.Told.{site_shown, heads_shown}
+use Rattle.store_tables.specs.Members.{member_from}
+use Rattle.store_tables.specs.Sites.{site_from, site_shown}
+use Rattle.store_tables.specs.Pages.{head_from, heads_shown}
 use Rattle.store_tables.proofs.Steps.{some_same, none_some, both_read, found_reads}
 use Rattle.store_tables.proofs.Each.{first_reads}
 use Rattle.store_tables.proofs.Siting.{site_parts}

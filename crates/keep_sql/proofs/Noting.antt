@@ -12,7 +12,7 @@ use Rattle.store_statements.specs.Changes.{IsStore, AddsEdition}
 use Rattle.store_statements.specs.Making.{nothing}
 use Rattle.keep_core.specs.declared.limits.TheConstants.{MOST_REVISION}
 use Rattle.store_tables.specs.Cells.{number_in}
-use Rattle.store_tables.specs.Told.{last_number, edition_shown}
+use Rattle.store_tables.specs.Editions.{last_number, edition_shown}
 use Rattle.store_tables.proofs.Steps.{some_same, none_some, both_read}
 use Rattle.keep_sql.specs.Reading.{rows_in, edition_in}
 use Rattle.keep_sql.specs.Preparing.{Notes, NotesFirst}

@@ -13,8 +13,10 @@ use Rattle.keep_core.specs.declared.page.PagePut.{PagePut}
 use Rattle.keep_core.specs.declared.change.Change.TheVariants.{AddJudgement}
 use Rattle.store_statements.specs.Stored.{Stored, stored, judgements_at, outcomes_at}
 use Rattle.store_statements.specs.Changes.{Makes, PutsSite, ChangesPages, ChangesJudgements, ChangesOutcomes}
-use Rattle.store_tables.specs.Told.{outcomes_shown}
-use Rattle.store_tables.specs.Batches.{Applies, ReadsPage, ReadsJudged, page_cells, judgement_cells, outcome_rows}
+use Rattle.store_tables.specs.Outcomes.{outcomes_shown, outcome_rows}
+use Rattle.store_tables.specs.Pages.{page_cells}
+use Rattle.store_tables.specs.Judgements.{judgement_cells}
+use Rattle.store_tables.specs.Batches.{Applies, ReadsPage, ReadsJudged}
 use Rattle.keep_sql.specs.declared.known.Known.{Known}
 use Rattle.keep_sql.specs.Reading.{rows_in, outcomes_in, Recalls}
 use Rattle.keep_sql.specs.Writing.{PutsOver}

@@ -16,7 +16,8 @@ use Rattle.store_statements.specs.Stored.{Stored, stored, editions_at}
 use Rattle.store_statements.specs.Changes.{IsStore, AddsEdition}
 use Rattle.store_statements.specs.Making.{nothing}
 use Rattle.store_statements.specs.Opening.{OpensAgain}
-use Rattle.store_tables.specs.Told.{tables_in, edition_shown}
+use Rattle.store_tables.specs.Editions.{edition_shown}
+use Rattle.store_tables.specs.Told.{tables_in}
 use Rattle.keep_sql.specs.Reading.{rows_in, edition_in}
 use Rattle.keep_sql.specs.Preparing.{IsSound, IsBare, HasNone, HasSix, IsPrepared, Prepares, Notes, NotesFirst}
 use Rattle.keep_sql.specs.declared.keeper.Prepared.TheVariants.{Ready, OtherEdition}

@@ -10,14 +10,16 @@ use Rattle.sql_rows.proofs.Canon.{put_rows_append}
 use Rattle.judge_core.specs.declared.outcomes.OutRow.{OutRow}
 use Rattle.judge_core.specs.declared.outcomes.Outcomes.{Outcomes}
 use Rattle.store_statements.specs.Stored.{Stored}
+use Rattle.judge_core.specs.declared.judgement.Judgement.{Judgement}
+use Rattle.store_statements.specs.declared.judgements.JudgementRow.{JudgementRow}
 use Rattle.store_statements.specs.declared.outcomes.OutcomeRow.{OutcomeRow}
-use Rattle.store_statements.specs.Changes.{IsReady, Makes, ChangesMembers, ChangesOutcomes, DropsOutcomes, PutsOutcome}
+use Rattle.store_statements.specs.Changes.{IsReady, Makes, ChangesMembers, ChangesJudgements, ChangesOutcomes, AddsJudgement, DropsOutcomes, PutsOutcome}
 use Rattle.store_statements.specs.Changes as texts
-use Rattle.store_tables.specs.Batches.{outcome_cells, outcomes_cells, outcome_rows}
+use Rattle.store_tables.specs.Judgements.{judgement_cells, IsJudgementRow}
+use Rattle.store_tables.specs.Outcomes.{outcome_cells, outcomes_cells, outcome_rows, IsOutcomeRow}
 use Rattle.store_tables.proofs.Steps.{some_same}
 use Rattle.store_tables.proofs.Stepping.{outcomes_through}
 use Rattle.keep_sql.specs.Reading.{rows_in}
-use Rattle.keep_sql.specs.Writing.{IsRowOf}
 
 -- one call after another
 pub makes_then : (A B C : Stored → Stored → Type 0) (a b c : State) → ((x y z : Stored) → A x y → B y z → C x z) → Makes A a b → Makes B b c → Makes C a c
@@ -50,12 +52,19 @@ pub onward : {A E P Q : Type 0} (r : Result A E) → (P → Q) → OnOk r P → 
 onward (Ok a) f p = f p
 onward (Err e) f p = tt
 
-pub outcome_added : (site page : List ℕ) (place : ℕ) (o : OutRow) (row : OutcomeRow) (a b : State) → IsRowOf place o row → Makes (PutsOutcome site page row) a b
+pub outcome_added : (site page : List ℕ) (place : ℕ) (o : OutRow) (row : OutcomeRow) (a b : State) → IsOutcomeRow place o row → Makes (PutsOutcome site page row) a b
     → Makes (ChangesOutcomes site page (put_row (name_at 2) (outcome_cells site page place o))) a b
 outcome_added site page place o row a b is made =
     let cells : texts.outcome_cells site page row ≡ outcome_cells site page place o =
     λ i. Text site ∷ Text page ∷ Int (is.seq i) ∷ Int (is.rule i) ∷ Int (is.node i) ∷ Int (is.auto i) ∷ Text (is.reason i) ∷ Text (is.evidence i) ∷ Int (is.last i) ∷ Text (is.hand i) ∷ [] in
     subst (λ (r : Row). Makes (ChangesOutcomes site page (put_row (name_at 2) r)) a b) cells made
+
+pub judgement_added : (site page : List ℕ) (place : ℕ) (j : Judgement) (row : JudgementRow) (a b : State) → IsJudgementRow place j row → Makes (AddsJudgement site page row) a b
+    → Makes (ChangesJudgements site page (put_row (name_at 2) (judgement_cells site page place j))) a b
+judgement_added site page place j row a b is made =
+    let cells : texts.judgement_cells site page row ≡ judgement_cells site page place j =
+    λ i. Text site ∷ Text page ∷ Int (is.seq i) ∷ Int (is.rule i) ∷ Int (is.node i) ∷ Int (is.verdict i) ∷ Text (is.hand i) ∷ Text (is.note i) ∷ Text (is.evidence i) ∷ [] in
+    subst (λ (r : Row). Makes (ChangesJudgements site page (put_row (name_at 2) r)) a b) cells made
 
 pub one_outcome : (site page : List ℕ) (place : ℕ) (all : List OutRow) (o : OutRow) (a b : State) → all ≡ o ∷ [] → Makes (ChangesOutcomes site page (put_row (name_at 2) (outcome_cells site page place o))) a b
     → Makes (ChangesOutcomes site page (put_rows (name_at 2) (outcomes_cells site page place all))) a b

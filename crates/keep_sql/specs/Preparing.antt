@@ -1,14 +1,16 @@
 -- A store that was opened anew, and what preparing makes of it.
-use Rattle.std.specs.Prelude.{◌≡◌, ◌⊎◌, ℕ, pos, [], Option, None, Some}
+use Rattle.std.specs.Prelude.{◌≡◌, ◌⊎◌, ℕ, pos, [], Option, None, Some, Result, OnErr, IsTrue}
+use Rattle.sqlite_trees.specs.declared.store.Store.{Ghosts}
+use Rattle.sqlite.specs.Held.{Held, state}
 use Rattle.sqlite_trees.specs.Tree.{Trees}
 use Rattle.sqlite.specs.Effect.{IsDatabase}
-use Rattle.sqlite.specs.State.{State}
+use Rattle.sqlite.specs.State.{State, HasCleanDisk}
 use Rattle.sql_rows.specs.Opened.{AllRise}
 use Rattle.store_statements.specs.Schema.{schema_of, the_schema}
 use Rattle.store_statements.specs.Stored.{Stored, stored, editions_at}
 use Rattle.store_statements.specs.Changes.{IsStore, IsReady, AddsEdition}
 use Rattle.store_statements.specs.Making.{nothing}
-use Rattle.store_tables.specs.Told.{edition_shown}
+use Rattle.store_tables.specs.Editions.{edition_shown}
 use Rattle.keep_sql.specs.Reading.{rows_in, edition_in}
 
 -- a database, the rows of whose tables rise
@@ -40,6 +42,10 @@ abbrev pub Prepares : ℕ → Trees → Trees → Type 0
 Prepares number old new = ((number ≡ 1) × IsPrepared old new) ⊎ (HasSix old × (new ≡ old))
 
 -- ---- steps
+
+-- an error of a call on a connection leaves the rows as they were
+abbrev pub KeepsOnErr : {S A E : Type 0} → Ghosts S → Held S → Held S → Result A E → Type 0
+KeepsOnErr g old new result = HasCleanDisk (state g new) → IsTrue (state g new).is_open → OnErr result ((state g new).now ≡ (state g old).now)
 
 -- of a store with the six tables, in which no edition is noted, the first was
 abbrev pub NotesFirst : State → Trees → Type 0

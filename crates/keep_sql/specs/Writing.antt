@@ -1,50 +1,45 @@
 -- What is read and written of a store in a transaction, and what changes of the tables make of it.
-use Rattle.std.specs.Prelude.{◌≡◌, ℕ, suc, pos, List, [], ◌∷◌, if◌then◌else◌, Option, Result, OnOk, OnErr, IsTrue}
+use Rattle.std.specs.Prelude.{◌≡◌, ℕ, suc, List, [], ◌∷◌, if◌then◌else◌, Option, Result, IfOk, OnOk, OnErr, IsTrue}
 use Rattle.sqlite_trees.specs.Tree.{Trees}
 use Rattle.sqlite_value.specs.Order.{Row}
+use Rattle.std.specs.Borrow.{MutBor}
+use Rattle.sqlite_trees.specs.declared.store.Store.{Ghosts}
+use Rattle.sqlite.specs.Held.{Held, state}
 use Rattle.sqlite.specs.State.{State, HasCleanDisk, IsUnchanged}
-use Rattle.rule_core.specs.Words.{word_of}
 use Rattle.judge_core.specs.declared.outcomes.OutRow.{OutRow}
 use Rattle.judge_core.specs.Equality.{same_row}
 use Rattle.keep_core.specs.declared.page.PagePut.{PagePut}
 use Rattle.keep_core.specs.declared.change.Change.{Change}
 use Rattle.store_statements.specs.Stored.{Stored, stored}
 use Rattle.store_statements.specs.Changes.{IsStore, IsReady, Makes}
-use Rattle.store_statements.specs.declared.outcomes.OutcomeRow.{OutcomeRow}
-use Rattle.store_tables.specs.Cells.{auto_number}
-use Rattle.store_tables.specs.Batches.{Applies, ReadsPage, PutsOne, outcome_cells}
+use Rattle.store_tables.specs.Outcomes.{outcome_cells}
+use Rattle.store_tables.specs.Batches.{Applies, ReadsPage, PutsOne}
 use Rattle.keep_sql.specs.declared.known.Known.{Known}
 use Rattle.keep_sql.specs.Reading.{rows_in, Recalls}
 
 -- a call in a transaction finds this of the rows, and leaves them as they were
-abbrev pub FindsInside : {A E : Type 0} → (Stored → Type 0) → State → State → Result A E → Type 0
-FindsInside Finds old new result = HasCleanDisk new → IsReady old → OnOk result (Finds (rows_in old) × IsUnchanged old new)
+abbrev pub FindsInside : {S A E : Type 0} → Ghosts S → (Stored → Type 0) → MutBor (Held S) → MutBor (Held S) → Result A E → Type 0
+FindsInside g Finds old new result =
+    HasCleanDisk (state g new.now) → IsReady (state g old.now) → OnOk result (Finds (rows_in (state g old.now)) × IsUnchanged (state g old.now) (state g new.now))
 
--- a call in a transaction makes this of the rows, and the transaction goes on
-abbrev pub MakesInside : {A E : Type 0} → (Stored → Stored → Type 0) → State → State → Result A E → Type 0
-MakesInside Change old new result = HasCleanDisk new → IsReady old → OnOk result (Makes Change old new)
+-- the same where the outcomes that are known are what is kept; and of the answer too
+abbrev pub FindsKnowing : {S A E : Type 0} → Ghosts S → Option Known → (Stored → Type 0) → MutBor (Held S) → MutBor (Held S) → Result A E → Type 0
+FindsKnowing g known Finds old new result =
+    HasCleanDisk (state g new.now) → IsReady (state g old.now) → Recalls known (state g old.now) → OnOk result (Finds (rows_in (state g old.now)) × IsUnchanged (state g old.now) (state g new.now))
 
--- the same two, where the outcomes that are known are what is kept
-abbrev pub FindsKnowing : {A E : Type 0} → Option Known → (Stored → Type 0) → State → State → Result A E → Type 0
-FindsKnowing known Finds old new result = HasCleanDisk new → IsReady old → Recalls known old → OnOk result (Finds (rows_in old) × IsUnchanged old new)
+abbrev pub ShowsKnowing : {S A E : Type 0} → Ghosts S → Option Known → (A → Stored → Type 0) → MutBor (Held S) → MutBor (Held S) → Result A E → Type 0
+ShowsKnowing g known Shows old new result =
+    HasCleanDisk (state g new.now) → IsReady (state g old.now) → Recalls known (state g old.now)
+    → IfOk result (λ a. Shows a (rows_in (state g old.now)) × IsUnchanged (state g old.now) (state g new.now))
 
-abbrev pub MakesKnowing : {A E : Type 0} → Option Known → (Stored → Stored → Type 0) → State → State → Result A E → Type 0
-MakesKnowing known Change old new result = HasCleanDisk new → IsReady old → Recalls known old → OnOk result (Makes Change old new)
+-- it makes this of the rows, where the outcomes that are known are what is kept, and the transaction goes on
+abbrev pub MakesKnowing : {S A E : Type 0} → Ghosts S → Option Known → (Stored → Stored → Type 0) → MutBor (Held S) → MutBor (Held S) → Result A E → Type 0
+MakesKnowing g known Change old new result =
+    HasCleanDisk (state g new.now) → IsReady (state g old.now) → Recalls known (state g old.now) → OnOk result (Makes Change (state g old.now) (state g new.now))
 
 -- a page is put over one that reads
 abbrev pub PutsOver : List ℕ → PagePut → Stored → Stored → Type 0
 PutsOver site put old new = ReadsPage site put.page.head.page old × PutsOne site put old new
-
--- an outcome's row as it is given to the text
-pub record IsRowOf (place : ℕ) (o : OutRow) (row : OutcomeRow) : Type 0 where
-  pub seq : row.seq ≡ pos place
-  pub rule : row.rule ≡ pos o.rule.0
-  pub node : row.node ≡ pos o.node.0
-  pub auto : row.auto ≡ pos (auto_number o.auto)
-  pub reason : row.reason.now ≡ word_of o.reason
-  pub evidence : row.evidence.now ≡ o.evidence
-  pub last : row.last ≡ pos (auto_number o.last)
-  pub hand : row.hand.now ≡ o.hand
 
 -- the rows of the outcomes that aren't what is kept at their places, of as many, the first at this place
 abbrev pub changed_cells : List ℕ → List ℕ → ℕ → List OutRow → List OutRow → List Row

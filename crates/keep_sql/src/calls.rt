@@ -1,10 +1,8 @@
 //! What is read of a store, each in a transaction of its own that is dropped.
 
 ghost use Rattle.std.specs.Prelude.{◌≡◌, false, IfOk, IfSome};
-ghost use Rattle.sqlite.specs.Held.{state};
-ghost use Rattle.sqlite.specs.State.{Survives};
 ghost use Rattle.keep_core.specs.Fits.{FitsSite, FitsPage, FitsHeads};
-ghost use Rattle.keep_sql.specs.Reading.{site_in, page_in, heads_in, judgements_in, outcomes_in, ReadsStore, LeavesStore};
+ghost use Rattle.keep_sql.specs.Reading.{site_in, page_in, heads_in, judgements_in, outcomes_in, ReadsStore, OnlyReads};
 
 use crate::reads;
 use judge_core::{Judgement, Outcomes};
@@ -21,11 +19,9 @@ pub fn read_site<S: Alter>(
     site: &Text,
 ) -> Result<Option<Site>, StoreFault>
     requires idle { conn.old.in_transaction ≡ false }
-    ensures idle { conn.new.in_transaction ≡ false }
-    ensures reads { ReadsStore (site_in site.now) (state S.Store conn.old) (state S.Store conn.new) result }
+    ensures only { OnlyReads S.Store conn.old conn.new }
+    ensures reads { ReadsStore S.Store (site_in site.now) conn.old conn.new result }
     ensures fits { IfOk result (λ found. IfSome found FitsSite) }
-    ensures leaves { LeavesStore (state S.Store conn.old) (state S.Store conn.new) }
-    ensures survives { Survives (state S.Store conn.old) (state S.Store conn.new) (λ _. ⊥) }
 {
     let _idle = conn.is_autocommit();
     let mut tx = conn.transaction();
@@ -41,11 +37,9 @@ pub fn read_page<S: Alter>(
     page: &Text,
 ) -> Result<Option<Page>, StoreFault>
     requires idle { conn.old.in_transaction ≡ false }
-    ensures idle { conn.new.in_transaction ≡ false }
-    ensures reads { ReadsStore (page_in site.now page.now) (state S.Store conn.old) (state S.Store conn.new) result }
+    ensures only { OnlyReads S.Store conn.old conn.new }
+    ensures reads { ReadsStore S.Store (page_in site.now page.now) conn.old conn.new result }
     ensures fits { IfOk result (λ found. IfSome found FitsPage) }
-    ensures leaves { LeavesStore (state S.Store conn.old) (state S.Store conn.new) }
-    ensures survives { Survives (state S.Store conn.old) (state S.Store conn.new) (λ _. ⊥) }
 {
     let _idle = conn.is_autocommit();
     let mut tx = conn.transaction();
@@ -59,11 +53,9 @@ pub fn read_heads<S: Alter>(
     site: &Text,
 ) -> Result<List<PageHead>, StoreFault>
     requires idle { conn.old.in_transaction ≡ false }
-    ensures idle { conn.new.in_transaction ≡ false }
-    ensures reads { ReadsStore (heads_in site.now) (state S.Store conn.old) (state S.Store conn.new) result }
+    ensures only { OnlyReads S.Store conn.old conn.new }
+    ensures reads { ReadsStore S.Store (heads_in site.now) conn.old conn.new result }
     ensures fits { IfOk result FitsHeads }
-    ensures leaves { LeavesStore (state S.Store conn.old) (state S.Store conn.new) }
-    ensures survives { Survives (state S.Store conn.old) (state S.Store conn.new) (λ _. ⊥) }
 {
     let _idle = conn.is_autocommit();
     let mut tx = conn.transaction();
@@ -78,10 +70,8 @@ pub fn read_judgements<S: Alter>(
     page: &Text,
 ) -> Result<List<Judgement>, StoreFault>
     requires idle { conn.old.in_transaction ≡ false }
-    ensures idle { conn.new.in_transaction ≡ false }
-    ensures reads { ReadsStore (judgements_in site.now page.now) (state S.Store conn.old) (state S.Store conn.new) result }
-    ensures leaves { LeavesStore (state S.Store conn.old) (state S.Store conn.new) }
-    ensures survives { Survives (state S.Store conn.old) (state S.Store conn.new) (λ _. ⊥) }
+    ensures only { OnlyReads S.Store conn.old conn.new }
+    ensures reads { ReadsStore S.Store (judgements_in site.now page.now) conn.old conn.new result }
 {
     let _idle = conn.is_autocommit();
     let mut tx = conn.transaction();
@@ -96,10 +86,8 @@ pub fn read_outcomes<S: Alter>(
     page: &Text,
 ) -> Result<Outcomes, StoreFault>
     requires idle { conn.old.in_transaction ≡ false }
-    ensures idle { conn.new.in_transaction ≡ false }
-    ensures reads { ReadsStore (outcomes_in site.now page.now) (state S.Store conn.old) (state S.Store conn.new) result }
-    ensures leaves { LeavesStore (state S.Store conn.old) (state S.Store conn.new) }
-    ensures survives { Survives (state S.Store conn.old) (state S.Store conn.new) (λ _. ⊥) }
+    ensures only { OnlyReads S.Store conn.old conn.new }
+    ensures reads { ReadsStore S.Store (outcomes_in site.now page.now) conn.old conn.new result }
 {
     let _idle = conn.is_autocommit();
     let mut tx = conn.transaction();

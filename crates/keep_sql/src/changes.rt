@@ -4,13 +4,14 @@ ghost use Rattle.std.specs.Prelude.{◌≡◌, false};
 ghost use Rattle.std.specs.List.{All};
 ghost use Rattle.sqlite.specs.Held.{state};
 ghost use Rattle.sqlite.specs.State.{HasCleanDisk, Survives};
-ghost use Rattle.sql_rows.specs.Inside.{StaysInside};
+ghost use Rattle.sql_rows.specs.Inside.{Steps};
 ghost use Rattle.keep_core.specs.declared.page.PagePut.{PagePut};
 ghost use Rattle.keep_core.specs.declared.change.Change.TheVariants as change;
 ghost use Rattle.keep_core.specs.Fits.{Fits, FitsPage};
+ghost use Rattle.store_statements.specs.Changes.{MakesInside};
 ghost use Rattle.store_tables.specs.Batches.{Applies, PutsPages, PutsEach, DropsWhole, ReadsPage};
 ghost use Rattle.keep_sql.specs.Reading.{Recalls};
-ghost use Rattle.keep_sql.specs.Writing.{MakesInside, MakesKnowing, PutsOver, ChangesStore, MayLeave};
+ghost use Rattle.keep_sql.specs.Writing.{MakesKnowing, PutsOver, ChangesStore, MayLeave};
 
 use crate::checks::{check_judged, check_kept, check_page, check_site, has_site};
 use crate::known::Known;
@@ -28,10 +29,8 @@ fn put_site<S: Alter>(
     tx: &mut Transaction<'_, S>,
     site: &Site,
 ) -> Result<(), StoreFault>
-    ensures same_reference { tx.new.conn.ghost_name ≡ tx.old.conn.ghost_name }
-    ensures makes { MakesInside (Applies (change.PutSite site.now)) (state S.Store tx.old.conn.now) (state S.Store tx.new.conn.now) result }
-    ensures kept { HasCleanDisk (state S.Store tx.new.conn.now) → StaysInside (state S.Store tx.old.conn.now) (state S.Store tx.new.conn.now) result }
-    ensures survives { Survives (state S.Store tx.old.conn.now) (state S.Store tx.new.conn.now) (λ _. ⊥) }
+    ensures steps { Steps S.Store tx.old.conn tx.new.conn result }
+    ensures makes { MakesInside S.Store (Applies (change.PutSite site.now)) tx.old.conn tx.new.conn result }
 {
     check_site(alloc, tx, &site.name)?;
     let name = site.name.as_str();
@@ -49,10 +48,8 @@ fn put_one<S: Alter>(
     known: Option<Known>,
 ) -> Result<(), StoreFault>
     requires fits { FitsPage put.now.page }
-    ensures same_reference { tx.new.conn.ghost_name ≡ tx.old.conn.ghost_name }
-    ensures makes { MakesKnowing known (PutsOver site.now put.now) (state S.Store tx.old.conn.now) (state S.Store tx.new.conn.now) result }
-    ensures kept { HasCleanDisk (state S.Store tx.new.conn.now) → StaysInside (state S.Store tx.old.conn.now) (state S.Store tx.new.conn.now) result }
-    ensures survives { Survives (state S.Store tx.old.conn.now) (state S.Store tx.new.conn.now) (λ _. ⊥) }
+    ensures steps { Steps S.Store tx.old.conn tx.new.conn result }
+    ensures makes { MakesKnowing S.Store known (PutsOver site.now put.now) tx.old.conn tx.new.conn result }
 {
     let page = &put.page.head.page;
     let kept = check_page(alloc, memo, tx, site, page, known)?;
@@ -71,10 +68,8 @@ fn put_each<S: Alter>(
     known: Option<Known>,
 ) -> Result<(), StoreFault>
     requires fits { All (λ (p : PagePut). FitsPage p.page) puts.now }
-    ensures same_reference { tx.new.conn.ghost_name ≡ tx.old.conn.ghost_name }
-    ensures makes { MakesKnowing known (PutsEach site.now puts.now) (state S.Store tx.old.conn.now) (state S.Store tx.new.conn.now) result }
-    ensures kept { HasCleanDisk (state S.Store tx.new.conn.now) → StaysInside (state S.Store tx.old.conn.now) (state S.Store tx.new.conn.now) result }
-    ensures survives { Survives (state S.Store tx.old.conn.now) (state S.Store tx.new.conn.now) (λ _. ⊥) }
+    ensures steps { Steps S.Store tx.old.conn tx.new.conn result }
+    ensures makes { MakesKnowing S.Store known (PutsEach site.now puts.now) tx.old.conn tx.new.conn result }
 {
     let Some((first, rest)) = puts.split_first() else {
         return Ok(());
@@ -93,10 +88,8 @@ fn put_pages<S: Alter>(
     known: Option<Known>,
 ) -> Result<(), StoreFault>
     requires fits { All (λ (p : PagePut). FitsPage p.page) puts.now }
-    ensures same_reference { tx.new.conn.ghost_name ≡ tx.old.conn.ghost_name }
-    ensures makes { MakesKnowing known (PutsPages site.now counter puts.now) (state S.Store tx.old.conn.now) (state S.Store tx.new.conn.now) result }
-    ensures kept { HasCleanDisk (state S.Store tx.new.conn.now) → StaysInside (state S.Store tx.old.conn.now) (state S.Store tx.new.conn.now) result }
-    ensures survives { Survives (state S.Store tx.old.conn.now) (state S.Store tx.new.conn.now) (λ _. ⊥) }
+    ensures steps { Steps S.Store tx.old.conn tx.new.conn result }
+    ensures makes { MakesKnowing S.Store known (PutsPages site.now counter puts.now) tx.old.conn tx.new.conn result }
 {
     check_kept(alloc, tx, site)?;
     write_site(tx, site.as_str(), counter)?;
@@ -111,10 +104,8 @@ fn take_page<S: Alter>(
     site: &Text,
     page: &Text,
 ) -> Result<(), StoreFault>
-    ensures same_reference { tx.new.conn.ghost_name ≡ tx.old.conn.ghost_name }
-    ensures makes { MakesInside (λ old new. ReadsPage site.now page.now old × DropsWhole site.now page.now old new) (state S.Store tx.old.conn.now) (state S.Store tx.new.conn.now) result }
-    ensures kept { HasCleanDisk (state S.Store tx.new.conn.now) → StaysInside (state S.Store tx.old.conn.now) (state S.Store tx.new.conn.now) result }
-    ensures survives { Survives (state S.Store tx.old.conn.now) (state S.Store tx.new.conn.now) (λ _. ⊥) }
+    ensures steps { Steps S.Store tx.old.conn tx.new.conn result }
+    ensures makes { MakesInside S.Store (λ old new. ReadsPage site.now page.now old × DropsWhole site.now page.now old new) tx.old.conn tx.new.conn result }
 {
     check_page(alloc, memo, tx, site, page, None)?;
     let (site, page) = (site.as_str(), page.as_str());
@@ -131,10 +122,8 @@ fn take_out<S: Alter>(
     site: &Text,
     page: &Text,
 ) -> Result<(), StoreFault>
-    ensures same_reference { tx.new.conn.ghost_name ≡ tx.old.conn.ghost_name }
-    ensures makes { MakesInside (Applies (change.DropPage site.now page.now)) (state S.Store tx.old.conn.now) (state S.Store tx.new.conn.now) result }
-    ensures kept { HasCleanDisk (state S.Store tx.new.conn.now) → StaysInside (state S.Store tx.old.conn.now) (state S.Store tx.new.conn.now) result }
-    ensures survives { Survives (state S.Store tx.old.conn.now) (state S.Store tx.new.conn.now) (λ _. ⊥) }
+    ensures steps { Steps S.Store tx.old.conn tx.new.conn result }
+    ensures makes { MakesInside S.Store (Applies (change.DropPage site.now page.now)) tx.old.conn tx.new.conn result }
 {
     if has_site(tx, site.as_str())? {
         take_page(alloc, memo, tx, site, page)
@@ -152,10 +141,8 @@ fn judge<S: Alter>(
     outcomes: &Outcomes,
     known: Option<Known>,
 ) -> Result<(), StoreFault>
-    ensures same_reference { tx.new.conn.ghost_name ≡ tx.old.conn.ghost_name }
-    ensures makes { MakesKnowing known (Applies (change.AddJudgement site.now page.now judgement.now outcomes.now)) (state S.Store tx.old.conn.now) (state S.Store tx.new.conn.now) result }
-    ensures kept { HasCleanDisk (state S.Store tx.new.conn.now) → StaysInside (state S.Store tx.old.conn.now) (state S.Store tx.new.conn.now) result }
-    ensures survives { Survives (state S.Store tx.old.conn.now) (state S.Store tx.new.conn.now) (λ _. ⊥) }
+    ensures steps { Steps S.Store tx.old.conn tx.new.conn result }
+    ensures makes { MakesKnowing S.Store known (Applies (change.AddJudgement site.now page.now judgement.now outcomes.now)) tx.old.conn tx.new.conn result }
 {
     let (place, kept) = check_judged(alloc, tx, site, page, known)?;
     let (site, page) = (site.as_str(), page.as_str());
@@ -172,10 +159,8 @@ pub fn make_inside<S: Alter>(
     known: Option<Known>,
 ) -> Result<(), StoreFault>
     requires fits { Fits change.now }
-    ensures same_reference { tx.new.conn.ghost_name ≡ tx.old.conn.ghost_name }
-    ensures makes { MakesKnowing known (Applies change.now) (state S.Store tx.old.conn.now) (state S.Store tx.new.conn.now) result }
-    ensures kept { HasCleanDisk (state S.Store tx.new.conn.now) → StaysInside (state S.Store tx.old.conn.now) (state S.Store tx.new.conn.now) result }
-    ensures survives { Survives (state S.Store tx.old.conn.now) (state S.Store tx.new.conn.now) (λ _. ⊥) }
+    ensures steps { Steps S.Store tx.old.conn tx.new.conn result }
+    ensures makes { MakesKnowing S.Store known (Applies change.now) tx.old.conn tx.new.conn result }
 {
     match change {
         Change::PutSite { site } => put_site(alloc, tx, site),

@@ -2,14 +2,16 @@
 
 ghost use Rattle.std.specs.Prelude.{◌≡◌, [], suc, length, IfOk, OnOk, IsTrue, Some, None, true, IsSome};
 ghost use Rattle.sqlite.specs.Held.{state};
-ghost use Rattle.sqlite.specs.State.{HasCleanDisk, Survives, IsUnchanged};
-ghost use Rattle.sql_rows.specs.Inside.{StaysInside};
+ghost use Rattle.sqlite.specs.State.{HasCleanDisk, IsUnchanged};
+ghost use Rattle.sql_rows.specs.Inside.{Steps};
 ghost use Rattle.store_statements.specs.Stored.{site_at, members_at, heads_at, judgements_at};
-ghost use Rattle.store_statements.specs.Changes.{IsReady};
+ghost use Rattle.store_statements.specs.Changes.{IsReady, ShowsInside};
 ghost use Rattle.store_tables.specs.Batches.{ReadsSite, ReadsPage, ReadsJudged};
-ghost use Rattle.store_tables.specs.Told.{is_site, is_page, site_shown, judgements_shown};
-ghost use Rattle.keep_sql.specs.Reading.{rows_in, outcomes_in, Recalls};
-ghost use Rattle.keep_sql.specs.Writing.{FindsInside, FindsKnowing};
+ghost use Rattle.store_tables.specs.Sites.{site_shown};
+ghost use Rattle.store_tables.specs.Judgements.{judgements_shown};
+ghost use Rattle.store_tables.specs.Told.{is_site, is_page};
+ghost use Rattle.keep_sql.specs.Reading.{outcomes_in, Recalls, ReadsKnowing};
+ghost use Rattle.keep_sql.specs.Writing.{FindsInside, FindsKnowing, ShowsKnowing};
 
 use crate::known::{Known, known_of};
 use crate::reads;
@@ -23,11 +25,8 @@ use store_tables::{Memo, StoreFault};
 
 /// Whether there is a site of this name.
 pub fn has_site<S: Alter>(tx: &mut Transaction<'_, S>, site: &str) -> Result<bool, StoreFault>
-    ensures same_reference { tx.new.conn.ghost_name ≡ tx.old.conn.ghost_name }
-    ensures finds { HasCleanDisk (state S.Store tx.new.conn.now) → IsReady (state S.Store tx.old.conn.now)
-        → IfOk result (λ found. (is_site (rows_in (state S.Store tx.old.conn.now)) site.now ≡ found) × IsUnchanged (state S.Store tx.old.conn.now) (state S.Store tx.new.conn.now)) }
-    ensures kept { HasCleanDisk (state S.Store tx.new.conn.now) → StaysInside (state S.Store tx.old.conn.now) (state S.Store tx.new.conn.now) result }
-    ensures survives { Survives (state S.Store tx.old.conn.now) (state S.Store tx.new.conn.now) (λ _. ⊥) }
+    ensures steps { Steps S.Store tx.old.conn tx.new.conn result }
+    ensures finds { ShowsInside S.Store (λ found s. is_site s site.now ≡ found) tx.old.conn tx.new.conn result }
 {
     let rows = site_row(tx, site)?;
     Ok(rows.len() != 0)
@@ -39,11 +38,8 @@ pub fn has_page<S: Alter>(
     site: &str,
     page: &str,
 ) -> Result<bool, StoreFault>
-    ensures same_reference { tx.new.conn.ghost_name ≡ tx.old.conn.ghost_name }
-    ensures finds { HasCleanDisk (state S.Store tx.new.conn.now) → IsReady (state S.Store tx.old.conn.now)
-        → IfOk result (λ found. (is_page (rows_in (state S.Store tx.old.conn.now)) site.now page.now ≡ found) × IsUnchanged (state S.Store tx.old.conn.now) (state S.Store tx.new.conn.now)) }
-    ensures kept { HasCleanDisk (state S.Store tx.new.conn.now) → StaysInside (state S.Store tx.old.conn.now) (state S.Store tx.new.conn.now) result }
-    ensures survives { Survives (state S.Store tx.old.conn.now) (state S.Store tx.new.conn.now) (λ _. ⊥) }
+    ensures steps { Steps S.Store tx.old.conn tx.new.conn result }
+    ensures finds { ShowsInside S.Store (λ found s. is_page s site.now page.now ≡ found) tx.old.conn tx.new.conn result }
 {
     let rows = page_row(tx, site, page)?;
     Ok(rows.len() != 0)
@@ -51,10 +47,8 @@ pub fn has_page<S: Alter>(
 
 // Fails where there are members or pages of a site.
 fn check_none<S: Alter>(tx: &mut Transaction<'_, S>, site: &str) -> Result<(), StoreFault>
-    ensures same_reference { tx.new.conn.ghost_name ≡ tx.old.conn.ghost_name }
-    ensures finds { FindsInside (λ s. (members_at site.now s ≡ []) × (heads_at site.now s ≡ [])) (state S.Store tx.old.conn.now) (state S.Store tx.new.conn.now) result }
-    ensures kept { HasCleanDisk (state S.Store tx.new.conn.now) → StaysInside (state S.Store tx.old.conn.now) (state S.Store tx.new.conn.now) result }
-    ensures survives { Survives (state S.Store tx.old.conn.now) (state S.Store tx.new.conn.now) (λ _. ⊥) }
+    ensures steps { Steps S.Store tx.old.conn tx.new.conn result }
+    ensures finds { FindsInside S.Store (λ s. (members_at site.now s ≡ []) × (heads_at site.now s ≡ [])) tx.old.conn tx.new.conn result }
 {
     let members = site_members(tx, site)?;
     let pages = heads(tx, site)?;
@@ -70,10 +64,8 @@ pub fn check_site<S: Alter>(
     tx: &mut Transaction<'_, S>,
     site: &Text,
 ) -> Result<(), StoreFault>
-    ensures same_reference { tx.new.conn.ghost_name ≡ tx.old.conn.ghost_name }
-    ensures finds { FindsInside (ReadsSite site.now) (state S.Store tx.old.conn.now) (state S.Store tx.new.conn.now) result }
-    ensures kept { HasCleanDisk (state S.Store tx.new.conn.now) → StaysInside (state S.Store tx.old.conn.now) (state S.Store tx.new.conn.now) result }
-    ensures survives { Survives (state S.Store tx.old.conn.now) (state S.Store tx.new.conn.now) (λ _. ⊥) }
+    ensures steps { Steps S.Store tx.old.conn tx.new.conn result }
+    ensures finds { FindsInside S.Store (ReadsSite site.now) tx.old.conn tx.new.conn result }
 {
     match reads::site_in(alloc, tx, site)? {
         Some(_) => Ok(()),
@@ -87,10 +79,8 @@ pub fn check_kept<S: Alter>(
     tx: &mut Transaction<'_, S>,
     site: &Text,
 ) -> Result<(), StoreFault>
-    ensures same_reference { tx.new.conn.ghost_name ≡ tx.old.conn.ghost_name }
-    ensures finds { FindsInside (λ s. (is_site s site.now ≡ true) × IsSome (site_shown site.now (site_at site.now s) (members_at site.now s))) (state S.Store tx.old.conn.now) (state S.Store tx.new.conn.now) result }
-    ensures kept { HasCleanDisk (state S.Store tx.new.conn.now) → StaysInside (state S.Store tx.old.conn.now) (state S.Store tx.new.conn.now) result }
-    ensures survives { Survives (state S.Store tx.old.conn.now) (state S.Store tx.new.conn.now) (λ _. ⊥) }
+    ensures steps { Steps S.Store tx.old.conn tx.new.conn result }
+    ensures finds { FindsInside S.Store (λ s. (is_site s site.now ≡ true) × IsSome (site_shown site.now (site_at site.now s) (members_at site.now s))) tx.old.conn tx.new.conn result }
 {
     match reads::site_in(alloc, tx, site)? {
         Some(_) => Ok(()),
@@ -114,13 +104,11 @@ fn kept_outcomes<S: Alter>(
     page: &Text,
     known: Option<Known>,
 ) -> Result<Outcomes, StoreFault>
-    ensures same_reference { tx.new.conn.ghost_name ≡ tx.old.conn.ghost_name }
+    ensures steps { Steps S.Store tx.old.conn tx.new.conn result }
     ensures reads { HasCleanDisk (state S.Store tx.new.conn.now) → IsReady (state S.Store tx.old.conn.now) → IsTrue (state S.Store tx.old.conn.now).is_open → Recalls known (state S.Store tx.old.conn.now)
         → IfOk result (λ outcomes. outcomes_in site.now page.now (state S.Store tx.old.conn.now) ≡ Some outcomes) }
     ensures same { HasCleanDisk (state S.Store tx.new.conn.now) → IsReady (state S.Store tx.old.conn.now) → IsTrue (state S.Store tx.old.conn.now).is_open
         → OnOk result (IsUnchanged (state S.Store tx.old.conn.now) (state S.Store tx.new.conn.now)) }
-    ensures kept { HasCleanDisk (state S.Store tx.new.conn.now) → StaysInside (state S.Store tx.old.conn.now) (state S.Store tx.new.conn.now) result }
-    ensures survives { Survives (state S.Store tx.old.conn.now) (state S.Store tx.new.conn.now) (λ _. ⊥) }
 {
     match known_of(known, site, page) {
         Some(outcomes) => Ok(outcomes),
@@ -138,12 +126,9 @@ pub fn check_page<S: Alter>(
     page: &Text,
     known: Option<Known>,
 ) -> Result<Outcomes, StoreFault>
-    ensures same_reference { tx.new.conn.ghost_name ≡ tx.old.conn.ghost_name }
-    ensures reads { HasCleanDisk (state S.Store tx.new.conn.now) → IsReady (state S.Store tx.old.conn.now) → Recalls known (state S.Store tx.old.conn.now)
-        → IfOk result (λ outcomes. outcomes_in site.now page.now (state S.Store tx.old.conn.now) ≡ Some outcomes) }
-    ensures finds { FindsKnowing known (ReadsPage site.now page.now) (state S.Store tx.old.conn.now) (state S.Store tx.new.conn.now) result }
-    ensures kept { HasCleanDisk (state S.Store tx.new.conn.now) → StaysInside (state S.Store tx.old.conn.now) (state S.Store tx.new.conn.now) result }
-    ensures survives { Survives (state S.Store tx.old.conn.now) (state S.Store tx.new.conn.now) (λ _. ⊥) }
+    ensures steps { Steps S.Store tx.old.conn tx.new.conn result }
+    ensures reads { ReadsKnowing S.Store known (λ outcomes s. outcomes_in site.now page.now s ≡ Some outcomes) tx.old.conn tx.new.conn result }
+    ensures finds { FindsKnowing S.Store known (ReadsPage site.now page.now) tx.old.conn tx.new.conn result }
 {
     let found = reads::page_in(alloc, memo, tx, site, page)?;
     let judgements = reads::judgements_in(alloc, tx, site, page)?;
@@ -161,15 +146,11 @@ fn next_place<S: Alter>(
     site: &str,
     page: &str,
 ) -> Result<u64, StoreFault>
-    ensures same_reference { tx.new.conn.ghost_name ≡ tx.old.conn.ghost_name }
-    ensures finds { HasCleanDisk (state S.Store tx.new.conn.now) → IsReady (state S.Store tx.old.conn.now)
-        → IfOk result (λ place. (place ≡ suc (length (judgements_at site.now page.now (rows_in (state S.Store tx.old.conn.now)))))
-        × IsSome (judgements_shown (judgements_at site.now page.now (rows_in (state S.Store tx.old.conn.now)))) × IsUnchanged (state S.Store tx.old.conn.now) (state S.Store tx.new.conn.now)) }
-    ensures kept { HasCleanDisk (state S.Store tx.new.conn.now) → StaysInside (state S.Store tx.old.conn.now) (state S.Store tx.new.conn.now) result }
-    ensures survives { Survives (state S.Store tx.old.conn.now) (state S.Store tx.new.conn.now) (λ _. ⊥) }
+    ensures steps { Steps S.Store tx.old.conn tx.new.conn result }
+    ensures finds { ShowsInside S.Store (λ place s. (place ≡ suc (length (judgements_at site.now page.now s))) × IsSome (judgements_shown (judgements_at site.now page.now s))) tx.old.conn tx.new.conn result }
 {
     let rows = page_judgements(tx, site, page)?;
-    store_tables::judgements(alloc, rows.as_slice())?;
+    store_tables::read_judgements(alloc, rows.as_slice())?;
     Ok(rows.len() as u64 + 1)
 }
 
@@ -179,10 +160,8 @@ fn check_there<S: Alter>(
     site: &str,
     page: &str,
 ) -> Result<(), StoreFault>
-    ensures same_reference { tx.new.conn.ghost_name ≡ tx.old.conn.ghost_name }
-    ensures finds { FindsInside (λ s. (is_site s site.now ≡ true) × (is_page s site.now page.now ≡ true)) (state S.Store tx.old.conn.now) (state S.Store tx.new.conn.now) result }
-    ensures kept { HasCleanDisk (state S.Store tx.new.conn.now) → StaysInside (state S.Store tx.old.conn.now) (state S.Store tx.new.conn.now) result }
-    ensures survives { Survives (state S.Store tx.old.conn.now) (state S.Store tx.new.conn.now) (λ _. ⊥) }
+    ensures steps { Steps S.Store tx.old.conn tx.new.conn result }
+    ensures finds { FindsInside S.Store (λ s. (is_site s site.now ≡ true) × (is_page s site.now page.now ≡ true)) tx.old.conn tx.new.conn result }
 {
     let has_site = has_site(tx, site)?;
     let has_page = has_page(tx, site, page)?;
@@ -201,14 +180,9 @@ pub fn check_judged<S: Alter>(
     page: &Text,
     known: Option<Known>,
 ) -> Result<(u64, Outcomes), StoreFault>
-    ensures same_reference { tx.new.conn.ghost_name ≡ tx.old.conn.ghost_name }
-    ensures reads { HasCleanDisk (state S.Store tx.new.conn.now) → IsReady (state S.Store tx.old.conn.now) → Recalls known (state S.Store tx.old.conn.now)
-        → IfOk result (λ found. outcomes_in site.now page.now (state S.Store tx.old.conn.now) ≡ Some found.1) }
-    ensures finds { HasCleanDisk (state S.Store tx.new.conn.now) → IsReady (state S.Store tx.old.conn.now) → Recalls known (state S.Store tx.old.conn.now)
-        → IfOk result (λ found. (found.0 ≡ suc (length (judgements_at site.now page.now (rows_in (state S.Store tx.old.conn.now)))))
-        × ReadsJudged site.now page.now (rows_in (state S.Store tx.old.conn.now)) × IsUnchanged (state S.Store tx.old.conn.now) (state S.Store tx.new.conn.now)) }
-    ensures kept { HasCleanDisk (state S.Store tx.new.conn.now) → StaysInside (state S.Store tx.old.conn.now) (state S.Store tx.new.conn.now) result }
-    ensures survives { Survives (state S.Store tx.old.conn.now) (state S.Store tx.new.conn.now) (λ _. ⊥) }
+    ensures steps { Steps S.Store tx.old.conn tx.new.conn result }
+    ensures reads { ReadsKnowing S.Store known (λ found s. outcomes_in site.now page.now s ≡ Some found.1) tx.old.conn tx.new.conn result }
+    ensures finds { ShowsKnowing S.Store known (λ found s. (found.0 ≡ suc (length (judgements_at site.now page.now s))) × ReadsJudged site.now page.now s) tx.old.conn tx.new.conn result }
 {
     check_there(tx, site.as_str(), page.as_str())?;
     let place = next_place(alloc, tx, site.as_str(), page.as_str())?;

@@ -5,7 +5,8 @@ ghost use Rattle.named_rows.specs.ByName.{names_cmp, IsInOrder};
 ghost use Rattle.std.specs.declared.cmp.Ordering.TheVariants.{Less};
 ghost use Rattle.keep_core.specs.declared.member.Member.{Member};
 ghost use Rattle.keep_core.specs.Fits.{FitsSite, FitsHeads};
-ghost use Rattle.store_tables.specs.Told.{site_shown, heads_shown};
+ghost use Rattle.store_tables.specs.Sites.{site_shown};
+ghost use Rattle.store_tables.specs.Pages.{heads_shown};
 ghost use Rattle.keep_sql.specs.Fitting.{ComesFirst};
 
 use keep_core::{PageHead, Site};
@@ -63,7 +64,7 @@ pub fn site(
     ensures reads { IfOk result (λ found. site_shown name.now counters.now members.now ≡ Some found) }
     ensures fits { IfOk result (λ found. IfSome found FitsSite) }
 {
-    let found = store_tables::site(alloc, name, counters, members)?;
+    let found = store_tables::read_site(alloc, name, counters, members)?;
     if !is_in_order(&found) {
         return Err(StoreFault::Failed);
     }
@@ -76,7 +77,7 @@ pub fn heads(alloc: Global, rows: &[Row]) -> Result<List<PageHead>, StoreFault>
     ensures reads { IfOk result (λ heads. heads_shown rows.now ≡ Some heads) }
     ensures fits { IfOk result FitsHeads }
 {
-    let heads = store_tables::heads(alloc, rows)?;
+    let heads = store_tables::read_heads(alloc, rows)?;
     if !are_in_order(heads.as_slice()) {
         return Err(StoreFault::Failed);
     }

@@ -1,19 +1,19 @@
 //! A store that gets its tables, where it has none, and its edition, where none is noted.
 
-ghost use Rattle.std.specs.Prelude.{◌≡◌, ◌≤◌, false, IfOk, IfErr, OnOk, OnErr, IsTrue, [], pos, Some};
+ghost use Rattle.std.specs.Prelude.{◌≡◌, ◌≤◌, false, IfOk, IfErr, OnOk, IsTrue, [], pos, Some};
 ghost use Rattle.sqlite_trees.specs.Tree.{Trees};
 ghost use Rattle.sqlite_trees.specs.View.{doubt};
 ghost use Rattle.sqlite.specs.Held.{state};
-ghost use Rattle.sqlite.specs.State.{HasCleanDisk, Survives, IsUnchanged};
-ghost use Rattle.sql_rows.specs.Inside.{StaysInside};
+ghost use Rattle.sqlite.specs.State.{HasCleanDisk, Survives};
+ghost use Rattle.sql_rows.specs.Inside.{Steps};
 ghost use Rattle.sql_rows.specs.Stores as rows;
 ghost use Rattle.store_statements.specs.Schema.{schema_of};
 ghost use Rattle.store_statements.specs.Stored.{stored};
 ghost use Rattle.store_statements.specs.Changes.{IsStore, IsReady, AddsEdition};
 ghost use Rattle.store_statements.specs.Making.{HasTables, nothing};
 ghost use Rattle.store_statements.specs.Opening.{OpensAgain};
-ghost use Rattle.keep_sql.specs.Reading.{ReadsInside, edition_in, rows_in};
-ghost use Rattle.keep_sql.specs.Preparing.{IsBare, IsSound, IsPrepared, Prepares, Notes, NotesFirst, NotesInside, NotesStore};
+ghost use Rattle.keep_sql.specs.Reading.{ReadsInside, LeavesInside, edition_in, rows_in};
+ghost use Rattle.keep_sql.specs.Preparing.{KeepsOnErr, IsBare, IsSound, IsPrepared, Prepares, Notes, NotesFirst, NotesInside, NotesStore};
 
 use sqlite::{Alter, Connection, Transaction};
 use sqlite_schema::schema::Schema;
@@ -50,11 +50,9 @@ fn is_bare(schema: &Schema) -> bool
 }
 
 fn make_inside<S: Alter>(tx: &mut Transaction<'_, S>) -> Result<(), StoreFault>
-    ensures same_reference { tx.new.conn.ghost_name ≡ tx.old.conn.ghost_name }
+    ensures steps { Steps S.Store tx.old.conn tx.new.conn result }
     ensures makes { HasCleanDisk (state S.Store tx.new.conn.now) → HasTables [] (state S.Store tx.old.conn.now)
         → OnOk result (IsReady (state S.Store tx.new.conn.now) × AddsEdition (pos 1) nothing (rows_in (state S.Store tx.new.conn.now))) }
-    ensures kept { HasCleanDisk (state S.Store tx.new.conn.now) → StaysInside (state S.Store tx.old.conn.now) (state S.Store tx.new.conn.now) result }
-    ensures survives { Survives (state S.Store tx.old.conn.now) (state S.Store tx.new.conn.now) (λ _. ⊥) }
 {
     make_tables(tx)?;
     add_edition(tx, 1)?;
@@ -67,7 +65,7 @@ fn make_store<S: Alter>(conn: &mut Connection<S>) -> Result<(), StoreFault>
     ensures idle { conn.new.in_transaction ≡ false }
     ensures made { HasCleanDisk (state S.Store conn.new) → IsBare (state S.Store conn.old)
         → OnOk result (IsStore (state S.Store conn.new) × AddsEdition (pos 1) nothing (rows_in (state S.Store conn.new))) }
-    ensures kept { HasCleanDisk (state S.Store conn.new) → IsTrue (state S.Store conn.new).is_open → OnErr result ((state S.Store conn.new).now ≡ (state S.Store conn.old).now) }
+    ensures kept { KeepsOnErr S.Store conn.old conn.new result }
     ensures crash { Survives (state S.Store conn.old) (state S.Store conn.new) (λ db. IsBare (state S.Store conn.old) → AddsEdition (pos 1) nothing (stored db)) }
 {
     let _idle = conn.is_autocommit();
@@ -79,23 +77,19 @@ fn make_store<S: Alter>(conn: &mut Connection<S>) -> Result<(), StoreFault>
 
 // The edition that is noted, if one is.
 fn noted_inside<S: Alter>(tx: &mut Transaction<'_, S>) -> Result<Option<u64>, StoreFault>
-    ensures same_reference { tx.new.conn.ghost_name ≡ tx.old.conn.ghost_name }
-    ensures reads { ReadsInside edition_in (state S.Store tx.old.conn.now) (state S.Store tx.new.conn.now) result }
-    ensures same { HasCleanDisk (state S.Store tx.new.conn.now) → IsReady (state S.Store tx.old.conn.now) → OnOk result (IsUnchanged (state S.Store tx.old.conn.now) (state S.Store tx.new.conn.now)) }
-    ensures kept { HasCleanDisk (state S.Store tx.new.conn.now) → StaysInside (state S.Store tx.old.conn.now) (state S.Store tx.new.conn.now) result }
-    ensures survives { Survives (state S.Store tx.old.conn.now) (state S.Store tx.new.conn.now) (λ _. ⊥) }
+    ensures steps { Steps S.Store tx.old.conn tx.new.conn result }
+    ensures reads { ReadsInside S.Store edition_in tx.old.conn tx.new.conn result }
+    ensures same { LeavesInside S.Store tx.old.conn tx.new.conn result }
 {
     let rows = edition_rows(tx)?;
-    store_tables::edition(rows.as_slice())
+    store_tables::read_edition(rows.as_slice())
 }
 
 // The edition that is noted; None where none was, after which the first is.
 fn note_inside<S: Alter>(tx: &mut Transaction<'_, S>) -> Result<Option<u64>, StoreFault>
-    ensures same_reference { tx.new.conn.ghost_name ≡ tx.old.conn.ghost_name }
+    ensures steps { Steps S.Store tx.old.conn tx.new.conn result }
     ensures notes { HasCleanDisk (state S.Store tx.new.conn.now) → IsReady (state S.Store tx.old.conn.now)
         → IfOk result (NotesInside (rows_in (state S.Store tx.old.conn.now)) (state S.Store tx.new.conn.now)) }
-    ensures kept { HasCleanDisk (state S.Store tx.new.conn.now) → StaysInside (state S.Store tx.old.conn.now) (state S.Store tx.new.conn.now) result }
-    ensures survives { Survives (state S.Store tx.old.conn.now) (state S.Store tx.new.conn.now) (λ _. ⊥) }
 {
     if let Some(number) = noted_inside(tx)? {
         return Ok(Some(number));
@@ -111,7 +105,7 @@ fn found_or_noted<S: Alter>(conn: &mut Connection<S>) -> Result<Option<u64>, Sto
     ensures idle { conn.new.in_transaction ≡ false }
     ensures notes { HasCleanDisk (state S.Store conn.new) → IsTrue (state S.Store conn.new).is_open → IsStore (state S.Store conn.old)
         → IfOk result (NotesStore (state S.Store conn.old) (state S.Store conn.new)) }
-    ensures kept { HasCleanDisk (state S.Store conn.new) → IsTrue (state S.Store conn.new).is_open → OnErr result ((state S.Store conn.new).now ≡ (state S.Store conn.old).now) }
+    ensures kept { KeepsOnErr S.Store conn.old conn.new result }
     ensures crash { Survives (state S.Store conn.old) (state S.Store conn.new) (λ db. IsStore (state S.Store conn.old) → NotesFirst (state S.Store conn.old) db) }
 {
     let _idle = conn.is_autocommit();
@@ -130,7 +124,7 @@ fn note<S: Alter>(conn: &mut Connection<S>) -> Result<u64, StoreFault>
     ensures idle { conn.new.in_transaction ≡ false }
     ensures notes { HasCleanDisk (state S.Store conn.new) → IsTrue (state S.Store conn.new).is_open → IsStore (state S.Store conn.old)
         → IfOk result (Notes (state S.Store conn.old) (state S.Store conn.new)) }
-    ensures kept { HasCleanDisk (state S.Store conn.new) → IsTrue (state S.Store conn.new).is_open → OnErr result ((state S.Store conn.new).now ≡ (state S.Store conn.old).now) }
+    ensures kept { KeepsOnErr S.Store conn.old conn.new result }
     ensures crash { Survives (state S.Store conn.old) (state S.Store conn.new) (λ db. IsStore (state S.Store conn.old) → NotesFirst (state S.Store conn.old) db) }
 {
     match found_or_noted(conn)? {
@@ -154,7 +148,7 @@ pub fn prepare<S: Alter>(conn: &mut Connection<S>) -> Result<u64, StoreFault>
         → IfOk result (λ number. IsStore (state S.Store conn.new) × (edition_in (state S.Store conn.new) ≡ Some (Some number))) }
     ensures made { HasCleanDisk (state S.Store conn.new) → IsTrue (state S.Store conn.new).is_open
         → IfOk result (λ number. Prepares number (state S.Store conn.old).now.trees (state S.Store conn.new).now.trees) }
-    ensures kept { HasCleanDisk (state S.Store conn.new) → IsTrue (state S.Store conn.new).is_open → OnErr result ((state S.Store conn.new).now ≡ (state S.Store conn.old).now) }
+    ensures kept { KeepsOnErr S.Store conn.old conn.new result }
     ensures crash { Survives (state S.Store conn.old) (state S.Store conn.new) (IsPrepared (state S.Store conn.old).now.trees) }
 {
     if is_bare(conn.schema()) {

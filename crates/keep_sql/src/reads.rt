@@ -1,13 +1,10 @@
 //! What is read in a transaction. Each call fails with `Failed` where a statement was refused for another cause than
 //! memory, or a row doesn't read.
 
-ghost use Rattle.std.specs.Prelude.{◌≡◌, IfOk, IfSome, OnOk};
-ghost use Rattle.sqlite.specs.Held.{state};
-ghost use Rattle.sqlite.specs.State.{HasCleanDisk, Survives, IsUnchanged};
-ghost use Rattle.sql_rows.specs.Inside.{StaysInside};
+ghost use Rattle.std.specs.Prelude.{IfOk, IfSome};
+ghost use Rattle.sql_rows.specs.Inside.{Steps};
 ghost use Rattle.keep_core.specs.Fits.{FitsSite, FitsPage, FitsHeads};
-ghost use Rattle.store_statements.specs.Changes.{IsReady};
-ghost use Rattle.keep_sql.specs.Reading.{site_in, page_in, heads_in, judgements_in, outcomes_in, ReadsInside};
+ghost use Rattle.keep_sql.specs.Reading.{site_in, page_in, heads_in, judgements_in, outcomes_in, ReadsInside, LeavesInside};
 
 use crate::fitting;
 use judge_core::{Judgement, Outcomes};
@@ -24,12 +21,10 @@ pub fn site_in<S: Alter>(
     tx: &mut Transaction<'_, S>,
     site: &Text,
 ) -> Result<Option<Site>, StoreFault>
-    ensures same_reference { tx.new.conn.ghost_name ≡ tx.old.conn.ghost_name }
-    ensures reads { ReadsInside (site_in site.now) (state S.Store tx.old.conn.now) (state S.Store tx.new.conn.now) result }
+    ensures steps { Steps S.Store tx.old.conn tx.new.conn result }
+    ensures reads { ReadsInside S.Store (site_in site.now) tx.old.conn tx.new.conn result }
     ensures fits { IfOk result (λ found. IfSome found FitsSite) }
-    ensures same { HasCleanDisk (state S.Store tx.new.conn.now) → IsReady (state S.Store tx.old.conn.now) → OnOk result (IsUnchanged (state S.Store tx.old.conn.now) (state S.Store tx.new.conn.now)) }
-    ensures kept { HasCleanDisk (state S.Store tx.new.conn.now) → StaysInside (state S.Store tx.old.conn.now) (state S.Store tx.new.conn.now) result }
-    ensures survives { Survives (state S.Store tx.old.conn.now) (state S.Store tx.new.conn.now) (λ _. ⊥) }
+    ensures same { LeavesInside S.Store tx.old.conn tx.new.conn result }
 {
     let counters = site_row(tx, site.as_str())?;
     let members = site_members(tx, site.as_str())?;
@@ -44,15 +39,13 @@ pub fn page_in<S: Alter>(
     site: &Text,
     page: &Text,
 ) -> Result<Option<Page>, StoreFault>
-    ensures same_reference { tx.new.conn.ghost_name ≡ tx.old.conn.ghost_name }
-    ensures reads { ReadsInside (page_in site.now page.now) (state S.Store tx.old.conn.now) (state S.Store tx.new.conn.now) result }
+    ensures steps { Steps S.Store tx.old.conn tx.new.conn result }
+    ensures reads { ReadsInside S.Store (page_in site.now page.now) tx.old.conn tx.new.conn result }
     ensures fits { IfOk result (λ found. IfSome found FitsPage) }
-    ensures same { HasCleanDisk (state S.Store tx.new.conn.now) → IsReady (state S.Store tx.old.conn.now) → OnOk result (IsUnchanged (state S.Store tx.old.conn.now) (state S.Store tx.new.conn.now)) }
-    ensures kept { HasCleanDisk (state S.Store tx.new.conn.now) → StaysInside (state S.Store tx.old.conn.now) (state S.Store tx.new.conn.now) result }
-    ensures survives { Survives (state S.Store tx.old.conn.now) (state S.Store tx.new.conn.now) (λ _. ⊥) }
+    ensures same { LeavesInside S.Store tx.old.conn tx.new.conn result }
 {
     let rows = page_row(tx, site.as_str(), page.as_str())?;
-    store_tables::page(alloc, memo, page, rows.as_slice())
+    store_tables::read_page(alloc, memo, page, rows.as_slice())
 }
 
 /// The heads of a site's pages, in byte order of their names.
@@ -61,12 +54,10 @@ pub fn heads_in<S: Alter>(
     tx: &mut Transaction<'_, S>,
     site: &Text,
 ) -> Result<List<PageHead>, StoreFault>
-    ensures same_reference { tx.new.conn.ghost_name ≡ tx.old.conn.ghost_name }
-    ensures reads { ReadsInside (heads_in site.now) (state S.Store tx.old.conn.now) (state S.Store tx.new.conn.now) result }
+    ensures steps { Steps S.Store tx.old.conn tx.new.conn result }
+    ensures reads { ReadsInside S.Store (heads_in site.now) tx.old.conn tx.new.conn result }
     ensures fits { IfOk result FitsHeads }
-    ensures same { HasCleanDisk (state S.Store tx.new.conn.now) → IsReady (state S.Store tx.old.conn.now) → OnOk result (IsUnchanged (state S.Store tx.old.conn.now) (state S.Store tx.new.conn.now)) }
-    ensures kept { HasCleanDisk (state S.Store tx.new.conn.now) → StaysInside (state S.Store tx.old.conn.now) (state S.Store tx.new.conn.now) result }
-    ensures survives { Survives (state S.Store tx.old.conn.now) (state S.Store tx.new.conn.now) (λ _. ⊥) }
+    ensures same { LeavesInside S.Store tx.old.conn tx.new.conn result }
 {
     let rows = heads(tx, site.as_str())?;
     fitting::heads(alloc, rows.as_slice())
@@ -79,14 +70,12 @@ pub fn judgements_in<S: Alter>(
     site: &Text,
     page: &Text,
 ) -> Result<List<Judgement>, StoreFault>
-    ensures same_reference { tx.new.conn.ghost_name ≡ tx.old.conn.ghost_name }
-    ensures reads { ReadsInside (judgements_in site.now page.now) (state S.Store tx.old.conn.now) (state S.Store tx.new.conn.now) result }
-    ensures same { HasCleanDisk (state S.Store tx.new.conn.now) → IsReady (state S.Store tx.old.conn.now) → OnOk result (IsUnchanged (state S.Store tx.old.conn.now) (state S.Store tx.new.conn.now)) }
-    ensures kept { HasCleanDisk (state S.Store tx.new.conn.now) → StaysInside (state S.Store tx.old.conn.now) (state S.Store tx.new.conn.now) result }
-    ensures survives { Survives (state S.Store tx.old.conn.now) (state S.Store tx.new.conn.now) (λ _. ⊥) }
+    ensures steps { Steps S.Store tx.old.conn tx.new.conn result }
+    ensures reads { ReadsInside S.Store (judgements_in site.now page.now) tx.old.conn tx.new.conn result }
+    ensures same { LeavesInside S.Store tx.old.conn tx.new.conn result }
 {
     let rows = page_judgements(tx, site.as_str(), page.as_str())?;
-    store_tables::judgements(alloc, rows.as_slice())
+    store_tables::read_judgements(alloc, rows.as_slice())
 }
 
 /// The outcomes of a page.
@@ -96,12 +85,10 @@ pub fn outcomes_in<S: Alter>(
     site: &Text,
     page: &Text,
 ) -> Result<Outcomes, StoreFault>
-    ensures same_reference { tx.new.conn.ghost_name ≡ tx.old.conn.ghost_name }
-    ensures reads { ReadsInside (outcomes_in site.now page.now) (state S.Store tx.old.conn.now) (state S.Store tx.new.conn.now) result }
-    ensures same { HasCleanDisk (state S.Store tx.new.conn.now) → IsReady (state S.Store tx.old.conn.now) → OnOk result (IsUnchanged (state S.Store tx.old.conn.now) (state S.Store tx.new.conn.now)) }
-    ensures kept { HasCleanDisk (state S.Store tx.new.conn.now) → StaysInside (state S.Store tx.old.conn.now) (state S.Store tx.new.conn.now) result }
-    ensures survives { Survives (state S.Store tx.old.conn.now) (state S.Store tx.new.conn.now) (λ _. ⊥) }
+    ensures steps { Steps S.Store tx.old.conn tx.new.conn result }
+    ensures reads { ReadsInside S.Store (outcomes_in site.now page.now) tx.old.conn tx.new.conn result }
+    ensures same { LeavesInside S.Store tx.old.conn tx.new.conn result }
 {
     let rows = page_outcomes(tx, site.as_str(), page.as_str())?;
-    store_tables::outcomes(alloc, rows.as_slice())
+    store_tables::read_outcomes(alloc, rows.as_slice())
 }

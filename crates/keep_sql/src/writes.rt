@@ -1,63 +1,33 @@
-//! What is written of a site, a page, a judgement and outcomes. Each call fails with `Failed` where a statement was
-//! refused for another cause than memory, or a number is out of the range of a column.
+//! The statements that write a site, a page, a judgement and outcomes, in their order. Each call fails with `Failed` where
+//! a statement was refused for another cause than memory, or a number is out of the range of a column.
 
 ghost use Rattle.std.specs.Prelude.{◌≡◌, ◌≤◌, ◌+◌, [], ◌∷◌, pos, map, length, Some, Ok as ok, IfOk};
 ghost use Rattle.sqlite.specs.Held.{state};
-ghost use Rattle.sqlite.specs.State.{HasCleanDisk, Survives};
 ghost use Rattle.named_rows.specs.ByName.{put_row, put_rows};
 ghost use Rattle.snap_json.specs.Pages.{kept_tree};
-ghost use Rattle.sql_rows.specs.Inside.{StaysInside};
+ghost use Rattle.sql_rows.specs.Inside.{Steps};
 ghost use Rattle.sql_rows.specs.Tables.{name_at};
 ghost use Rattle.judge_core.specs.Equality.{same_row};
 ghost use Rattle.keep_core.specs.Fits.{FitsPage};
-ghost use Rattle.store_statements.specs.Changes.{PutsSite, ChangesMembers, ChangesPages, ChangesJudgements, ChangesOutcomes};
-ghost use Rattle.store_tables.specs.Cells.{role_number, auto_number};
-ghost use Rattle.store_tables.specs.Batches.{member_cells, page_cells, judgement_cells, outcome_cells, outcomes_cells, outcome_rows};
+ghost use Rattle.store_statements.specs.Changes.{MakesInside, PutsSite, ChangesMembers, ChangesPages, ChangesJudgements, ChangesOutcomes};
+ghost use Rattle.store_tables.specs.Members.{member_cells};
+ghost use Rattle.store_tables.specs.Pages.{page_cells};
+ghost use Rattle.store_tables.specs.Judgements.{judgement_cells};
+ghost use Rattle.store_tables.specs.Outcomes.{outcome_cells, outcomes_cells, outcome_rows};
 ghost use Rattle.keep_sql.specs.Reading.{outcomes_in};
-ghost use Rattle.keep_sql.specs.Writing.{MakesInside, IsRowOf, changed_cells};
+ghost use Rattle.keep_sql.specs.Writing.{changed_cells};
 
 use judge_core::{Judgement, OutRow, Outcomes};
-use keep_core::{Member, MemberRole, Page};
-use rule_core::Auto;
-use snap_json::write_snapshot;
+use keep_core::{Member, Page};
 use sqlite::{Alter, Transaction};
 use std::alloc::Global;
 use store_statements::{
-    JudgementRow, OutcomeRow, add_judgement, add_member, drop_members, drop_outcomes, put_outcome,
-    put_page, put_site,
+    add_judgement, add_member, drop_members, drop_outcomes, put_outcome, put_page, put_site,
 };
-use store_tables::{Memo, StoreFault};
-
-fn role_number(role: MemberRole) -> i64
-    ensures { result ≡ pos (role_number role) }
-{
-    match role {
-        MemberRole::Owner => 0,
-        MemberRole::Editor => 1,
-        MemberRole::Judge => 2,
-        MemberRole::Reader => 3,
-    }
-}
-
-fn auto_number(auto: Auto) -> i64
-    ensures { result ≡ pos (auto_number auto) }
-{
-    match auto {
-        Auto::Passed => 0,
-        Auto::Failed => 1,
-        Auto::CantTell => 2,
-    }
-}
-
-// A count as a number of a column.
-fn column_number(count: u64) -> Result<i64, StoreFault>
-    ensures { IfOk result (λ n. n ≡ pos count) }
-{
-    match i64::try_from(count) {
-        Ok(number) => Ok(number),
-        Err(_) => Err(StoreFault::Failed),
-    }
-}
+use store_tables::{
+    Memo, PageValues, StoreFault, column_number, judgement_row, outcome_row, page_values,
+    role_number,
+};
 
 /// Puts a site's row in place of the one of its name.
 pub fn write_site<S: Alter>(
@@ -65,10 +35,8 @@ pub fn write_site<S: Alter>(
     site: &str,
     counter: u64,
 ) -> Result<(), StoreFault>
-    ensures same_reference { tx.new.conn.ghost_name ≡ tx.old.conn.ghost_name }
-    ensures makes { MakesInside (PutsSite site.now (pos counter)) (state S.Store tx.old.conn.now) (state S.Store tx.new.conn.now) result }
-    ensures kept { HasCleanDisk (state S.Store tx.new.conn.now) → StaysInside (state S.Store tx.old.conn.now) (state S.Store tx.new.conn.now) result }
-    ensures survives { Survives (state S.Store tx.old.conn.now) (state S.Store tx.new.conn.now) (λ _. ⊥) }
+    ensures steps { Steps S.Store tx.old.conn tx.new.conn result }
+    ensures makes { MakesInside S.Store (PutsSite site.now (pos counter)) tx.old.conn tx.new.conn result }
 {
     let counter = column_number(counter)?;
     put_site(tx, site, counter)?;
@@ -80,10 +48,8 @@ fn write_member<S: Alter>(
     site: &str,
     member: &Member,
 ) -> Result<(), StoreFault>
-    ensures same_reference { tx.new.conn.ghost_name ≡ tx.old.conn.ghost_name }
-    ensures makes { MakesInside (ChangesMembers site.now (put_row (name_at 1) (member_cells site.now member.now))) (state S.Store tx.old.conn.now) (state S.Store tx.new.conn.now) result }
-    ensures kept { HasCleanDisk (state S.Store tx.new.conn.now) → StaysInside (state S.Store tx.old.conn.now) (state S.Store tx.new.conn.now) result }
-    ensures survives { Survives (state S.Store tx.old.conn.now) (state S.Store tx.new.conn.now) (λ _. ⊥) }
+    ensures steps { Steps S.Store tx.old.conn tx.new.conn result }
+    ensures makes { MakesInside S.Store (ChangesMembers site.now (put_row (name_at 1) (member_cells site.now member.now))) tx.old.conn tx.new.conn result }
 {
     add_member(tx, site, member.user.as_str(), role_number(member.role))?;
     Ok(())
@@ -94,10 +60,8 @@ fn add_members<S: Alter>(
     site: &str,
     members: &[Member],
 ) -> Result<(), StoreFault>
-    ensures same_reference { tx.new.conn.ghost_name ≡ tx.old.conn.ghost_name }
-    ensures makes { MakesInside (ChangesMembers site.now (put_rows (name_at 1) (map (member_cells site.now) members.now))) (state S.Store tx.old.conn.now) (state S.Store tx.new.conn.now) result }
-    ensures kept { HasCleanDisk (state S.Store tx.new.conn.now) → StaysInside (state S.Store tx.old.conn.now) (state S.Store tx.new.conn.now) result }
-    ensures survives { Survives (state S.Store tx.old.conn.now) (state S.Store tx.new.conn.now) (λ _. ⊥) }
+    ensures steps { Steps S.Store tx.old.conn tx.new.conn result }
+    ensures makes { MakesInside S.Store (ChangesMembers site.now (put_rows (name_at 1) (map (member_cells site.now) members.now))) tx.old.conn tx.new.conn result }
 {
     let Some((first, rest)) = members.split_first() else {
         return Ok(());
@@ -112,10 +76,8 @@ pub fn write_members<S: Alter>(
     site: &str,
     members: &[Member],
 ) -> Result<(), StoreFault>
-    ensures same_reference { tx.new.conn.ghost_name ≡ tx.old.conn.ghost_name }
-    ensures makes { MakesInside (ChangesMembers site.now (λ _. put_rows (name_at 1) (map (member_cells site.now) members.now) [])) (state S.Store tx.old.conn.now) (state S.Store tx.new.conn.now) result }
-    ensures kept { HasCleanDisk (state S.Store tx.new.conn.now) → StaysInside (state S.Store tx.old.conn.now) (state S.Store tx.new.conn.now) result }
-    ensures survives { Survives (state S.Store tx.old.conn.now) (state S.Store tx.new.conn.now) (λ _. ⊥) }
+    ensures steps { Steps S.Store tx.old.conn tx.new.conn result }
+    ensures makes { MakesInside S.Store (ChangesMembers site.now (λ _. put_rows (name_at 1) (map (member_cells site.now) members.now) [])) tx.old.conn tx.new.conn result }
 {
     drop_members(tx, site)?;
     add_members(tx, site, members)
@@ -130,13 +92,10 @@ pub fn write_page<S: Alter>(
     page: &Page,
 ) -> Result<(), StoreFault>
     requires fits { FitsPage page.now }
-    ensures same_reference { tx.new.conn.ghost_name ≡ tx.old.conn.ghost_name }
-    ensures makes { MakesInside (λ old new. (bytes : _) × (kept_tree bytes ≡ ok page.now.tree) × ChangesPages site.now (put_row (name_at 1) (page_cells site.now page.now bytes)) old new) (state S.Store tx.old.conn.now) (state S.Store tx.new.conn.now) result }
-    ensures kept { HasCleanDisk (state S.Store tx.new.conn.now) → StaysInside (state S.Store tx.old.conn.now) (state S.Store tx.new.conn.now) result }
-    ensures survives { Survives (state S.Store tx.old.conn.now) (state S.Store tx.new.conn.now) (λ _. ⊥) }
+    ensures steps { Steps S.Store tx.old.conn tx.new.conn result }
+    ensures makes { MakesInside S.Store (λ old new. (bytes : _) × (kept_tree bytes ≡ ok page.now.tree) × ChangesPages site.now (put_row (name_at 1) (page_cells site.now page.now bytes)) old new) tx.old.conn tx.new.conn result }
 {
-    let rev = column_number(page.head.rev)?;
-    let snapshot = write_snapshot(alloc, &page.tree)?;
+    let PageValues { rev, snapshot } = page_values(alloc, page)?;
     let name = page.head.page.as_str();
     let hand = page.head.hand.as_str();
     put_page(tx, site, name, rev, hand, snapshot.as_slice())?;
@@ -152,40 +111,12 @@ pub fn write_judgement<S: Alter>(
     place: u64,
     judgement: &Judgement,
 ) -> Result<(), StoreFault>
-    ensures same_reference { tx.new.conn.ghost_name ≡ tx.old.conn.ghost_name }
-    ensures makes { MakesInside (ChangesJudgements site.now page.now (put_row (name_at 2) (judgement_cells site.now page.now place judgement.now))) (state S.Store tx.old.conn.now) (state S.Store tx.new.conn.now) result }
-    ensures kept { HasCleanDisk (state S.Store tx.new.conn.now) → StaysInside (state S.Store tx.old.conn.now) (state S.Store tx.new.conn.now) result }
-    ensures survives { Survives (state S.Store tx.old.conn.now) (state S.Store tx.new.conn.now) (λ _. ⊥) }
+    ensures steps { Steps S.Store tx.old.conn tx.new.conn result }
+    ensures makes { MakesInside S.Store (ChangesJudgements site.now page.now (put_row (name_at 2) (judgement_cells site.now page.now place judgement.now))) tx.old.conn tx.new.conn result }
 {
-    let seq = column_number(place)?;
-    let row = JudgementRow {
-        seq,
-        rule: i64::from(judgement.rule.0),
-        node: i64::from(judgement.node.0),
-        verdict: auto_number(judgement.verdict),
-        hand: judgement.hand.as_str(),
-        note: judgement.note.as_str(),
-        evidence: judgement.evidence.as_str(),
-    };
+    let row = judgement_row(place, judgement)?;
     add_judgement(tx, site, page, &row)?;
     Ok(())
-}
-
-// A row of an outcome at a place of its page's list.
-fn outcome_row<'a>(place: u64, outcome: &'a OutRow) -> Result<OutcomeRow<'a>, StoreFault>
-    ensures { IfOk result (λ row. IsRowOf place outcome.now row) }
-{
-    let seq = column_number(place)?;
-    Ok(OutcomeRow {
-        seq,
-        rule: i64::from(outcome.rule.0),
-        node: i64::from(outcome.node.0),
-        auto: auto_number(outcome.auto),
-        reason: outcome.reason.word(),
-        evidence: outcome.evidence.as_str(),
-        last: auto_number(outcome.last),
-        hand: outcome.hand.as_str(),
-    })
 }
 
 fn write_outcome<S: Alter>(
@@ -195,10 +126,8 @@ fn write_outcome<S: Alter>(
     place: u64,
     outcome: &OutRow,
 ) -> Result<(), StoreFault>
-    ensures same_reference { tx.new.conn.ghost_name ≡ tx.old.conn.ghost_name }
-    ensures makes { MakesInside (ChangesOutcomes site.now page.now (put_row (name_at 2) (outcome_cells site.now page.now place outcome.now))) (state S.Store tx.old.conn.now) (state S.Store tx.new.conn.now) result }
-    ensures kept { HasCleanDisk (state S.Store tx.new.conn.now) → StaysInside (state S.Store tx.old.conn.now) (state S.Store tx.new.conn.now) result }
-    ensures survives { Survives (state S.Store tx.old.conn.now) (state S.Store tx.new.conn.now) (λ _. ⊥) }
+    ensures steps { Steps S.Store tx.old.conn tx.new.conn result }
+    ensures makes { MakesInside S.Store (ChangesOutcomes site.now page.now (put_row (name_at 2) (outcome_cells site.now page.now place outcome.now))) tx.old.conn tx.new.conn result }
 {
     let row = outcome_row(place, outcome)?;
     put_outcome(tx, site, page, &row)?;
@@ -223,10 +152,8 @@ fn add_outcomes<S: Alter>(
     place: u64,
     outcomes: &[OutRow],
 ) -> Result<(), StoreFault>
-    ensures same_reference { tx.new.conn.ghost_name ≡ tx.old.conn.ghost_name }
-    ensures makes { MakesInside (ChangesOutcomes site.now page.now (put_rows (name_at 2) (outcomes_cells site.now page.now place outcomes.now))) (state S.Store tx.old.conn.now) (state S.Store tx.new.conn.now) result }
-    ensures kept { HasCleanDisk (state S.Store tx.new.conn.now) → StaysInside (state S.Store tx.old.conn.now) (state S.Store tx.new.conn.now) result }
-    ensures survives { Survives (state S.Store tx.old.conn.now) (state S.Store tx.new.conn.now) (λ _. ⊥) }
+    ensures steps { Steps S.Store tx.old.conn tx.new.conn result }
+    ensures makes { MakesInside S.Store (ChangesOutcomes site.now page.now (put_rows (name_at 2) (outcomes_cells site.now page.now place outcomes.now))) tx.old.conn tx.new.conn result }
 {
     if outcomes.len() < 2 {
         return match outcomes.first() {
@@ -255,10 +182,8 @@ fn write_changed<S: Alter>(
     kept: &OutRow,
     outcome: &OutRow,
 ) -> Result<(), StoreFault>
-    ensures same_reference { tx.new.conn.ghost_name ≡ tx.old.conn.ghost_name }
-    ensures makes { MakesInside (ChangesOutcomes site.now page.now (put_rows (name_at 2) (changed_cells site.now page.now place (kept.now ∷ []) (outcome.now ∷ [])))) (state S.Store tx.old.conn.now) (state S.Store tx.new.conn.now) result }
-    ensures kept { HasCleanDisk (state S.Store tx.new.conn.now) → StaysInside (state S.Store tx.old.conn.now) (state S.Store tx.new.conn.now) result }
-    ensures survives { Survives (state S.Store tx.old.conn.now) (state S.Store tx.new.conn.now) (λ _. ⊥) }
+    ensures steps { Steps S.Store tx.old.conn tx.new.conn result }
+    ensures makes { MakesInside S.Store (ChangesOutcomes site.now page.now (put_rows (name_at 2) (changed_cells site.now page.now place (kept.now ∷ []) (outcome.now ∷ [])))) tx.old.conn tx.new.conn result }
 {
     if is_same(kept, outcome) {
         return Ok(());
@@ -277,10 +202,8 @@ fn write_each_changed<S: Alter>(
     outcomes: &[OutRow],
 ) -> Result<(), StoreFault>
     requires as_many { length kept.now ≡ length outcomes.now }
-    ensures same_reference { tx.new.conn.ghost_name ≡ tx.old.conn.ghost_name }
-    ensures makes { MakesInside (ChangesOutcomes site.now page.now (put_rows (name_at 2) (changed_cells site.now page.now place kept.now outcomes.now))) (state S.Store tx.old.conn.now) (state S.Store tx.new.conn.now) result }
-    ensures kept { HasCleanDisk (state S.Store tx.new.conn.now) → StaysInside (state S.Store tx.old.conn.now) (state S.Store tx.new.conn.now) result }
-    ensures survives { Survives (state S.Store tx.old.conn.now) (state S.Store tx.new.conn.now) (λ _. ⊥) }
+    ensures steps { Steps S.Store tx.old.conn tx.new.conn result }
+    ensures makes { MakesInside S.Store (ChangesOutcomes site.now page.now (put_rows (name_at 2) (changed_cells site.now page.now place kept.now outcomes.now))) tx.old.conn tx.new.conn result }
 {
     if outcomes.len() < 2 {
         return match (kept.first(), outcomes.first()) {
@@ -305,11 +228,9 @@ fn write_over<S: Alter>(
     outcomes: &Outcomes,
 ) -> Result<(), StoreFault>
     requires within { length kept.now.rows ≤ length outcomes.now.rows }
-    ensures same_reference { tx.new.conn.ghost_name ≡ tx.old.conn.ghost_name }
+    ensures steps { Steps S.Store tx.old.conn tx.new.conn result }
     ensures makes { outcomes_in site.now page.now (state S.Store tx.old.conn.now) ≡ Some kept.now
-        → MakesInside (ChangesOutcomes site.now page.now (λ _. outcome_rows site.now page.now outcomes.now)) (state S.Store tx.old.conn.now) (state S.Store tx.new.conn.now) result }
-    ensures kept { HasCleanDisk (state S.Store tx.new.conn.now) → StaysInside (state S.Store tx.old.conn.now) (state S.Store tx.new.conn.now) result }
-    ensures survives { Survives (state S.Store tx.old.conn.now) (state S.Store tx.new.conn.now) (λ _. ⊥) }
+        → MakesInside S.Store (ChangesOutcomes site.now page.now (λ _. outcome_rows site.now page.now outcomes.now)) tx.old.conn tx.new.conn result }
 {
     let (first, rest) = outcomes.rows.as_slice().split_at(kept.rows.len());
     let next = place_after(1, first.len())?;
@@ -326,11 +247,9 @@ pub fn write_outcomes<S: Alter>(
     kept: &Outcomes,
     outcomes: &Outcomes,
 ) -> Result<(), StoreFault>
-    ensures same_reference { tx.new.conn.ghost_name ≡ tx.old.conn.ghost_name }
+    ensures steps { Steps S.Store tx.old.conn tx.new.conn result }
     ensures makes { outcomes_in site.now page.now (state S.Store tx.old.conn.now) ≡ Some kept.now
-        → MakesInside (ChangesOutcomes site.now page.now (λ _. outcome_rows site.now page.now outcomes.now)) (state S.Store tx.old.conn.now) (state S.Store tx.new.conn.now) result }
-    ensures kept { HasCleanDisk (state S.Store tx.new.conn.now) → StaysInside (state S.Store tx.old.conn.now) (state S.Store tx.new.conn.now) result }
-    ensures survives { Survives (state S.Store tx.old.conn.now) (state S.Store tx.new.conn.now) (λ _. ⊥) }
+        → MakesInside S.Store (ChangesOutcomes site.now page.now (λ _. outcome_rows site.now page.now outcomes.now)) tx.old.conn tx.new.conn result }
 {
     if kept.rows.len() <= outcomes.rows.len() {
         return write_over(tx, site, page, kept, outcomes);

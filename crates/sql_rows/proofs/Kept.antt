@@ -2,11 +2,14 @@
 use Rattle.std.proofs.Common.{◌≡◌, ◌⊎◌, inl, inr, ℕ, List, Option, Some, None, Ok, Err, Result, IfOk, IfErr, OnOk, IsTrue, sym, ap, subst, ◌∙◌}
 use Rattle.sqlite.specs.declared.error.Error.{Error}
 use Rattle.sqlite.specs.Order.{Row}
-use Rattle.sqlite.specs.State.{State, IsUnchanged, IsRolledBack, KeepsCommit, Fails, ExecutesInside, Shown, FailsToQuery, IsTooLate, IsNotRun}
+use Rattle.std.specs.Borrow.{MutBor}
+use Rattle.sqlite_trees.specs.declared.store.Store.{Ghosts}
+use Rattle.sqlite.specs.Held.{Held, state}
+use Rattle.sqlite.specs.State.{State, HasCleanDisk, Survives, IsUnchanged, IsRolledBack, KeepsCommit, Fails, ExecutesInside, Shown, FailsToQuery, IsTooLate, IsNotRun}
 use Rattle.sqlite_schema.specs.declared.command.Returning.{Returning}
 use Rattle.sqlite_schema.specs.declared.schema.Schema.{Schema}
 use Rattle.sqlite.specs.Listing.{understood}
-use Rattle.sql_rows.specs.Inside.{StaysInside}
+use Rattle.sql_rows.specs.Inside.{StaysInside, Steps}
 use Rattle.sqlite.proofs.Callers.{IsPlain}
 
 pub unchanged_keeps : (old new : State) → IsUnchanged old new → KeepsCommit old new
@@ -96,3 +99,16 @@ queried_stays sql params old new view (Err e) shown failed inside = (late_keeps 
 pub if_executed : (sql : List ℕ) (params : Row) (old new : State) (r : Result ℕ Error) (P : Type 0) → ((count : ℕ) → ExecutesInside 0 sql params old new (Ok count) → P) → ExecutesInside 0 sql params old new r → OnOk r P
 if_executed sql params old new (Ok count) P makes h = makes count h
 if_executed sql params old new (Err e) P makes h = tt
+
+-- ---- steps of a transaction
+
+module _ {S : Type 0} (g : Ghosts S) (sql : List ℕ) (params : Row) (old new : MutBor (Held S)) where
+  pub executed_steps : (r : Result ℕ Error) → new.ghost_name ≡ old.ghost_name → Survives (state g old.now) (state g new.now) (λ _. ⊥)
+      → (HasCleanDisk (state g new.now) → IsTrue (state g old.now).in_transaction → ExecutesInside 0 sql params (state g old.now) (state g new.now) r) → Steps g old new r
+  executed_steps r same survives runs = record { same_reference = same; kept = λ clean. executed_stays sql params (state g old.now) (state g new.now) r (runs clean); survives = survives }
+
+  pub queried_steps : {X : Type 0} (view : X → List Row) (r : Result X Error) → new.ghost_name ≡ old.ghost_name → Survives (state g old.now) (state g new.now) (λ _. ⊥)
+      → (HasCleanDisk (state g new.now) → IfOk r (λ x. Shown sql params (state g old.now) (state g new.now) (view x)))
+      → (HasCleanDisk (state g new.now) → IfErr r (λ e. FailsToQuery sql params (state g old.now) (state g new.now) e ⊎ IsTooLate sql params (state g old.now) (state g new.now) e)) → Steps g old new r
+  queried_steps view r same survives ok err =
+      record { same_reference = same; kept = λ clean. queried_stays sql params (state g old.now) (state g new.now) view r (ok clean) (err clean); survives = survives }

@@ -1,8 +1,11 @@
 -- What each writing text does to what the tables hold.
-use Rattle.std.specs.Prelude.{◌≡◌, ℕ, ℤ, List, [], ◌∷◌}
+use Rattle.std.specs.Prelude.{◌≡◌, ℕ, ℤ, List, [], ◌∷◌, Result, IfOk, OnOk}
+use Rattle.std.specs.Borrow.{MutBor}
 use Rattle.sqlite_value.specs.declared.value.Value.TheVariants.{Int, Text, Blob}
 use Rattle.sqlite_value.specs.Order.{Row}
-use Rattle.sqlite.specs.State.{State}
+use Rattle.sqlite_trees.specs.declared.store.Store.{Ghosts}
+use Rattle.sqlite.specs.Held.{Held, state}
+use Rattle.sqlite.specs.State.{State, HasCleanDisk, IsUnchanged}
 use Rattle.named_rows.specs.ByName.{put_row, take_row}
 use Rattle.sql_rows.specs.Tables.{name_at}
 use Rattle.sql_rows.specs.Changes.{Changes}
@@ -88,3 +91,14 @@ IsReady = rows.IsReady the_schema
 pub record Makes (Change : Stored → Stored → Type 0) (old new : State) : Type 0 where
   pub ready : IsReady new
   pub change : Change (stored old.now.trees) (stored new.now.trees)
+
+-- ---- calls in a transaction, where the disk is clean
+
+-- this holds of the answer and the rows, which stay as they were
+abbrev pub ShowsInside : {S A E : Type 0} → Ghosts S → (A → Stored → Type 0) → MutBor (Held S) → MutBor (Held S) → Result A E → Type 0
+ShowsInside g Shows old new result =
+    HasCleanDisk (state g new.now) → IsReady (state g old.now) → IfOk result (λ a. Shows a (stored (state g old.now).now.trees) × IsUnchanged (state g old.now) (state g new.now))
+
+-- this is made of the rows, and the transaction goes on
+abbrev pub MakesInside : {S A E : Type 0} → Ghosts S → (Stored → Stored → Type 0) → MutBor (Held S) → MutBor (Held S) → Result A E → Type 0
+MakesInside g Change old new result = HasCleanDisk (state g new.now) → IsReady (state g old.now) → OnOk result (Makes Change (state g old.now) (state g new.now))

@@ -1,13 +1,28 @@
 //! The table of the store's edition.
 
-ghost use Rattle.std.specs.Prelude.{◌≡◌, IfOk, OnOk};
-ghost use Rattle.sqlite.specs.Held.{state};
-ghost use Rattle.sqlite.specs.State.{HasCleanDisk, Survives, IsUnchanged};
-ghost use Rattle.sql_rows.specs.Inside.{StaysInside};
-ghost use Rattle.store_statements.specs.Stored.{stored, editions_at};
-ghost use Rattle.store_statements.specs.Changes.{IsReady, Makes, AddsEdition};
+ghost use Rattle.std.specs.Prelude.{◌≡◌};
+ghost use Rattle.sql_rows.specs.Inside.{Steps};
+ghost use Rattle.store_statements.specs.Schema.{edition_table};
+ghost use Rattle.store_statements.specs.Stored.{editions_at};
+ghost use Rattle.store_statements.specs.Changes.{ShowsInside, MakesInside, AddsEdition};
+ghost use Rattle.store_statements.specs.Making.{MakesTableInside};
 
 use sqlite::{Alter, Error, Row, Transaction, params};
+
+/// Makes the last table, `edition`, in a store that has those before it and no other.
+///
+/// # Errors
+///
+/// Those of a statement of `sqlite`, after which the transaction may have been rolled back.
+pub fn make_edition<S: Alter>(tx: &mut Transaction<'_, S>) -> Result<usize, Error>
+    ensures steps { Steps S.Store tx.old.conn tx.new.conn result }
+    ensures makes { MakesTableInside S.Store 5 edition_table tx.old.conn tx.new.conn result }
+{
+    tx.execute(
+        "CREATE TABLE edition (number INT NOT NULL, PRIMARY KEY (number)) STRICT",
+        &[],
+    )
+}
 
 /// The numbers of the editions that are noted, from the least.
 ///
@@ -15,11 +30,8 @@ use sqlite::{Alter, Error, Row, Transaction, params};
 ///
 /// Those of a query of `sqlite`.
 pub fn edition_rows<S: Alter>(tx: &mut Transaction<'_, S>) -> Result<Vec<Row>, Error>
-    ensures same_reference { tx.new.conn.ghost_name ≡ tx.old.conn.ghost_name }
-    ensures shown { HasCleanDisk (state S.Store tx.new.conn.now) → IsReady (state S.Store tx.old.conn.now)
-        → IfOk result (λ rows. (rows.items ≡ editions_at (stored (state S.Store tx.old.conn.now).now.trees)) × IsUnchanged (state S.Store tx.old.conn.now) (state S.Store tx.new.conn.now)) }
-    ensures kept { HasCleanDisk (state S.Store tx.new.conn.now) → StaysInside (state S.Store tx.old.conn.now) (state S.Store tx.new.conn.now) result }
-    ensures survives { Survives (state S.Store tx.old.conn.now) (state S.Store tx.new.conn.now) (λ _. ⊥) }
+    ensures steps { Steps S.Store tx.old.conn tx.new.conn result }
+    ensures shown { ShowsInside S.Store (λ rows s. rows.items ≡ editions_at s) tx.old.conn tx.new.conn result }
 {
     tx.query_all("SELECT number FROM edition ORDER BY number", params![])
 }
@@ -30,11 +42,8 @@ pub fn edition_rows<S: Alter>(tx: &mut Transaction<'_, S>) -> Result<Vec<Row>, E
 ///
 /// Those of a statement of `sqlite`, after which the transaction may have been rolled back.
 pub fn add_edition<S: Alter>(tx: &mut Transaction<'_, S>, number: i64) -> Result<usize, Error>
-    ensures same_reference { tx.new.conn.ghost_name ≡ tx.old.conn.ghost_name }
-    ensures makes { HasCleanDisk (state S.Store tx.new.conn.now) → IsReady (state S.Store tx.old.conn.now)
-        → OnOk result (Makes (AddsEdition number) (state S.Store tx.old.conn.now) (state S.Store tx.new.conn.now)) }
-    ensures kept { HasCleanDisk (state S.Store tx.new.conn.now) → StaysInside (state S.Store tx.old.conn.now) (state S.Store tx.new.conn.now) result }
-    ensures survives { Survives (state S.Store tx.old.conn.now) (state S.Store tx.new.conn.now) (λ _. ⊥) }
+    ensures steps { Steps S.Store tx.old.conn tx.new.conn result }
+    ensures makes { MakesInside S.Store (AddsEdition number) tx.old.conn tx.new.conn result }
 {
     tx.execute("INSERT INTO edition (number) VALUES (?1)", params![number])
 }

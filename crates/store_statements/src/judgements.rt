@@ -1,11 +1,11 @@
 //! The table of judgements.
 
-ghost use Rattle.std.specs.Prelude.{◌≡◌, IfOk, OnOk};
-ghost use Rattle.sqlite.specs.Held.{state};
-ghost use Rattle.sqlite.specs.State.{HasCleanDisk, Survives, IsUnchanged};
-ghost use Rattle.sql_rows.specs.Inside.{StaysInside};
-ghost use Rattle.store_statements.specs.Stored.{stored, judgements_at};
-ghost use Rattle.store_statements.specs.Changes.{IsReady, Makes, DropsJudgements, AddsJudgement};
+ghost use Rattle.std.specs.Prelude.{◌≡◌};
+ghost use Rattle.sql_rows.specs.Inside.{Steps};
+ghost use Rattle.store_statements.specs.Schema.{judgements_table};
+ghost use Rattle.store_statements.specs.Stored.{judgements_at};
+ghost use Rattle.store_statements.specs.Changes.{ShowsInside, MakesInside, DropsJudgements, AddsJudgement};
+ghost use Rattle.store_statements.specs.Making.{MakesTableInside};
 
 use sqlite::{Alter, Error, Row, Transaction, params};
 
@@ -22,6 +22,21 @@ pub struct JudgementRow<'a> {
     pub evidence: &'a str,
 }
 
+/// Makes the fourth table, `judgements`, in a store that has those before it and no other.
+///
+/// # Errors
+///
+/// Those of a statement of `sqlite`, after which the transaction may have been rolled back.
+pub fn make_judgements<S: Alter>(tx: &mut Transaction<'_, S>) -> Result<usize, Error>
+    ensures steps { Steps S.Store tx.old.conn tx.new.conn result }
+    ensures makes { MakesTableInside S.Store 3 judgements_table tx.old.conn tx.new.conn result }
+{
+    tx.execute(
+        "CREATE TABLE judgements (site TEXT NOT NULL, page TEXT NOT NULL, seq INTEGER NOT NULL, rule INTEGER NOT NULL, node INTEGER NOT NULL, verdict INTEGER NOT NULL, hand TEXT NOT NULL, note TEXT NOT NULL, evidence TEXT NOT NULL, PRIMARY KEY (site, page, seq)) STRICT",
+        &[],
+    )
+}
+
 /// The judgements of a page, each from its `seq` on, in order of their `seq`.
 ///
 /// # Errors
@@ -32,11 +47,8 @@ pub fn page_judgements<S: Alter>(
     site: &str,
     page: &str,
 ) -> Result<Vec<Row>, Error>
-    ensures same_reference { tx.new.conn.ghost_name ≡ tx.old.conn.ghost_name }
-    ensures shown { HasCleanDisk (state S.Store tx.new.conn.now) → IsReady (state S.Store tx.old.conn.now)
-        → IfOk result (λ rows. (rows.items ≡ judgements_at site.now page.now (stored (state S.Store tx.old.conn.now).now.trees)) × IsUnchanged (state S.Store tx.old.conn.now) (state S.Store tx.new.conn.now)) }
-    ensures kept { HasCleanDisk (state S.Store tx.new.conn.now) → StaysInside (state S.Store tx.old.conn.now) (state S.Store tx.new.conn.now) result }
-    ensures survives { Survives (state S.Store tx.old.conn.now) (state S.Store tx.new.conn.now) (λ _. ⊥) }
+    ensures steps { Steps S.Store tx.old.conn tx.new.conn result }
+    ensures shown { ShowsInside S.Store (λ rows s. rows.items ≡ judgements_at site.now page.now s) tx.old.conn tx.new.conn result }
 {
     tx.query_all(
         "SELECT seq, rule, node, verdict, hand, note, evidence FROM judgements WHERE site = ?1 AND page = ?2 ORDER BY site, page, seq",
@@ -54,11 +66,8 @@ pub fn drop_judgements<S: Alter>(
     site: &str,
     page: &str,
 ) -> Result<usize, Error>
-    ensures same_reference { tx.new.conn.ghost_name ≡ tx.old.conn.ghost_name }
-    ensures makes { HasCleanDisk (state S.Store tx.new.conn.now) → IsReady (state S.Store tx.old.conn.now)
-        → OnOk result (Makes (DropsJudgements site.now page.now) (state S.Store tx.old.conn.now) (state S.Store tx.new.conn.now)) }
-    ensures kept { HasCleanDisk (state S.Store tx.new.conn.now) → StaysInside (state S.Store tx.old.conn.now) (state S.Store tx.new.conn.now) result }
-    ensures survives { Survives (state S.Store tx.old.conn.now) (state S.Store tx.new.conn.now) (λ _. ⊥) }
+    ensures steps { Steps S.Store tx.old.conn tx.new.conn result }
+    ensures makes { MakesInside S.Store (DropsJudgements site.now page.now) tx.old.conn tx.new.conn result }
 {
     tx.execute(
         "DELETE FROM judgements WHERE site = ?1 AND page = ?2",
@@ -77,11 +86,8 @@ pub fn add_judgement<S: Alter>(
     page: &str,
     row: &JudgementRow<'_>,
 ) -> Result<usize, Error>
-    ensures same_reference { tx.new.conn.ghost_name ≡ tx.old.conn.ghost_name }
-    ensures makes { HasCleanDisk (state S.Store tx.new.conn.now) → IsReady (state S.Store tx.old.conn.now)
-        → OnOk result (Makes (AddsJudgement site.now page.now row.now) (state S.Store tx.old.conn.now) (state S.Store tx.new.conn.now)) }
-    ensures kept { HasCleanDisk (state S.Store tx.new.conn.now) → StaysInside (state S.Store tx.old.conn.now) (state S.Store tx.new.conn.now) result }
-    ensures survives { Survives (state S.Store tx.old.conn.now) (state S.Store tx.new.conn.now) (λ _. ⊥) }
+    ensures steps { Steps S.Store tx.old.conn tx.new.conn result }
+    ensures makes { MakesInside S.Store (AddsJudgement site.now page.now row.now) tx.old.conn tx.new.conn result }
 {
     tx.execute(
         "INSERT INTO judgements (site, page, seq, rule, node, verdict, hand, note, evidence) VALUES (?1, ?2, ?3, ?4, ?5, ?6, ?7, ?8, ?9)",

@@ -15,14 +15,14 @@ mod outcomes;
 mod pages;
 mod sites;
 
-pub use editions::{add_edition, edition_rows};
-pub use judgements::{JudgementRow, add_judgement, drop_judgements, page_judgements};
-pub use making::{
-    make_edition, make_judgements, make_members, make_outcomes, make_pages, make_sites, make_tables,
+pub use editions::{add_edition, edition_rows, make_edition};
+pub use judgements::{
+    JudgementRow, add_judgement, drop_judgements, make_judgements, page_judgements,
 };
-pub use members::{add_member, drop_members, site_members};
+pub use making::make_tables;
+pub use members::{add_member, drop_members, make_members, site_members};
 pub use opening::reopen;
 pub use ours::is_ours;
-pub use outcomes::{OutcomeRow, drop_outcomes, page_outcomes, put_outcome};
-pub use pages::{drop_page, heads, page_row, put_page};
-pub use sites::{put_site, site_row};
+pub use outcomes::{OutcomeRow, drop_outcomes, make_outcomes, page_outcomes, put_outcome};
+pub use pages::{drop_page, heads, make_pages, page_row, put_page};
+pub use sites::{make_sites, put_site, site_row};

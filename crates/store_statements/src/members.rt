@@ -1,13 +1,28 @@
 //! The table of members.
 
-ghost use Rattle.std.specs.Prelude.{◌≡◌, IfOk, OnOk};
-ghost use Rattle.sqlite.specs.Held.{state};
-ghost use Rattle.sqlite.specs.State.{HasCleanDisk, Survives, IsUnchanged};
-ghost use Rattle.sql_rows.specs.Inside.{StaysInside};
-ghost use Rattle.store_statements.specs.Stored.{stored, members_at};
-ghost use Rattle.store_statements.specs.Changes.{IsReady, Makes, DropsMembers, AddsMember};
+ghost use Rattle.std.specs.Prelude.{◌≡◌};
+ghost use Rattle.sql_rows.specs.Inside.{Steps};
+ghost use Rattle.store_statements.specs.Schema.{members_table};
+ghost use Rattle.store_statements.specs.Stored.{members_at};
+ghost use Rattle.store_statements.specs.Changes.{ShowsInside, MakesInside, DropsMembers, AddsMember};
+ghost use Rattle.store_statements.specs.Making.{MakesTableInside};
 
 use sqlite::{Alter, Error, Row, Transaction, params};
+
+/// Makes the second table, `members`, in a store that has those before it and no other.
+///
+/// # Errors
+///
+/// Those of a statement of `sqlite`, after which the transaction may have been rolled back.
+pub fn make_members<S: Alter>(tx: &mut Transaction<'_, S>) -> Result<usize, Error>
+    ensures steps { Steps S.Store tx.old.conn tx.new.conn result }
+    ensures makes { MakesTableInside S.Store 1 members_table tx.old.conn tx.new.conn result }
+{
+    tx.execute(
+        "CREATE TABLE members (site TEXT NOT NULL, user TEXT NOT NULL, role INTEGER NOT NULL, PRIMARY KEY (site, user)) STRICT",
+        &[],
+    )
+}
 
 /// The users and roles of a site's members, in byte order of the users.
 ///
@@ -15,11 +30,8 @@ use sqlite::{Alter, Error, Row, Transaction, params};
 ///
 /// Those of a query of `sqlite`.
 pub fn site_members<S: Alter>(tx: &mut Transaction<'_, S>, site: &str) -> Result<Vec<Row>, Error>
-    ensures same_reference { tx.new.conn.ghost_name ≡ tx.old.conn.ghost_name }
-    ensures shown { HasCleanDisk (state S.Store tx.new.conn.now) → IsReady (state S.Store tx.old.conn.now)
-        → IfOk result (λ rows. (rows.items ≡ members_at site.now (stored (state S.Store tx.old.conn.now).now.trees)) × IsUnchanged (state S.Store tx.old.conn.now) (state S.Store tx.new.conn.now)) }
-    ensures kept { HasCleanDisk (state S.Store tx.new.conn.now) → StaysInside (state S.Store tx.old.conn.now) (state S.Store tx.new.conn.now) result }
-    ensures survives { Survives (state S.Store tx.old.conn.now) (state S.Store tx.new.conn.now) (λ _. ⊥) }
+    ensures steps { Steps S.Store tx.old.conn tx.new.conn result }
+    ensures shown { ShowsInside S.Store (λ rows s. rows.items ≡ members_at site.now s) tx.old.conn tx.new.conn result }
 {
     tx.query_all(
         "SELECT user, role FROM members WHERE site = ?1 ORDER BY site, user",
@@ -33,11 +45,8 @@ pub fn site_members<S: Alter>(tx: &mut Transaction<'_, S>, site: &str) -> Result
 ///
 /// Those of a statement of `sqlite`, after which the transaction may have been rolled back.
 pub fn drop_members<S: Alter>(tx: &mut Transaction<'_, S>, site: &str) -> Result<usize, Error>
-    ensures same_reference { tx.new.conn.ghost_name ≡ tx.old.conn.ghost_name }
-    ensures makes { HasCleanDisk (state S.Store tx.new.conn.now) → IsReady (state S.Store tx.old.conn.now)
-        → OnOk result (Makes (DropsMembers site.now) (state S.Store tx.old.conn.now) (state S.Store tx.new.conn.now)) }
-    ensures kept { HasCleanDisk (state S.Store tx.new.conn.now) → StaysInside (state S.Store tx.old.conn.now) (state S.Store tx.new.conn.now) result }
-    ensures survives { Survives (state S.Store tx.old.conn.now) (state S.Store tx.new.conn.now) (λ _. ⊥) }
+    ensures steps { Steps S.Store tx.old.conn tx.new.conn result }
+    ensures makes { MakesInside S.Store (DropsMembers site.now) tx.old.conn tx.new.conn result }
 {
     tx.execute("DELETE FROM members WHERE site = ?1", params![site])
 }
@@ -53,11 +62,8 @@ pub fn add_member<S: Alter>(
     user: &str,
     role: i64,
 ) -> Result<usize, Error>
-    ensures same_reference { tx.new.conn.ghost_name ≡ tx.old.conn.ghost_name }
-    ensures makes { HasCleanDisk (state S.Store tx.new.conn.now) → IsReady (state S.Store tx.old.conn.now)
-        → OnOk result (Makes (AddsMember site.now user.now role) (state S.Store tx.old.conn.now) (state S.Store tx.new.conn.now)) }
-    ensures kept { HasCleanDisk (state S.Store tx.new.conn.now) → StaysInside (state S.Store tx.old.conn.now) (state S.Store tx.new.conn.now) result }
-    ensures survives { Survives (state S.Store tx.old.conn.now) (state S.Store tx.new.conn.now) (λ _. ⊥) }
+    ensures steps { Steps S.Store tx.old.conn tx.new.conn result }
+    ensures makes { MakesInside S.Store (AddsMember site.now user.now role) tx.old.conn tx.new.conn result }
 {
     tx.execute(
         "INSERT INTO members (site, user, role) VALUES (?1, ?2, ?3)",

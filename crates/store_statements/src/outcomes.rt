@@ -1,11 +1,11 @@
 //! The table of outcomes.
 
-ghost use Rattle.std.specs.Prelude.{◌≡◌, IfOk, OnOk};
-ghost use Rattle.sqlite.specs.Held.{state};
-ghost use Rattle.sqlite.specs.State.{HasCleanDisk, Survives, IsUnchanged};
-ghost use Rattle.sql_rows.specs.Inside.{StaysInside};
-ghost use Rattle.store_statements.specs.Stored.{stored, outcomes_at};
-ghost use Rattle.store_statements.specs.Changes.{IsReady, Makes, DropsOutcomes, PutsOutcome};
+ghost use Rattle.std.specs.Prelude.{◌≡◌};
+ghost use Rattle.sql_rows.specs.Inside.{Steps};
+ghost use Rattle.store_statements.specs.Schema.{outcomes_table};
+ghost use Rattle.store_statements.specs.Stored.{outcomes_at};
+ghost use Rattle.store_statements.specs.Changes.{ShowsInside, MakesInside, DropsOutcomes, PutsOutcome};
+ghost use Rattle.store_statements.specs.Making.{MakesTableInside};
 
 use sqlite::{Alter, Error, Row, Transaction, params};
 
@@ -23,6 +23,21 @@ pub struct OutcomeRow<'a> {
     pub hand: &'a str,
 }
 
+/// Makes the fifth table, `outcomes`, in a store that has those before it and no other.
+///
+/// # Errors
+///
+/// Those of a statement of `sqlite`, after which the transaction may have been rolled back.
+pub fn make_outcomes<S: Alter>(tx: &mut Transaction<'_, S>) -> Result<usize, Error>
+    ensures steps { Steps S.Store tx.old.conn tx.new.conn result }
+    ensures makes { MakesTableInside S.Store 4 outcomes_table tx.old.conn tx.new.conn result }
+{
+    tx.execute(
+        "CREATE TABLE outcomes (site TEXT NOT NULL, page TEXT NOT NULL, seq INTEGER NOT NULL, rule INTEGER NOT NULL, node INTEGER NOT NULL, auto INTEGER NOT NULL, reason TEXT NOT NULL, evidence TEXT NOT NULL, last INTEGER NOT NULL, hand TEXT NOT NULL, PRIMARY KEY (site, page, seq)) STRICT",
+        &[],
+    )
+}
+
 /// The outcomes of a page, each from its `seq` on, in order of their `seq`.
 ///
 /// # Errors
@@ -33,11 +48,8 @@ pub fn page_outcomes<S: Alter>(
     site: &str,
     page: &str,
 ) -> Result<Vec<Row>, Error>
-    ensures same_reference { tx.new.conn.ghost_name ≡ tx.old.conn.ghost_name }
-    ensures shown { HasCleanDisk (state S.Store tx.new.conn.now) → IsReady (state S.Store tx.old.conn.now)
-        → IfOk result (λ rows. (rows.items ≡ outcomes_at site.now page.now (stored (state S.Store tx.old.conn.now).now.trees)) × IsUnchanged (state S.Store tx.old.conn.now) (state S.Store tx.new.conn.now)) }
-    ensures kept { HasCleanDisk (state S.Store tx.new.conn.now) → StaysInside (state S.Store tx.old.conn.now) (state S.Store tx.new.conn.now) result }
-    ensures survives { Survives (state S.Store tx.old.conn.now) (state S.Store tx.new.conn.now) (λ _. ⊥) }
+    ensures steps { Steps S.Store tx.old.conn tx.new.conn result }
+    ensures shown { ShowsInside S.Store (λ rows s. rows.items ≡ outcomes_at site.now page.now s) tx.old.conn tx.new.conn result }
 {
     tx.query_all(
         "SELECT seq, rule, node, auto, reason, evidence, last, hand FROM outcomes WHERE site = ?1 AND page = ?2 ORDER BY site, page, seq",
@@ -55,11 +67,8 @@ pub fn drop_outcomes<S: Alter>(
     site: &str,
     page: &str,
 ) -> Result<usize, Error>
-    ensures same_reference { tx.new.conn.ghost_name ≡ tx.old.conn.ghost_name }
-    ensures makes { HasCleanDisk (state S.Store tx.new.conn.now) → IsReady (state S.Store tx.old.conn.now)
-        → OnOk result (Makes (DropsOutcomes site.now page.now) (state S.Store tx.old.conn.now) (state S.Store tx.new.conn.now)) }
-    ensures kept { HasCleanDisk (state S.Store tx.new.conn.now) → StaysInside (state S.Store tx.old.conn.now) (state S.Store tx.new.conn.now) result }
-    ensures survives { Survives (state S.Store tx.old.conn.now) (state S.Store tx.new.conn.now) (λ _. ⊥) }
+    ensures steps { Steps S.Store tx.old.conn tx.new.conn result }
+    ensures makes { MakesInside S.Store (DropsOutcomes site.now page.now) tx.old.conn tx.new.conn result }
 {
     tx.execute(
         "DELETE FROM outcomes WHERE site = ?1 AND page = ?2",
@@ -78,11 +87,8 @@ pub fn put_outcome<S: Alter>(
     page: &str,
     row: &OutcomeRow<'_>,
 ) -> Result<usize, Error>
-    ensures same_reference { tx.new.conn.ghost_name ≡ tx.old.conn.ghost_name }
-    ensures makes { HasCleanDisk (state S.Store tx.new.conn.now) → IsReady (state S.Store tx.old.conn.now)
-        → OnOk result (Makes (PutsOutcome site.now page.now row.now) (state S.Store tx.old.conn.now) (state S.Store tx.new.conn.now)) }
-    ensures kept { HasCleanDisk (state S.Store tx.new.conn.now) → StaysInside (state S.Store tx.old.conn.now) (state S.Store tx.new.conn.now) result }
-    ensures survives { Survives (state S.Store tx.old.conn.now) (state S.Store tx.new.conn.now) (λ _. ⊥) }
+    ensures steps { Steps S.Store tx.old.conn tx.new.conn result }
+    ensures makes { MakesInside S.Store (PutsOutcome site.now page.now row.now) tx.old.conn tx.new.conn result }
 {
     tx.execute(
         "INSERT OR REPLACE INTO outcomes (site, page, seq, rule, node, auto, reason, evidence, last, hand) VALUES (?1, ?2, ?3, ?4, ?5, ?6, ?7, ?8, ?9, ?10)",

@@ -1,13 +1,28 @@
 //! The table of pages.
 
-ghost use Rattle.std.specs.Prelude.{◌≡◌, IfOk, OnOk};
-ghost use Rattle.sqlite.specs.Held.{state};
-ghost use Rattle.sqlite.specs.State.{HasCleanDisk, Survives, IsUnchanged};
-ghost use Rattle.sql_rows.specs.Inside.{StaysInside};
-ghost use Rattle.store_statements.specs.Stored.{stored, page_at, heads_at};
-ghost use Rattle.store_statements.specs.Changes.{IsReady, Makes, PutsPage, DropsPage};
+ghost use Rattle.std.specs.Prelude.{◌≡◌};
+ghost use Rattle.sql_rows.specs.Inside.{Steps};
+ghost use Rattle.store_statements.specs.Schema.{pages_table};
+ghost use Rattle.store_statements.specs.Stored.{page_at, heads_at};
+ghost use Rattle.store_statements.specs.Changes.{ShowsInside, MakesInside, PutsPage, DropsPage};
+ghost use Rattle.store_statements.specs.Making.{MakesTableInside};
 
 use sqlite::{Alter, Error, Row, Transaction, params};
+
+/// Makes the third table, `pages`, in a store that has those before it and no other.
+///
+/// # Errors
+///
+/// Those of a statement of `sqlite`, after which the transaction may have been rolled back.
+pub fn make_pages<S: Alter>(tx: &mut Transaction<'_, S>) -> Result<usize, Error>
+    ensures steps { Steps S.Store tx.old.conn tx.new.conn result }
+    ensures makes { MakesTableInside S.Store 2 pages_table tx.old.conn tx.new.conn result }
+{
+    tx.execute(
+        "CREATE TABLE pages (site TEXT NOT NULL, page TEXT NOT NULL, rev INTEGER NOT NULL, hand TEXT NOT NULL, snapshot BLOB NOT NULL, PRIMARY KEY (site, page)) STRICT",
+        &[],
+    )
+}
 
 /// The revision, hand and snapshot of a page, or no row.
 ///
@@ -19,11 +34,8 @@ pub fn page_row<S: Alter>(
     site: &str,
     page: &str,
 ) -> Result<Vec<Row>, Error>
-    ensures same_reference { tx.new.conn.ghost_name ≡ tx.old.conn.ghost_name }
-    ensures shown { HasCleanDisk (state S.Store tx.new.conn.now) → IsReady (state S.Store tx.old.conn.now)
-        → IfOk result (λ rows. (rows.items ≡ page_at site.now page.now (stored (state S.Store tx.old.conn.now).now.trees)) × IsUnchanged (state S.Store tx.old.conn.now) (state S.Store tx.new.conn.now)) }
-    ensures kept { HasCleanDisk (state S.Store tx.new.conn.now) → StaysInside (state S.Store tx.old.conn.now) (state S.Store tx.new.conn.now) result }
-    ensures survives { Survives (state S.Store tx.old.conn.now) (state S.Store tx.new.conn.now) (λ _. ⊥) }
+    ensures steps { Steps S.Store tx.old.conn tx.new.conn result }
+    ensures shown { ShowsInside S.Store (λ rows s. rows.items ≡ page_at site.now page.now s) tx.old.conn tx.new.conn result }
 {
     tx.query_all(
         "SELECT rev, hand, snapshot FROM pages WHERE site = ?1 AND page = ?2",
@@ -37,11 +49,8 @@ pub fn page_row<S: Alter>(
 ///
 /// Those of a query of `sqlite`.
 pub fn heads<S: Alter>(tx: &mut Transaction<'_, S>, site: &str) -> Result<Vec<Row>, Error>
-    ensures same_reference { tx.new.conn.ghost_name ≡ tx.old.conn.ghost_name }
-    ensures shown { HasCleanDisk (state S.Store tx.new.conn.now) → IsReady (state S.Store tx.old.conn.now)
-        → IfOk result (λ rows. (rows.items ≡ heads_at site.now (stored (state S.Store tx.old.conn.now).now.trees)) × IsUnchanged (state S.Store tx.old.conn.now) (state S.Store tx.new.conn.now)) }
-    ensures kept { HasCleanDisk (state S.Store tx.new.conn.now) → StaysInside (state S.Store tx.old.conn.now) (state S.Store tx.new.conn.now) result }
-    ensures survives { Survives (state S.Store tx.old.conn.now) (state S.Store tx.new.conn.now) (λ _. ⊥) }
+    ensures steps { Steps S.Store tx.old.conn tx.new.conn result }
+    ensures shown { ShowsInside S.Store (λ rows s. rows.items ≡ heads_at site.now s) tx.old.conn tx.new.conn result }
 {
     tx.query_all(
         "SELECT page, rev, hand FROM pages WHERE site = ?1 ORDER BY site, page",
@@ -62,11 +71,8 @@ pub fn put_page<S: Alter>(
     hand: &str,
     snapshot: &[u8],
 ) -> Result<usize, Error>
-    ensures same_reference { tx.new.conn.ghost_name ≡ tx.old.conn.ghost_name }
-    ensures makes { HasCleanDisk (state S.Store tx.new.conn.now) → IsReady (state S.Store tx.old.conn.now)
-        → OnOk result (Makes (PutsPage site.now page.now rev hand.now snapshot.now) (state S.Store tx.old.conn.now) (state S.Store tx.new.conn.now)) }
-    ensures kept { HasCleanDisk (state S.Store tx.new.conn.now) → StaysInside (state S.Store tx.old.conn.now) (state S.Store tx.new.conn.now) result }
-    ensures survives { Survives (state S.Store tx.old.conn.now) (state S.Store tx.new.conn.now) (λ _. ⊥) }
+    ensures steps { Steps S.Store tx.old.conn tx.new.conn result }
+    ensures makes { MakesInside S.Store (PutsPage site.now page.now rev hand.now snapshot.now) tx.old.conn tx.new.conn result }
 {
     tx.execute(
         "INSERT OR REPLACE INTO pages (site, page, rev, hand, snapshot) VALUES (?1, ?2, ?3, ?4, ?5)",
@@ -84,11 +90,8 @@ pub fn drop_page<S: Alter>(
     site: &str,
     page: &str,
 ) -> Result<usize, Error>
-    ensures same_reference { tx.new.conn.ghost_name ≡ tx.old.conn.ghost_name }
-    ensures makes { HasCleanDisk (state S.Store tx.new.conn.now) → IsReady (state S.Store tx.old.conn.now)
-        → OnOk result (Makes (DropsPage site.now page.now) (state S.Store tx.old.conn.now) (state S.Store tx.new.conn.now)) }
-    ensures kept { HasCleanDisk (state S.Store tx.new.conn.now) → StaysInside (state S.Store tx.old.conn.now) (state S.Store tx.new.conn.now) result }
-    ensures survives { Survives (state S.Store tx.old.conn.now) (state S.Store tx.new.conn.now) (λ _. ⊥) }
+    ensures steps { Steps S.Store tx.old.conn tx.new.conn result }
+    ensures makes { MakesInside S.Store (DropsPage site.now page.now) tx.old.conn tx.new.conn result }
 {
     tx.execute(
         "DELETE FROM pages WHERE site = ?1 AND page = ?2",

@@ -1,13 +1,28 @@
 //! The table of sites.
 
-ghost use Rattle.std.specs.Prelude.{◌≡◌, IfOk, OnOk};
-ghost use Rattle.sqlite.specs.Held.{state};
-ghost use Rattle.sqlite.specs.State.{HasCleanDisk, Survives, IsUnchanged};
-ghost use Rattle.sql_rows.specs.Inside.{StaysInside};
-ghost use Rattle.store_statements.specs.Stored.{stored, site_at};
-ghost use Rattle.store_statements.specs.Changes.{IsReady, Makes, PutsSite};
+ghost use Rattle.std.specs.Prelude.{◌≡◌};
+ghost use Rattle.sql_rows.specs.Inside.{Steps};
+ghost use Rattle.store_statements.specs.Schema.{sites_table};
+ghost use Rattle.store_statements.specs.Stored.{site_at};
+ghost use Rattle.store_statements.specs.Changes.{ShowsInside, MakesInside, PutsSite};
+ghost use Rattle.store_statements.specs.Making.{MakesTableInside};
 
 use sqlite::{Alter, Error, Row, Transaction, params};
+
+/// Makes the first table, `sites`, in a store that has none.
+///
+/// # Errors
+///
+/// Those of a statement of `sqlite`, after which the transaction may have been rolled back.
+pub fn make_sites<S: Alter>(tx: &mut Transaction<'_, S>) -> Result<usize, Error>
+    ensures steps { Steps S.Store tx.old.conn tx.new.conn result }
+    ensures makes { MakesTableInside S.Store 0 sites_table tx.old.conn tx.new.conn result }
+{
+    tx.execute(
+        "CREATE TABLE sites (name TEXT NOT NULL, counter INTEGER NOT NULL, PRIMARY KEY (name)) STRICT",
+        &[],
+    )
+}
 
 /// The counter of a site, or no row.
 ///
@@ -15,11 +30,8 @@ use sqlite::{Alter, Error, Row, Transaction, params};
 ///
 /// Those of a query of `sqlite`; the transaction goes on, unless the disk failed.
 pub fn site_row<S: Alter>(tx: &mut Transaction<'_, S>, site: &str) -> Result<Vec<Row>, Error>
-    ensures same_reference { tx.new.conn.ghost_name ≡ tx.old.conn.ghost_name }
-    ensures shown { HasCleanDisk (state S.Store tx.new.conn.now) → IsReady (state S.Store tx.old.conn.now)
-        → IfOk result (λ rows. (rows.items ≡ site_at site.now (stored (state S.Store tx.old.conn.now).now.trees)) × IsUnchanged (state S.Store tx.old.conn.now) (state S.Store tx.new.conn.now)) }
-    ensures kept { HasCleanDisk (state S.Store tx.new.conn.now) → StaysInside (state S.Store tx.old.conn.now) (state S.Store tx.new.conn.now) result }
-    ensures survives { Survives (state S.Store tx.old.conn.now) (state S.Store tx.new.conn.now) (λ _. ⊥) }
+    ensures steps { Steps S.Store tx.old.conn tx.new.conn result }
+    ensures shown { ShowsInside S.Store (λ rows s. rows.items ≡ site_at site.now s) tx.old.conn tx.new.conn result }
 {
     tx.query_all("SELECT counter FROM sites WHERE name = ?1", params![site])
 }
@@ -34,11 +46,8 @@ pub fn put_site<S: Alter>(
     site: &str,
     counter: i64,
 ) -> Result<usize, Error>
-    ensures same_reference { tx.new.conn.ghost_name ≡ tx.old.conn.ghost_name }
-    ensures makes { HasCleanDisk (state S.Store tx.new.conn.now) → IsReady (state S.Store tx.old.conn.now)
-        → OnOk result (Makes (PutsSite site.now counter) (state S.Store tx.old.conn.now) (state S.Store tx.new.conn.now)) }
-    ensures kept { HasCleanDisk (state S.Store tx.new.conn.now) → StaysInside (state S.Store tx.old.conn.now) (state S.Store tx.new.conn.now) result }
-    ensures survives { Survives (state S.Store tx.old.conn.now) (state S.Store tx.new.conn.now) (λ _. ⊥) }
+    ensures steps { Steps S.Store tx.old.conn tx.new.conn result }
+    ensures makes { MakesInside S.Store (PutsSite site.now counter) tx.old.conn tx.new.conn result }
 {
     tx.execute(
         "INSERT OR REPLACE INTO sites (name, counter) VALUES (?1, ?2)",

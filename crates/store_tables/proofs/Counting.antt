@@ -19,8 +19,8 @@ use Rattle.keep_core.specs.Changes.{changed, put_over}
 use Rattle.store_statements.specs.Stored.{Stored, sites_in, site_at, members_at}
 use Rattle.store_statements.specs.Changes.{PutsSite}
 use Rattle.store_tables.specs.Reading.{read_found}
-use Rattle.store_tables.specs.Rows.{site_from}
-use Rattle.store_tables.specs.Told.{OfSite, of_site, read_site, is_site, tables_in, site_shown}
+use Rattle.store_tables.specs.Sites.{site_from, site_shown}
+use Rattle.store_tables.specs.Told.{OfSite, of_site, read_site, is_site, tables_in}
 use Rattle.store_tables.specs.Batches.{PutsEach, PutsPages}
 use Rattle.store_tables.proofs.Steps.{some_same, some_of, found_reads}
 use Rattle.store_tables.proofs.Each.{ChangesAt}

@@ -19,7 +19,7 @@ use Rattle.keep_core.specs.Changes.{changed}
 use Rattle.store_statements.specs.Stored.{Stored, sites_in}
 use Rattle.store_statements.specs.Changes.{PutsSite}
 use Rattle.store_tables.specs.Reading.{read_found}
-use Rattle.store_tables.specs.Rows.{site_from}
+use Rattle.store_tables.specs.Sites.{site_from}
 use Rattle.store_tables.specs.Told.{OfSite, of_site, read_site, is_site, tables_in}
 use Rattle.store_tables.specs.Batches.{PutsEach, PutsPages}
 use Rattle.store_tables.specs.Numbers.{HasNumbers}

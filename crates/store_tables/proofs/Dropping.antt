@@ -17,8 +17,10 @@ use Rattle.keep_core.specs.Tables.{Tables, site_name, page_name}
 use Rattle.keep_core.specs.Changes.{changed, without_page}
 use Rattle.store_statements.specs.Stored.{Stored, sites_in, page_at, judgements_at, outcomes_at}
 use Rattle.store_tables.specs.Reading.{read_each, read_found}
-use Rattle.store_tables.specs.Rows.{page_from}
-use Rattle.store_tables.specs.Told.{OfSite, of_site, read_page, read_site, is_site, is_page, tables_in, page_shown, judgements_shown, outcomes_shown}
+use Rattle.store_tables.specs.Pages.{page_from, page_shown}
+use Rattle.store_tables.specs.Judgements.{judgements_shown}
+use Rattle.store_tables.specs.Outcomes.{outcomes_shown}
+use Rattle.store_tables.specs.Told.{OfSite, of_site, read_page, read_site, is_site, is_page, tables_in}
 use Rattle.store_tables.specs.Batches.{DropsWhole, ReadsPage}
 use Rattle.store_tables.proofs.Steps.{some_same, some_of, found_reads}
 use Rattle.store_tables.proofs.Each.{ChangesAt, turned}

@@ -16,9 +16,10 @@ use Rattle.keep_core.specs.Tables.{Tables, page_name}
 use Rattle.keep_core.specs.Changes.{with_judgement, changed}
 use Rattle.store_statements.specs.Stored.{Stored, judgements_of, judgements_at, outcomes_at}
 use Rattle.store_tables.specs.Reading.{read_counted, read_found}
-use Rattle.store_tables.specs.Rows.{judgement_from, outcome_from}
-use Rattle.store_tables.specs.Told.{OfSite, of_site, read_page, tables_in, judgements_shown, outcomes_shown}
-use Rattle.store_tables.specs.Batches.{judgement_cells, outcome_rows, AddsWhole, ReadsJudged}
+use Rattle.store_tables.specs.Judgements.{judgement_from, judgements_shown, judgement_cells}
+use Rattle.store_tables.specs.Outcomes.{outcome_from, outcomes_shown, outcome_rows}
+use Rattle.store_tables.specs.Told.{OfSite, of_site, read_page, tables_in}
+use Rattle.store_tables.specs.Batches.{AddsWhole, ReadsJudged}
 use Rattle.store_tables.proofs.Steps.{some_same, some_of, found_reads}
 use Rattle.store_tables.proofs.Each.{ChangesAt}
 use Rattle.store_tables.proofs.Counted.{first_counted}

@@ -14,9 +14,10 @@ use Rattle.keep_core.specs.Tables.{Tables}
 use Rattle.keep_core.specs.Changes.{with_judgement, changed}
 use Rattle.store_statements.specs.Stored.{Stored, judgements_at, outcomes_at}
 use Rattle.store_tables.specs.Reading.{read_found}
-use Rattle.store_tables.specs.Rows.{judgement_from}
-use Rattle.store_tables.specs.Told.{OfSite, of_site, read_page, tables_in, judgements_shown, outcomes_shown}
-use Rattle.store_tables.specs.Batches.{outcome_rows, AddsWhole, ReadsJudged}
+use Rattle.store_tables.specs.Judgements.{judgement_from, judgements_shown}
+use Rattle.store_tables.specs.Outcomes.{outcomes_shown, outcome_rows}
+use Rattle.store_tables.specs.Told.{OfSite, of_site, read_page, tables_in}
+use Rattle.store_tables.specs.Batches.{AddsWhole, ReadsJudged}
 use Rattle.store_tables.specs.Numbers.{AreNumbers, HasNumbers}
 use Rattle.store_tables.proofs.Steps.{found_reads}
 use Rattle.store_tables.proofs.Counted.{counted_more}

@@ -13,8 +13,12 @@ use Rattle.keep_core.specs.Tables.{site_name, page_name}
 use Rattle.sql_rows.specs.Tables.{name_at}
 use Rattle.store_tables.specs.Reading.{◌>>=◌, read_each}
 use Rattle.store_tables.specs.Cells.{number_in, text_in, named, tree_in}
-use Rattle.store_tables.specs.Rows.{member_from, site_from, head_from, page_from}
-use Rattle.store_tables.specs.Told.{OfSite, judgements_shown, outcomes_shown, read_page, read_site}
+use Rattle.store_tables.specs.Members.{member_from}
+use Rattle.store_tables.specs.Sites.{site_from}
+use Rattle.store_tables.specs.Pages.{head_from, page_from}
+use Rattle.store_tables.specs.Judgements.{judgements_shown}
+use Rattle.store_tables.specs.Outcomes.{outcomes_shown}
+use Rattle.store_tables.specs.Told.{OfSite, read_page, read_site}
 use Rattle.store_tables.proofs.Steps.{some_same, none_some, both_read}
 
 pub named_same : (text name : List ℕ) → named text ≡ Some name → name ≡ text

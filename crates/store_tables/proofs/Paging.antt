@@ -12,8 +12,10 @@ use Rattle.keep_core.specs.declared.tables.KeptSite.{KeptSite}
 use Rattle.keep_core.specs.Tables.{Tables, site_name, page_name}
 use Rattle.store_statements.specs.Stored.{Stored, sites_in, members_at, pages_of, judgements_at, outcomes_at}
 use Rattle.store_tables.specs.Reading.{read_each, read_found}
-use Rattle.store_tables.specs.Rows.{site_from}
-use Rattle.store_tables.specs.Told.{OfSite, of_site, read_page, read_site, is_site, is_page, tables_in, judgements_shown, outcomes_shown}
+use Rattle.store_tables.specs.Sites.{site_from}
+use Rattle.store_tables.specs.Judgements.{judgements_shown}
+use Rattle.store_tables.specs.Outcomes.{outcomes_shown}
+use Rattle.store_tables.specs.Told.{OfSite, of_site, read_page, read_site, is_site, is_page, tables_in}
 use Rattle.store_tables.proofs.Steps.{found_reads}
 use Rattle.store_tables.proofs.Each.{ChangesAt, reads_at, turned}
 use Rattle.store_tables.proofs.Named.{page_reads, page_read, page_named, site_reads, site_read}

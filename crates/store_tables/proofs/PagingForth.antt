@@ -9,7 +9,7 @@ use Rattle.keep_core.specs.declared.tables.KeptSite.{KeptSite}
 use Rattle.keep_core.specs.Tables.{Tables, site_name, page_name}
 use Rattle.store_statements.specs.Stored.{Stored, sites_in}
 use Rattle.store_tables.specs.Reading.{read_each, read_found}
-use Rattle.store_tables.specs.Rows.{site_from}
+use Rattle.store_tables.specs.Sites.{site_from}
 use Rattle.store_tables.specs.Told.{OfSite, of_site, read_page, read_site, is_site, tables_in}
 use Rattle.store_tables.proofs.Steps.{found_reads}
 use Rattle.store_tables.proofs.Each.{ChangesAt, reads_at}

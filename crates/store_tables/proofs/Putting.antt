@@ -19,9 +19,11 @@ use Rattle.keep_core.specs.Tables.{Tables, site_name, page_name, judgements_in}
 use Rattle.keep_core.specs.Changes.{put_over}
 use Rattle.store_statements.specs.Stored.{Stored, page_at, judgements_at, outcomes_at}
 use Rattle.store_tables.specs.Reading.{read_counted, read_found}
-use Rattle.store_tables.specs.Rows.{page_from, outcome_from}
-use Rattle.store_tables.specs.Told.{OfSite, of_site, read_page, is_site, is_page, tables_in, page_shown, judgements_shown, outcomes_shown}
-use Rattle.store_tables.specs.Batches.{page_cells, outcome_rows, PutsOne, ReadsPage}
+use Rattle.store_tables.specs.Pages.{page_from, page_shown, page_cells}
+use Rattle.store_tables.specs.Outcomes.{outcome_from, outcomes_shown, outcome_rows}
+use Rattle.store_tables.specs.Judgements.{judgements_shown}
+use Rattle.store_tables.specs.Told.{OfSite, of_site, read_page, is_site, is_page, tables_in}
+use Rattle.store_tables.specs.Batches.{PutsOne, ReadsPage}
 use Rattle.store_tables.proofs.Steps.{some_same, some_of, found_reads}
 use Rattle.store_tables.proofs.Each.{ChangesAt}
 use Rattle.store_tables.proofs.Named.{PageReads, page_reads, page_read}

@@ -13,8 +13,11 @@ use Rattle.keep_core.specs.Fits.{FitsPage}
 use Rattle.keep_core.specs.Tables.{Tables, site_name, judgements_in}
 use Rattle.store_statements.specs.Stored.{Stored, judgements_at}
 use Rattle.store_tables.specs.Reading.{read_found}
-use Rattle.store_tables.specs.Told.{OfSite, of_site, read_page, is_site, tables_in, judgements_shown, outcomes_shown}
-use Rattle.store_tables.specs.Batches.{page_cells, outcome_rows, PutsOne, ReadsPage}
+use Rattle.store_tables.specs.Judgements.{judgements_shown}
+use Rattle.store_tables.specs.Outcomes.{outcomes_shown, outcome_rows}
+use Rattle.store_tables.specs.Told.{OfSite, of_site, read_page, is_site, tables_in}
+use Rattle.store_tables.specs.Pages.{page_cells}
+use Rattle.store_tables.specs.Batches.{PutsOne, ReadsPage}
 use Rattle.store_tables.specs.Numbers.{HasNumbers}
 use Rattle.store_tables.proofs.Steps.{some_same, found_reads}
 use Rattle.store_tables.proofs.Named.{page_reads, page_read}

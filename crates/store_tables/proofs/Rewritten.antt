@@ -16,8 +16,7 @@ use Rattle.store_statements.specs.Changes.{IsStore}
 use Rattle.store_statements.proofs.OutcomeRows.{shown_outcome, named_outcome, outcomes_whole}
 use Rattle.store_tables.specs.Reading.{◌>>=◌, read_counted}
 use Rattle.store_tables.specs.Cells.{number_in, place_in, text_in, auto_of, auto_in, auto_number, reason_in}
-use Rattle.store_tables.specs.Rows.{outcome_from}
-use Rattle.store_tables.specs.Batches.{outcome_cells, outcomes_cells}
+use Rattle.store_tables.specs.Outcomes.{outcome_from, outcome_cells, outcomes_cells}
 use Rattle.store_tables.proofs.Steps.{some_same, none_some, both_read}
 use Rattle.store_tables.proofs.Counted.{first_counted}
 use Rattle.store_tables.proofs.Written.{place_is}

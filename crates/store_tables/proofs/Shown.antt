@@ -11,8 +11,11 @@ use Rattle.keep_core.specs.Tables.{Tables, site_name, page_name, pages_in, judge
 use Rattle.keep_core.specs.Tables as keep
 use Rattle.store_statements.specs.Stored.{Stored, sites_in, site_at, members_at, page_at, pages_of, heads_at, judgements_at, outcomes_at}
 use Rattle.store_tables.specs.Reading.{read_each, read_found}
-use Rattle.store_tables.specs.Rows.{site_from, page_from}
-use Rattle.store_tables.specs.Told.{OfSite, of_site, read_page, read_site, tables_in, site_shown, page_shown, heads_shown, judgements_shown, outcomes_shown}
+use Rattle.store_tables.specs.Sites.{site_from, site_shown}
+use Rattle.store_tables.specs.Pages.{page_from, page_shown, heads_shown}
+use Rattle.store_tables.specs.Judgements.{judgements_shown}
+use Rattle.store_tables.specs.Outcomes.{outcomes_shown}
+use Rattle.store_tables.specs.Told.{OfSite, of_site, read_page, read_site, tables_in}
 use Rattle.store_tables.proofs.Steps.{some_same, found_reads}
 use Rattle.store_tables.proofs.Each.{first_reads, reads_at}
 use Rattle.store_tables.proofs.Named.{site_reads, page_reads, page_parts, page_named}

@@ -21,9 +21,11 @@ use Rattle.keep_core.specs.Names.{is_name}
 use Rattle.sql_rows.specs.Tables.{name_at}
 use Rattle.store_tables.specs.Reading.{read_each, read_counted}
 use Rattle.store_tables.specs.Cells.{auto_of, auto_number}
-use Rattle.store_tables.specs.Rows.{member_from, site_from, head_from, page_from, judgement_from, outcome_from}
-use Rattle.store_tables.specs.Told.{outcomes_shown}
-use Rattle.store_tables.specs.Batches.{judgement_cells, outcome_cells, outcomes_cells, outcome_rows}
+use Rattle.store_tables.specs.Members.{member_from}
+use Rattle.store_tables.specs.Sites.{site_from}
+use Rattle.store_tables.specs.Pages.{head_from, page_from}
+use Rattle.store_tables.specs.Judgements.{judgement_from, judgement_cells}
+use Rattle.store_tables.specs.Outcomes.{outcome_from, outcomes_shown, outcome_cells, outcomes_cells, outcome_rows}
 use Rattle.store_tables.specs.Numbers.{AreNumbers, HasNumbers}
 use Rattle.store_tables.proofs.Written.{shown_judgement, shown_outcome, cells_in_order}
 use Rattle.store_tables.proofs.Appending.{in_order_same}

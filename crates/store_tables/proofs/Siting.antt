@@ -26,9 +26,10 @@ use Rattle.keep_core.specs.Changes.{changed, put_site}
 use Rattle.store_statements.specs.Stored.{Stored, sites_in, site_at, members_at, pages_of}
 use Rattle.store_tables.specs.Reading.{◌>>=◌, read_each, read_found}
 use Rattle.store_tables.specs.Cells.{number_in, named, role_in, role_of, role_number}
-use Rattle.store_tables.specs.Rows.{member_from, site_from}
-use Rattle.store_tables.specs.Told.{OfSite, of_site, read_page, read_site, is_site, tables_in, site_shown}
-use Rattle.store_tables.specs.Batches.{site_cells, member_cells, PutsWhole, ReadsSite}
+use Rattle.store_tables.specs.Members.{member_from, member_cells}
+use Rattle.store_tables.specs.Sites.{site_from, site_shown, site_cells}
+use Rattle.store_tables.specs.Told.{OfSite, of_site, read_page, read_site, is_site, tables_in}
+use Rattle.store_tables.specs.Batches.{PutsWhole, ReadsSite}
 use Rattle.store_tables.proofs.Steps.{some_same, none_some, some_of, both_read, found_reads}
 use Rattle.store_tables.proofs.Each.{first_reads, ChangesAt}
 use Rattle.store_tables.proofs.Named.{named_same, site_from_named, SiteReads, site_reads, site_read}

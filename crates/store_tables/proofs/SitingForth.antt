@@ -16,9 +16,10 @@ use Rattle.keep_core.specs.Tables.{Tables, pages_in}
 use Rattle.keep_core.specs.Changes.{changed, put_site}
 use Rattle.store_statements.specs.Stored.{Stored, sites_in, pages_of}
 use Rattle.store_tables.specs.Reading.{read_each, read_found}
-use Rattle.store_tables.specs.Rows.{member_from}
+use Rattle.store_tables.specs.Members.{member_from, member_cells}
 use Rattle.store_tables.specs.Told.{OfSite, of_site, read_page, read_site, tables_in}
-use Rattle.store_tables.specs.Batches.{site_cells, member_cells, PutsWhole, ReadsSite}
+use Rattle.store_tables.specs.Sites.{site_cells}
+use Rattle.store_tables.specs.Batches.{PutsWhole, ReadsSite}
 use Rattle.store_tables.proofs.Steps.{some_same, found_reads}
 use Rattle.store_tables.proofs.Named.{site_reads, site_read}
 use Rattle.store_tables.proofs.Telling.{Houses, TellsSite}

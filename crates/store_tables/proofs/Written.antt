@@ -29,8 +29,9 @@ use Rattle.sql_rows.proofs.Letters.{numbers_rise}
 pub use Rattle.store_statements.proofs.OutcomeRows.{shown_outcome}
 use Rattle.store_tables.specs.Reading.{◌>>=◌, read_counted}
 use Rattle.store_tables.specs.Cells.{number_in, place_in, named, auto_in, auto_number, reason_in, read_back}
-use Rattle.store_tables.specs.Rows.{head_from, page_from, judgement_from, outcome_from}
-use Rattle.store_tables.specs.Batches.{judgement_cells, outcome_cells, outcomes_cells, outcome_rows}
+use Rattle.store_tables.specs.Pages.{head_from, page_from}
+use Rattle.store_tables.specs.Judgements.{judgement_from, judgement_cells}
+use Rattle.store_tables.specs.Outcomes.{outcome_from, outcome_cells, outcomes_cells, outcome_rows}
 use Rattle.store_tables.proofs.Steps.{some_same, none_some, both_read}
 use Rattle.store_tables.proofs.Counted.{first_counted}
 use Rattle.store_tables.proofs.Named.{named_same, page_parts}

@@ -1,16 +1,10 @@
 -- What changes of the tables do to the stored rows, and what has to be read of these before.
 use Rattle.std.specs.Prelude.{◌≡◌, ◌⊎◌, ℕ, suc, pos, List, [], ◌∷◌, map, length, true, false, IsSome, Ok}
-use Rattle.sqlite_value.specs.declared.value.Value.TheVariants.{Int, Text, Blob}
-use Rattle.sqlite_value.specs.Order.{Row}
 use Rattle.named_rows.specs.ByName.{put_row, put_rows, take_row}
 use Rattle.snap_json.specs.Pages.{kept_tree}
-use Rattle.rule_core.specs.Words.{word_of}
 use Rattle.judge_core.specs.declared.judgement.Judgement.{Judgement}
-use Rattle.judge_core.specs.declared.outcomes.OutRow.{OutRow}
 use Rattle.judge_core.specs.declared.outcomes.Outcomes.{Outcomes}
-use Rattle.keep_core.specs.declared.member.Member.{Member}
 use Rattle.keep_core.specs.declared.site.Site.{Site}
-use Rattle.keep_core.specs.declared.page.Page.{Page}
 use Rattle.keep_core.specs.declared.page.PagePut.{PagePut}
 use Rattle.keep_core.specs.declared.change.Change.{Change}
 use Rattle.keep_core.specs.declared.change.Change.TheVariants.{PutSite, PutPages, DropPage, AddJudgement}
@@ -18,35 +12,12 @@ use Rattle.sql_rows.specs.Tables.{name_at}
 use Rattle.sql_rows.specs.Changes.{Changes}
 use Rattle.store_statements.specs.Stored.{Stored, site_at, members_at, page_at, heads_at, judgements_at, outcomes_at}
 use Rattle.store_statements.specs.Changes.{PutsSite}
-use Rattle.store_tables.specs.Cells.{role_number, auto_number}
-use Rattle.store_tables.specs.Told.{is_site, is_page, site_shown, page_shown, judgements_shown, outcomes_shown}
-
-abbrev pub site_cells : Site → Row
-site_cells site = Text site.name ∷ Int (pos site.counter) ∷ []
-
-abbrev pub member_cells : List ℕ → Member → Row
-member_cells site m = Text site ∷ Text m.user ∷ Int (pos (role_number m.role)) ∷ []
-
-abbrev pub page_cells : List ℕ → Page → List ℕ → Row
-page_cells site p bytes = Text site ∷ Text p.head.page ∷ Int (pos p.head.rev) ∷ Text p.head.hand ∷ Blob bytes ∷ []
-
--- a judgement of a page, and an outcome, at a place of its list
-abbrev pub judgement_cells : List ℕ → List ℕ → ℕ → Judgement → Row
-judgement_cells site page place j =
-    Text site ∷ Text page ∷ Int (pos place) ∷ Int (pos j.rule.0) ∷ Int (pos j.node.0) ∷ Int (pos (auto_number j.verdict)) ∷ Text j.hand ∷ Text j.note ∷ Text j.evidence ∷ []
-
-abbrev pub outcome_cells : List ℕ → List ℕ → ℕ → OutRow → Row
-outcome_cells site page place o =
-    Text site ∷ Text page ∷ Int (pos place) ∷ Int (pos o.rule.0) ∷ Int (pos o.node.0) ∷ Int (pos (auto_number o.auto)) ∷ Text (word_of o.reason) ∷ Text o.evidence ∷ Int (pos (auto_number o.last)) ∷ Text o.hand ∷ []
-
--- outcomes, the first at this place
-abbrev pub outcomes_cells : List ℕ → List ℕ → ℕ → List OutRow → List Row
-outcomes_cells site page place [] = []
-outcomes_cells site page place (o ∷ os) = outcome_cells site page place o ∷ outcomes_cells site page (suc place) os
-
--- the rows of a page's outcomes, counted from 1
-abbrev pub outcome_rows : List ℕ → List ℕ → Outcomes → List Row
-outcome_rows site page outcomes = put_rows (name_at 2) (outcomes_cells site page 1 outcomes.rows) []
+use Rattle.store_tables.specs.Members.{member_cells}
+use Rattle.store_tables.specs.Sites.{site_cells, site_shown}
+use Rattle.store_tables.specs.Pages.{page_cells, page_shown}
+use Rattle.store_tables.specs.Judgements.{judgement_cells, judgements_shown}
+use Rattle.store_tables.specs.Outcomes.{outcome_rows, outcomes_shown}
+use Rattle.store_tables.specs.Told.{is_site, is_page}
 
 -- a site's row takes the place of the one of its name, and its members that of all that it had
 pub record PutsWhole (site : Site) (old new : Stored) : Type 0 where

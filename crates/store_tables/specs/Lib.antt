@@ -1,6 +1,11 @@
 pub mod Reading
 pub mod Cells
-pub mod Rows
+pub mod Members
+pub mod Sites
+pub mod Pages
+pub mod Judgements
+pub mod Outcomes
+pub mod Editions
 pub mod Told
 pub mod Batches
 pub mod Numbers

@@ -1,19 +1,33 @@
-//! Values of a shown row.
+//! Values of a row: how each is read, and what numbers are written.
 
-ghost use Rattle.std.specs.Prelude.{◌≡◌, ◌≤◌, Some, IfOk, OnOk, IsTrue};
+ghost use Rattle.std.specs.Prelude.{◌≡◌, ◌≤◌, pos, Some, IfOk, OnOk, IsTrue};
 ghost use Rattle.sqlite_value.specs.Order.{column};
 ghost use Rattle.sql_rows.specs.Tables.{name_at};
 ghost use Rattle.keep_core.specs.Names.{is_name};
 ghost use Rattle.web_address.specs.Address.{IsWebAddress};
-ghost use Rattle.store_tables.specs.Cells.{number_in, place_in, text_in, named, role_in, auto_in, reason_in, tree_in};
+ghost use Rattle.store_tables.specs.Cells.{number_in, place_in, text_in, named, auto_in, auto_number, reason_in, tree_in};
 
 use crate::fault::StoreFault;
 use crate::memo::Memo;
-use keep_core::{MemberRole, is_name};
-use rule_core::{Auto, Reason};
-use snap_tree::{Text, Tree};
+use keep_core::is_name;
+use rule_core::{Auto, Reason, RuleNo};
+use snap_tree::{NodeId, Text, Tree};
 use sqlite::Row;
 use std::alloc::Global;
+
+/// A count as it is written.
+///
+/// # Errors
+///
+/// `Failed` where it is above the greatest number of a column.
+pub fn column_number(count: u64) -> Result<i64, StoreFault>
+    ensures { IfOk result (λ n. n ≡ pos count) }
+{
+    match i64::try_from(count) {
+        Ok(number) => Ok(number),
+        Err(_) => Err(StoreFault::Failed),
+    }
+}
 
 /// A number from 0 to a greatest one.
 pub fn number(row: &Row, at: usize, most: u64) -> Result<u64, StoreFault>
@@ -25,6 +39,22 @@ pub fn number(row: &Row, at: usize, most: u64) -> Result<u64, StoreFault>
         return Err(StoreFault::Failed);
     }
     Ok(number)
+}
+
+/// The number of a rule.
+pub fn rule(row: &Row, at: usize) -> Result<RuleNo, StoreFault>
+    ensures { IfOk result (λ r. number_in 65535 (column row.now at) ≡ Some r.0) }
+{
+    let number = number(row, at, 65_535)?;
+    Ok(RuleNo(number as u16))
+}
+
+/// The number of a node.
+pub fn node(row: &Row, at: usize) -> Result<NodeId, StoreFault>
+    ensures { IfOk result (λ n. number_in 4294967295 (column row.now at) ≡ Some n.0) }
+{
+    let number = number(row, at, 4_294_967_295)?;
+    Ok(NodeId(number as u32))
 }
 
 /// Fails where the number isn't this one.
@@ -59,17 +89,14 @@ pub fn name(row: &Row, at: usize) -> Result<Text, StoreFault>
     Ok(name)
 }
 
-/// A member's role.
-pub fn role(row: &Row, at: usize) -> Result<MemberRole, StoreFault>
-    ensures { IfOk result (λ r. role_in (column row.now at) ≡ Some r) }
+/// The number that is written for an outcome.
+pub fn auto_number(auto: Auto) -> i64
+    ensures { result ≡ pos (auto_number auto) }
 {
-    let number: u64 = row.get(at)?;
-    match number {
-        0 => Ok(MemberRole::Owner),
-        1 => Ok(MemberRole::Editor),
-        2 => Ok(MemberRole::Judge),
-        3 => Ok(MemberRole::Reader),
-        _ => Err(StoreFault::Failed),
+    match auto {
+        Auto::Passed => 0,
+        Auto::Failed => 1,
+        Auto::CantTell => 2,
     }
 }
 

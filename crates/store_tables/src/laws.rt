@@ -6,7 +6,11 @@ ghost use Rattle.keep_core.specs.Tables.{Tables, site_of, page_of, heads_of, jud
 ghost use Rattle.store_statements.specs.Stored.{Stored, site_at, members_at, page_at, heads_at, judgements_at, outcomes_at};
 ghost use Rattle.store_tables.specs.Batches.{Applies};
 ghost use Rattle.store_tables.specs.Numbers.{IsNumbered};
-ghost use Rattle.store_tables.specs.Told.{tables_in, site_shown, page_shown, heads_shown, judgements_shown, outcomes_shown};
+ghost use Rattle.store_tables.specs.Sites.{site_shown};
+ghost use Rattle.store_tables.specs.Pages.{page_shown, heads_shown};
+ghost use Rattle.store_tables.specs.Judgements.{judgements_shown};
+ghost use Rattle.store_tables.specs.Outcomes.{outcomes_shown};
+ghost use Rattle.store_tables.specs.Told.{tables_in};
 
 /// Laws of reading. It does nothing: the clauses are what it is for.
 ///

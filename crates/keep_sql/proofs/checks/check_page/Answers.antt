@@ -3,7 +3,8 @@ use Rattle.sqlite.specs.Effect.{Database}
 use Rattle.sqlite.specs.Held.{state}
 use Rattle.sqlite.specs.State.{HasCleanDisk}
 use Rattle.store_statements.specs.Stored.{judgements_at, outcomes_at, stored}
-use Rattle.store_tables.specs.Told.{judgements_shown, outcomes_shown}
+use Rattle.store_tables.specs.Judgements.{judgements_shown}
+use Rattle.store_tables.specs.Outcomes.{outcomes_shown}
 use Rattle.keep_sql.specs.Reading.{rows_in}
 use Rattle.keep_sql.proofs.Ready.{ready_same}
 use Rattle.keep_sql.proofs.Checking.{unchanged_through, still_recalled, reads_page}
@@ -17,8 +18,8 @@ returns-clause-finds g c clean ready recalls =
     let s1 = state g.S.Store c.page_in.new.tx.conn.now in
     let s2 = state g.S.Store c.judgements_in.new.tx.conn.now in
     let s3 = state g.S.Store c.kept_outcomes.new.tx.conn.now in
-    let clean2 : HasCleanDisk s2 = omega (arith, clean, c.kept_outcomes.ensures.survives.clean) in
-    let clean1 : HasCleanDisk s1 = omega (arith, clean2, c.judgements_in.ensures.survives.clean) in
+    let clean2 : HasCleanDisk s2 = omega (arith, clean, c.kept_outcomes.ensures.steps.survives.clean) in
+    let clean1 : HasCleanDisk s1 = omega (arith, clean2, c.judgements_in.ensures.steps.survives.clean) in
     let same1 = c.in_ok-found.ensures.same clean1 ready in
     let ready1 = ready_same s0 s1 ready same1 in
     let same2 = c.in_ok-judgements.ensures.same clean2 ready1 in
@@ -37,8 +38,8 @@ returns-clause-reads g c clean ready recalls =
     let s0 = state g.S.Store c.args.tx.now.conn.now in
     let s1 = state g.S.Store c.page_in.new.tx.conn.now in
     let s2 = state g.S.Store c.judgements_in.new.tx.conn.now in
-    let clean2 : HasCleanDisk s2 = omega (arith, clean, c.kept_outcomes.ensures.survives.clean) in
-    let clean1 : HasCleanDisk s1 = omega (arith, clean2, c.judgements_in.ensures.survives.clean) in
+    let clean2 : HasCleanDisk s2 = omega (arith, clean, c.kept_outcomes.ensures.steps.survives.clean) in
+    let clean1 : HasCleanDisk s1 = omega (arith, clean2, c.judgements_in.ensures.steps.survives.clean) in
     let same1 = c.in_ok-found.ensures.same clean1 ready in
     let ready1 = ready_same s0 s1 ready same1 in
     let same2 = c.in_ok-judgements.ensures.same clean2 ready1 in

@@ -13,7 +13,7 @@ returns-clause-notes g c clean ready =
     let s0 = state g.S.Store c.args.tx.now.conn.now in
     let s1 = state g.S.Store c.noted_inside.new.tx.conn.now in
     let s2 = state g.S.Store c.add_edition.new.tx.conn.now in
-    let clean1 : HasCleanDisk s1 = omega (arith, clean, c.add_edition.ensures.survives.clean) in
+    let clean1 : HasCleanDisk s1 = omega (arith, clean, c.add_edition.ensures.steps.survives.clean) in
     let same = c.in_ok-number.ensures.same clean1 ready in
     let made = c.in_ok-add_edition.ensures.makes clean (ready_same s0 s1 ready same) in
     (made.ready, c.in_ok-number.ensures.reads clean1 ready ∙ ap Some c.in_default.is, subst (λ (d : Database). AddsEdition (pos 1) (stored d.trees) (rows_in s2)) same.0.now_is made.change)

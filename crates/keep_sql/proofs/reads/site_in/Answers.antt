@@ -3,7 +3,7 @@ use Rattle.sqlite.specs.Effect.{Database}
 use Rattle.sqlite.specs.Held.{state}
 use Rattle.sqlite.specs.State.{HasCleanDisk}
 use Rattle.store_statements.specs.Stored.{stored, site_at, members_at}
-use Rattle.store_tables.specs.Told.{site_shown}
+use Rattle.store_tables.specs.Sites.{site_shown}
 use Rattle.keep_sql.proofs.Ready.{ready_same}
 use Rattle.keep_sql.proofs.Checking.{always, unchanged_through}
 use Rattle.keep_sql.proofs.reads.site_in.Goals as goal
@@ -12,7 +12,7 @@ pub returns-clause-reads : goal.returns-clause-reads
 returns-clause-reads g c clean ready =
     let s0 = state g.S.Store c.args.tx.now.conn.now in
     let s1 = state g.S.Store c.site_row.new.tx.conn.now in
-    let clean1 : HasCleanDisk s1 = omega (arith, clean, c.site_members.ensures.survives.clean) in
+    let clean1 : HasCleanDisk s1 = omega (arith, clean, c.site_members.ensures.steps.survives.clean) in
     let first = c.in_ok-counters.ensures.shown clean1 ready in
     let second = c.in_ok-members.ensures.shown clean (ready_same s0 s1 ready first.1) in
     let counters = c.as_slice.ensures.value ∙ first.0 ∙ ap (λ n. site_at n (stored s0.now.trees)) c.as_str.ensures in
@@ -27,7 +27,7 @@ returns-clause-same g c clean ready =
     let s0 = state g.S.Store c.args.tx.now.conn.now in
     let s1 = state g.S.Store c.site_row.new.tx.conn.now in
     let s2 = state g.S.Store c.site_members.new.tx.conn.now in
-    let clean1 : HasCleanDisk s1 = omega (arith, clean, c.site_members.ensures.survives.clean) in
+    let clean1 : HasCleanDisk s1 = omega (arith, clean, c.site_members.ensures.steps.survives.clean) in
     let first = c.in_ok-counters.ensures.shown clean1 ready in
     let second = c.in_ok-members.ensures.shown clean (ready_same s0 s1 ready first.1) in
     always c.site.result (unchanged_through s0 s1 s2 first.1 second.1)

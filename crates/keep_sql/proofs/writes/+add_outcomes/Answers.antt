@@ -16,7 +16,7 @@ returns-clause-makes g t c clean ready =
     let s0 = state g.S.Store c.args.tx.now.conn.now in
     let s1 = state g.S.Store c.add_outcomes.new.tx.conn.now in
     let s2 = state g.S.Store c.add_outcomes-2.new.tx.conn.now in
-    let clean1 : HasCleanDisk s1 = omega (arith, clean, c.add_outcomes-2.ensures.survives.clean) in
+    let clean1 : HasCleanDisk s1 = omega (arith, clean, c.add_outcomes-2.ensures.steps.survives.clean) in
     let first = of_ok c.add_outcomes.result c.in_ok-add_outcomes.field-0 c.in_ok-add_outcomes.was (c.add_outcomes.ensures.makes clean1 ready) in
     onward c.add_outcomes-2.result
     (halves c.args.site.now c.args.page.now c.args.place c.in_ok-next.next c.args.outcomes.now c.split_at.result.0.now c.split_at.result.1.now s0 s1 s2

@@ -18,7 +18,7 @@ returns-clause-makes g t c clean ready =
     let s0 = state g.S.Store c.args.tx.now.conn.now in
     let s1 = state g.S.Store c.write_each_changed.new.tx.conn.now in
     let s2 = state g.S.Store c.write_each_changed-2.new.tx.conn.now in
-    let clean1 : HasCleanDisk s1 = omega (arith, clean, c.write_each_changed-2.ensures.survives.clean) in
+    let clean1 : HasCleanDisk s1 = omega (arith, clean, c.write_each_changed-2.ensures.steps.survives.clean) in
     let first = of_ok c.write_each_changed.result c.in_ok-write_each_changed.field-0 c.in_ok-write_each_changed.was (c.write_each_changed.ensures.makes clean1 ready) in
     let long = ap length c.split_at.ensures.front ∙ firsts_as_long _ c.args.kept.now c.args.outcomes.now c.requires.1.1.1 ∙ sym (ap length c.split_at-2.ensures.front) in
     onward c.write_each_changed-2.result

@@ -10,7 +10,7 @@ returns-clause-makes g c shown clean ready =
     let s0 = state g.S.Store c.args.tx.now.conn.now in
     let s1 = state g.S.Store c.write_each_changed.new.tx.conn.now in
     let s2 = state g.S.Store c.add_outcomes.new.tx.conn.now in
-    let clean1 : HasCleanDisk s1 = omega (arith, clean, c.add_outcomes.ensures.survives.clean) in
+    let clean1 : HasCleanDisk s1 = omega (arith, clean, c.add_outcomes.ensures.steps.survives.clean) in
     let first = of_ok c.write_each_changed.result c.in_ok-write_each_changed.field-0 c.in_ok-write_each_changed.was (c.write_each_changed.ensures.makes clean1 ready) in
     let all : c.args.outcomes.now.rows ≡ c.split_at.result.0.now ++ c.split_at.result.1.now =
     sym c.as_slice.ensures ∙ parts c.as_slice.result.now c.split_at.result.0.now c.split_at.result.1.now _ c.split_at.ensures.front c.split_at.ensures.back in

@@ -1,6 +1,6 @@
 use Rattle.std.proofs.Common.{rules, ◌≡◌, to_z, of_z, w64}
 use Rattle.sqlite.specs.Held.{state}
-use Rattle.sql_rows.proofs.Kept.{executed_stays, if_executed}
+use Rattle.sql_rows.proofs.Kept.{executed_steps, if_executed}
 use Rattle.store_statements.proofs.EditionTexts.{adds_edition}
 use Rattle.store_statements.proofs.editions.add_edition.Goals as goal
 
@@ -12,5 +12,5 @@ returns-clause-makes g c clean ready =
     let ran = rw (c.params-to_sql.ensures, number) at (c.execute.ensures.runs clean ready.inside) in
     if_executed _ _ old new c.execute.result _ (adds_edition old new ready c.args.number) ran
 
-pub returns-clause-kept : goal.returns-clause-kept
-returns-clause-kept g c clean = executed_stays _ _ (state g.S.Store c.args.tx.now.conn.now) (state g.S.Store c.execute.new.self.conn.now) c.execute.result (c.execute.ensures.runs clean)
+pub returns-clause-steps : goal.returns-clause-steps
+returns-clause-steps g c = executed_steps g.S.Store _ _ c.args.tx.now.conn c.execute.new.self.conn c.execute.result c.execute.ensures.same_reference c.execute.ensures.survives c.execute.ensures.runs

@@ -1,6 +1,6 @@
 use Rattle.std.proofs.lemmas.Result.{IfOk-weaker}
 use Rattle.sqlite.specs.Held.{state}
-use Rattle.sql_rows.proofs.Kept.{queried_stays}
+use Rattle.sql_rows.proofs.Kept.{queried_steps}
 use Rattle.store_statements.proofs.EditionTexts.{shows_edition_rows}
 use Rattle.store_statements.proofs.editions.edition_rows.Goals as goal
 
@@ -9,6 +9,6 @@ returns-clause-shown g c clean ready =
     IfOk-weaker c.query_all.result _ _
     (λ rows shown. shows_edition_rows (state g.S.Store c.args.tx.now.conn.now) (state g.S.Store c.query_all.new.self.conn.now) ready rows.items shown) (c.query_all.ensures.ok clean)
 
-pub returns-clause-kept : goal.returns-clause-kept
-returns-clause-kept g c clean =
-    queried_stays _ _ (state g.S.Store c.args.tx.now.conn.now) (state g.S.Store c.query_all.new.self.conn.now) (λ rows. rows.items) c.query_all.result (c.query_all.ensures.ok clean) (c.query_all.ensures.err clean)
+pub returns-clause-steps : goal.returns-clause-steps
+returns-clause-steps g c =
+    queried_steps g.S.Store _ _ c.args.tx.now.conn c.query_all.new.self.conn (λ rows. rows.items) c.query_all.result c.query_all.ensures.same_reference c.query_all.ensures.survives c.query_all.ensures.ok c.query_all.ensures.err

@@ -1,6 +1,6 @@
 use Rattle.std.proofs.Common.{rules, ◌≡◌, to_z, of_z, w64}
 use Rattle.sqlite.specs.Held.{state}
-use Rattle.sql_rows.proofs.Kept.{executed_stays, if_executed}
+use Rattle.sql_rows.proofs.Kept.{executed_steps, if_executed}
 use Rattle.store_statements.proofs.JudgementTexts.{adds_judgement}
 use Rattle.store_statements.proofs.judgements.add_judgement.Goals as goal
 
@@ -15,5 +15,5 @@ returns-clause-makes g c clean ready =
     let ran = rw (c.params-to_sql.ensures, c.params-to_sql-2.ensures, c.params-to_sql-3.ensures, c.params-to_sql-4.ensures, c.params-to_sql-5.ensures, c.params-to_sql-6.ensures, c.params-to_sql-7.ensures, c.params-to_sql-8.ensures, c.params-to_sql-9.ensures, seq, rule, node, verdict) at (c.execute.ensures.runs clean ready.inside) in
     if_executed _ _ old new c.execute.result _ (adds_judgement old new ready c.args.site.now c.args.page.now c.args.row.now) ran
 
-pub returns-clause-kept : goal.returns-clause-kept
-returns-clause-kept g c clean = executed_stays _ _ (state g.S.Store c.args.tx.now.conn.now) (state g.S.Store c.execute.new.self.conn.now) c.execute.result (c.execute.ensures.runs clean)
+pub returns-clause-steps : goal.returns-clause-steps
+returns-clause-steps g c = executed_steps g.S.Store _ _ c.args.tx.now.conn c.execute.new.self.conn c.execute.result c.execute.ensures.same_reference c.execute.ensures.survives c.execute.ensures.runs

@@ -1,6 +1,6 @@
 use Rattle.std.proofs.lemmas.Result.{IfOk-weaker}
 use Rattle.sqlite.specs.Held.{state}
-use Rattle.sql_rows.proofs.Kept.{queried_stays}
+use Rattle.sql_rows.proofs.Kept.{queried_steps}
 use Rattle.store_statements.proofs.OutcomeTexts.{shows_page_outcomes}
 use Rattle.store_statements.proofs.outcomes.page_outcomes.Goals as goal
 
@@ -9,6 +9,6 @@ returns-clause-shown g c clean ready =
     IfOk-weaker c.query_all.result _ _
     (λ rows shown. shows_page_outcomes (state g.S.Store c.args.tx.now.conn.now) (state g.S.Store c.query_all.new.self.conn.now) ready c.args.site.now c.args.page.now rows.items (rw (c.params-to_sql.ensures, c.params-to_sql-2.ensures) at shown)) (c.query_all.ensures.ok clean)
 
-pub returns-clause-kept : goal.returns-clause-kept
-returns-clause-kept g c clean =
-    queried_stays _ _ (state g.S.Store c.args.tx.now.conn.now) (state g.S.Store c.query_all.new.self.conn.now) (λ rows. rows.items) c.query_all.result (c.query_all.ensures.ok clean) (c.query_all.ensures.err clean)
+pub returns-clause-steps : goal.returns-clause-steps
+returns-clause-steps g c =
+    queried_steps g.S.Store _ _ c.args.tx.now.conn c.query_all.new.self.conn (λ rows. rows.items) c.query_all.result c.query_all.ensures.same_reference c.query_all.ensures.survives c.query_all.ensures.ok c.query_all.ensures.err

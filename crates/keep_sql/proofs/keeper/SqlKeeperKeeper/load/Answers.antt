@@ -10,16 +10,16 @@ use Rattle.keep_sql.proofs.keeper.SqlKeeperKeeper.load.Goals as goal
 pub returns-in-Ok-clause-reads : goal.returns-in-Ok-clause-reads
 returns-in-Ok-clause-reads g c =
     reads_of g.S.Store c.self.inside.ready c.args.self.now.ready c.in-Some.conn c.read_page.new.conn c.in-Some.is (ap (λ (k : Keeper g.row.S.Denot). k.ready) (sym c.self.view_is) ∙ c.in-Some.is)
-    c.read_page.ensures.survives.clean c.self.invariant.well.ready_is (page_of c.args.site.now c.args.page.now) (page_in c.args.site.now c.args.page.now) c.in-Ok.found c.in-Ok.ensures.leaves c.in-Ok.ensures.reads
+    c.read_page.ensures.only.survives.clean c.self.invariant.well.ready_is (page_of c.args.site.now c.args.page.now) (page_in c.args.site.now c.args.page.now) c.in-Ok.found c.in-Ok.ensures.only.leaves c.in-Ok.ensures.reads
     (λ t is. page_told (rows_in (state g.S.Store c.in-Some.conn)) t is c.args.site.now c.args.page.now)
 
 pub returns-in-Err-clause-reads : goal.returns-in-Err-clause-reads
 returns-in-Err-clause-reads g c =
     fails_of g.S.Store c.self.inside.ready c.args.self.now.ready c.in-Some.conn c.read_page.new.conn c.in-Some.is (ap (λ (k : Keeper g.row.S.Denot). k.ready) (sym c.self.view_is) ∙ c.in-Some.is)
-    c.read_page.ensures.survives.clean c.self.invariant.well.ready_is (page_of c.args.site.now c.args.page.now) c.fault_of.result c.in-Err.ensures.leaves
+    c.read_page.ensures.only.survives.clean c.self.invariant.well.ready_is (page_of c.args.site.now c.args.page.now) c.fault_of.result c.in-Err.ensures.only.leaves
 
 pub returns-in-Ok-clause-crash : goal.returns-in-Ok-clause-crash
-returns-in-Ok-clause-crash g c = across_of g.S.Store LeavesAll c.args.self.now.ready c.in-Some.conn c.read_page.new.conn (ap (λ (k : Keeper g.row.S.Denot). k.ready) (sym c.self.view_is) ∙ c.in-Some.is) c.read_page.ensures.survives
+returns-in-Ok-clause-crash g c = across_of g.S.Store LeavesAll c.args.self.now.ready c.in-Some.conn c.read_page.new.conn (ap (λ (k : Keeper g.row.S.Denot). k.ready) (sym c.self.view_is) ∙ c.in-Some.is) c.read_page.ensures.only.survives
 
 pub returns-in-Err-clause-crash : goal.returns-in-Err-clause-crash
-returns-in-Err-clause-crash g c = across_of g.S.Store LeavesAll c.args.self.now.ready c.in-Some.conn c.read_page.new.conn (ap (λ (k : Keeper g.row.S.Denot). k.ready) (sym c.self.view_is) ∙ c.in-Some.is) c.read_page.ensures.survives
+returns-in-Err-clause-crash g c = across_of g.S.Store LeavesAll c.args.self.now.ready c.in-Some.conn c.read_page.new.conn (ap (λ (k : Keeper g.row.S.Denot). k.ready) (sym c.self.view_is) ∙ c.in-Some.is) c.read_page.ensures.only.survives

@@ -1,7 +1,0 @@
-use Rattle.std.proofs.Common.{◌≡◌, take, Some}
-use Rattle.store_tables.specs.Reading.{read_each}
-use Rattle.store_tables.specs.Rows.{member_from}
-use Rattle.store_tables.proofs.rows.members.Given as goal
-
-abbrev pub invariant-loop-row : goal.invariant-loop-row
-invariant-loop-row l = read_each member_from (take l.row-index l.rows) ≡ Some l.members.items
