@@ -4,8 +4,10 @@ from __future__ import annotations
 import os
 import pathlib
 import re
+import resource
 import signal
 import subprocess
+import sys
 import tempfile
 import time
 
@@ -108,15 +110,25 @@ def test_check_interrupt(base: str) -> None:
     same("processes that are left", list(filter(is_alive, started)), [])
 
 
+def slowness() -> float:
+    """How many times as long as alone a command takes now: its time by the clock to that of the processor, and twice that among others."""
+    begun, before = time.monotonic(), resource.getrusage(resource.RUSAGE_CHILDREN)
+    subprocess.run([sys.executable, "-c", "sum(range(10_000_000))"], check=True)
+    clock, after = time.monotonic() - begun, resource.getrusage(resource.RUSAGE_CHILDREN)
+    times = clock / (after.ru_utime + after.ru_stime - before.ru_utime - before.ru_stime)
+    return 1.0 if times < 1.2 else 2 * times
+
+
 def test_check_times() -> None:
-    """The bounds of `bench/check`: a busy machine is given as many times longer as its load is times its processors."""
+    """The bounds of `bench/check`; where others are at work on the machine it is given as much longer as all takes then."""
     if not built("the times of silvervole check"):
         return
-    load = os.getloadavg()[0]
-    allowed = max(1.0, load / (os.cpu_count() or 1))
+    allowed = slowness()
     _, out, err = run("3", program=ROOT / "bench" / "check")
-    text = out.decode("utf-8")
+    allowed, text = max(allowed, slowness()), out.decode("utf-8")
     added = [float(found) for found in re.findall(r": silvervole check adds ([0-9.]+) s", text)]
     after = [float(found) for found in re.findall(r" is there ([0-9.]+) s after", text)]
-    expect(f"what check adds to an audit, at a load of {load:.1f}", len(added) == 2 and max(added) <= 0.3 * allowed, text + err)
-    expect(f"when the first finding is there, at a load of {load:.1f}", len(after) == 2 and max(after) <= 1.0 * allowed, text + err)
+    expect(f"what check adds to an audit, where all takes {allowed:.1f} times as long",
+           len(added) == 2 and max(added) <= 0.3 * allowed, text + err)
+    expect(f"when the first finding is there, where all takes {allowed:.1f} times as long",
+           len(after) == 2 and max(after) <= 1.0 * allowed, text + err)
