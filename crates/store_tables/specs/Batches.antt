@@ -33,11 +33,13 @@ page_cells site p bytes = Text site ∷ Text p.head.page ∷ Int (pos p.head.rev
 -- a judgement of a page, and an outcome, at a place of its list
 abbrev pub judgement_cells : List ℕ → List ℕ → ℕ → Judgement → Row
 judgement_cells site page place j =
-    Text site ∷ Text page ∷ Int (pos place) ∷ Int (pos j.rule.0) ∷ Int (pos j.node.0) ∷ Int (pos (auto_number j.verdict)) ∷ Text j.hand ∷ Text j.note ∷ Text j.evidence ∷ []
+    Text site ∷ Text page ∷ Int (pos place) ∷ Int (pos j.rule.0) ∷ Int (pos j.node.0) ∷ Int (pos (auto_number j.verdict))
+    ∷ Text j.hand ∷ Text j.note ∷ Text j.evidence ∷ []
 
 abbrev pub outcome_cells : List ℕ → List ℕ → ℕ → OutRow → Row
 outcome_cells site page place o =
-    Text site ∷ Text page ∷ Int (pos place) ∷ Int (pos o.rule.0) ∷ Int (pos o.node.0) ∷ Int (pos (auto_number o.auto)) ∷ Text (word_of o.reason) ∷ Text o.evidence ∷ Int (pos (auto_number o.last)) ∷ Text o.hand ∷ []
+    Text site ∷ Text page ∷ Int (pos place) ∷ Int (pos o.rule.0) ∷ Int (pos o.node.0) ∷ Int (pos (auto_number o.auto)) ∷ Text (word_of o.reason)
+    ∷ Text o.evidence ∷ Int (pos (auto_number o.last)) ∷ Text o.hand ∷ []
 
 -- outcomes, the first at this place
 abbrev pub outcomes_cells : List ℕ → List ℕ → ℕ → List OutRow → List Row
