@@ -12,7 +12,6 @@ import jsonschema
 import junitparser
 import pytest
 
-from samples import FAILURES, ROOT, SHOP, SHOP_HTML, TABLE, element, listing_of, reply, run, shop, together, words
 from silvervole.formats.findings_json import write_json
 from silvervole.formats.github import write_github
 from silvervole.formats.gitlab import write_gitlab
@@ -22,6 +21,8 @@ from silvervole.formats.listing import Listing
 from silvervole.formats.markdown import write_markdown
 from silvervole.formats.options import FORMATS
 from silvervole.formats.table import HEADER, write_csv
+
+from .samples import FAILURES, ROOT, SHOP, SHOP_HTML, TABLE, element, listing_of, reply, run, shop, together, words
 
 HOSTILE = 'a\x1b[1m `x` ``y`` <script>alert(1)</script> | @everyone ::error::no\n%0A, "q" \u202e =1+1 ]]>'
 

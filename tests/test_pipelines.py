@@ -13,7 +13,7 @@ from typing import Any, Iterator
 import pytest
 import yaml
 
-from samples import ROOT
+from .samples import ROOT
 
 pytestmark = pytest.mark.desk
 FILES = ROOT / "examples" / "pipelines"

@@ -56,6 +56,10 @@ class Serving:
         return self
 
     def __exit__(self, *_):
+        self.end()
+
+    def end(self):
+        """Ends the program as `kill` does."""
         self.program.terminate()
         self.program.wait()
 
