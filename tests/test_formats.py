@@ -168,7 +168,8 @@ def test_markdown_as_github_shows_it() -> None:
 
 def test_markdown_mentions_nobody() -> None:
     """GitHub looks for names with @ in the text that is shown: none is whole outside of code."""
-    listing = listing_of(shop(), reply(("cf77f2", 1, "failed", "failed", "merged", "", ""), ("047fe0", 1, "cantTell", "failed", "judge-heading-start", "@bob", "")))
+    listing = listing_of(shop(), reply(
+        ("cf77f2", 1, "failed", "failed", "merged", "", ""), ("047fe0", 1, "cantTell", "failed", "judge-heading-start", "@bob", "")))
     text = write_markdown(listing).decode("utf-8")
     assert "judged by @<!-- -->bob" in text and "@bob" not in text
 

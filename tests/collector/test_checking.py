@@ -31,7 +31,8 @@ def test_check(base: str) -> None:
     code, out, err = run("check", f"{base}/home.html", SITE / "search.html", f"{base}/none.html", "--jobs", "2", program=COMMAND)
     text = out.decode("utf-8")
     same("the status of a page that doesn't load", code, End.LOAD)
-    same("what is said of it", err, f"silvervole check: {base}/none.html: status 14: the page doesn't load: {base}/none.html: the server answered with status 404\n")
+    same("what is said of it", err,
+         f"silvervole check: {base}/none.html: status 14: the page doesn't load: {base}/none.html: the server answered with status 404\n")
     for name, sums in SUMS.items():
         expect(f"the sums of {name}", f"\n{sums}\n" in text, text[-300:])
     same("the sums of all", text.splitlines()[-1], "2 pages: 10 failed, 12 to judge, 69 passed; 1 page couldn't be checked")
@@ -101,10 +102,9 @@ def slowness() -> float:
     return 1.0 if times < 1.2 else 2 * times
 
 
+@pytest.mark.desk
 def test_check_times() -> None:
     """The bounds of `bench/check`; where others are at work on the machine it is given as much longer as all takes then."""
-    if not built("the times of silvervole check"):
-        return
     allowed = slowness()
     _, out, err = run("3", program=ROOT / "bench" / "check")
     allowed, text = max(allowed, slowness()), out.decode("utf-8")

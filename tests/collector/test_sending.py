@@ -237,7 +237,8 @@ def test_send_refusals(folder: str, desk: Between) -> None:
     at = ("GET", "/sites/acme/pages/home")
     soon = {"retry-after": "0"}
     cases = (("401", 401, {}, b"<html>", "doesn't know this name and password"), ("403", 403, {}, b'{"refused":"NotAllowed","needed":"editor"}', "editor"),
-             ("413", 413, {}, b'{"refused":"BodyTooLarge"}', "at most 8,388,608 bytes"), ("a redirect", 301, {"location": "https://other.example/"}, b"", "https://other.example/"),
+             ("413", 413, {}, b'{"refused":"BodyTooLarge"}', "at most 8,388,608 bytes"),
+             ("a redirect", 301, {"location": "https://other.example/"}, b"", "https://other.example/"),
              ("no desk", 200, {}, b"[]", "is no snapshot"), ("something else", 418, {}, b"", "418"))
     file = write(folder, "page.json", snapshot(ROOMS))
     words = ("--desk", desk.address, "--caller", "ann", "acme/home", file)
@@ -339,4 +340,5 @@ def test_send_picture(folder: str, desk: Between) -> None:
     code, _, err = sent(desk, "acme/home", file, "--picture", picture)
     same("no folder for pictures", (code, err), (0, "send: acme/home: its picture isn't sent: no pictures are kept there\n"))
     write(folder, "page.json", snapshot(ROOMS, BOOKS))
-    refused("another page's picture", End.INPUT, "another snapshot", "--desk", desk.address, "--caller", "ann", "acme/home", file, "--picture", picture, program=SEND)
+    refused("another page's picture", End.INPUT, "another snapshot", "--desk", desk.address,
+            "--caller", "ann", "acme/home", file, "--picture", picture, program=SEND)

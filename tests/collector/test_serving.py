@@ -70,7 +70,8 @@ def test_serve(folder: str) -> None:
     same("a site is made", first.ask("PUT", "/sites/acme"), 201)
     told("a store that is in use", End.FAULT_STORE, f"{store}: it is in use by the process ", store)
     code, _, err = run("serve", f"{folder}/other.db", "--port", first.port, program=COMMAND)
-    expect("a port that is taken", code == End.FAULT_LISTENING and re.search(rf"the port {first.port} is taken by the process [0-9]+ \(.*act_desk", err) is not None, err)
+    taken = re.search(rf"the port {first.port} is taken by the process [0-9]+ \(.*act_desk", err)
+    expect("a port that is taken", code == End.FAULT_LISTENING and taken is not None, err)
     same("an interrupt", first.interrupt(), (End.INTERRUPTED, f"silvervole serve: interrupted; what was answered is kept in {store}"))
     second = Served(store)
     same("the site is there still", second.ask("GET", "/sites/acme/report"), 200)
@@ -106,7 +107,8 @@ def as_nobody(folder: str) -> None:
     if subprocess.run([*before, str(COMMAND), "--version"], capture_output=True, check=False).returncode:
         note("nobody can't start bin/silvervole here: what somebody without leave is told is left out")
         return
-    told("a folder that can't be written", End.FAULT_STORE, f"you have no leave to write into the folder {folder}: Permission denied", f"{folder}/new.db", before=before)
+    told("a folder that can't be written", End.FAULT_STORE,
+         f"you have no leave to write into the folder {folder}: Permission denied", f"{folder}/new.db", before=before)
     pathlib.Path(folder, "own.db").touch(0o600)
     told("a file that can't be read", End.FAULT_STORE, "you have no leave to read and write it; it belongs to root", f"{folder}/own.db", before=before)
 

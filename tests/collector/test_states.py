@@ -49,7 +49,8 @@ def test_menu(folder: str) -> None:
     data = [pathlib.Path(folder, name).read_bytes() for name in names]
     same("each has its name", [json.loads(one).get("state") for one in data], [None, "menu open", "first branch", "closed again"])
     rows = [well_formed(name, one) for name, one in zip(names, data)]
-    same("the items are shown while it is open", [[row["f"] for row in one if row["tag"] == "a"] for one in rows], [["", ""], ["rvft"] * 2, ["rvft"] * 2, ["", ""]])
+    same("the items are shown while it is open", [[row["f"] for row in one if row["tag"] == "a"] for one in rows],
+         [["", ""], ["rvft"] * 2, ["rvft"] * 2, ["", ""]])
     same("the button says so", [[form.attr(row, "aria-expanded") for row in one if row["tag"] == "button"] for one in rows],
          [["false"], ["true"], ["true"], ["false"]])
     same("where the focus was", [text_in(one, "told") for one in rows], ["", "Choose a branch", "North", "Choose a branch"])

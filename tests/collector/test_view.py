@@ -195,7 +195,8 @@ def test_view_content(browser: Any) -> None:
         expect("name, page, criteria and advice of a rule", all(part in rule for part in (
             "Image button has non-empty accessible name", "ACT rule 59796f", "WCAG 2.2, 1.1.1 Non-text Content (level A)",
             "WCAG 2.2, 4.1.2 Name, Role, Value (level A)", "nothing says what the button does", "Say in alt what the button does")), rule)
-        rows = browser.execute_script("return [...document.querySelectorAll('tbody tr')].map((row) => [...row.cells].slice(0, 5).map((cell) => cell.innerText).join(' '))")
+        rows = browser.execute_script(
+            "return [...document.querySelectorAll('tbody tr')].map((row) => [...row.cells].slice(0, 5).map((cell) => cell.innerText).join(' '))")
         same("the counts by criterion", rows, [
             "1.1.1 Non-text Content A 1 0 0", "1.3.1 Info and Relationships A 1 1 0", "2.4.2 Page Titled A 0 1 1",
             "2.4.4 Link Purpose (In Context) A 0 0 2", "3.1.1 Language of Page A 0 0 1", "4.1.2 Name, Role, Value A 2 0 2",
@@ -235,7 +236,8 @@ def test_view_state(browser: Any, folder: str) -> None:
         with opened(browser, snapshot, report):
             said = browser.execute_script("return document.querySelector('header').innerText + document.title")
             same("the state at the top and in the title", said.count("<b>menu</b> open"), 2)
-            targets = browser.execute_script("return [...document.querySelectorAll('.target')].map((target) => target.innerText.split('\\n').filter(Boolean).slice(1, 7))")
+            targets = browser.execute_script(
+                "return [...document.querySelectorAll('.target')].map((target) => target.innerText.split('\\n').filter(Boolean).slice(1, 7))")
             same("the state, the start tag and the path of each target", targets, [
                 ["State", "<b>menu</b> open", "Start tag", '<button id="menu" aria-labelledby="menu x">', "CSS path", "#menu >>> #menu"],
                 ["State", "<b>menu</b> open", "Start tag", "<a href>", "CSS path", "#menu > a:nth-child(1)"]])

@@ -110,7 +110,8 @@ def checked(reader: Reader, what: str, picture: str | None = None) -> None:
     for features in ([("prefers-color-scheme", "light")], [("prefers-color-scheme", "dark")]):
         browser.execute_cdp_cmd("Emulation.setEmulatedMedia", {"features": [{"name": name, "value": value} for name, value in features]})
         same(f"{what}: texts without enough contrast, {features[0][1]}", browser.execute_script(CONTRAST), [])
-    browser.execute_cdp_cmd("Emulation.setEmulatedMedia", {"features": [{"name": "forced-colors", "value": "active"}, {"name": "prefers-reduced-motion", "value": "reduce"}]})
+    browser.execute_cdp_cmd("Emulation.setEmulatedMedia", {
+        "features": [{"name": "forced-colors", "value": "active"}, {"name": "prefers-reduced-motion", "value": "reduce"}]})
     same(f"{what}: high contrast, and no motion", browser.execute_script("""
         return [matchMedia('(forced-colors: active)').matches, getComputedStyle(document.documentElement).scrollBehavior,
                 document.getAnimations().length]"""), [True, "auto", 0])

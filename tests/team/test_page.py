@@ -67,10 +67,12 @@ def looks_around(reader: Reader) -> None:
     reader.wait("the site", "return document.getElementById('title').innerText === 'Site library'")
     reader.settle()
     same("the focus goes along", reader.browser.execute_script("return document.activeElement.id"), "title")
-    rows = reader.browser.execute_script("return [...document.querySelectorAll('section[aria-labelledby=pages] tbody tr')].map((row) => [...row.cells].map((cell) => cell.innerText))")
+    rows = reader.browser.execute_script(
+        "return [...document.querySelectorAll('section[aria-labelledby=pages] tbody tr')].map((row) => [...row.cells].map((cell) => cell.innerText))")
     same("a site's pages", [row[0] for row in rows], sorted(PAGES))
     final = [one["outcome"] for one in outcomes(reader.proxy)]
-    same("a page's counts", rows[0][:5], ["home", "1", f"{final.count('failed')} failed on home", f"{final.count('cantTell')} undecided on home", str(final.count("passed"))])
+    same("a page's counts", rows[0][:5],
+         ["home", "1", f"{final.count('failed')} failed on home", f"{final.count('cantTell')} undecided on home", str(final.count("passed"))])
     same("its undecided findings", rows[0][3], "11 undecided on home")
     same("a criterion's result", reader.browser.execute_script("""return [...document.querySelectorAll('section[aria-labelledby=criteria] tbody tr')]
         .map((row) => row.innerText.split('\\t')).find(([name]) => name.startsWith('4.1.2'))[2]"""), "Failed")
@@ -90,11 +92,13 @@ def reads_findings(reader: Reader) -> None:
     reader.open("?site=library&page=home")
     final = [one["outcome"] for one in outcomes(reader.proxy)]
     same("all findings are shown", reader.browser.execute_script("return document.querySelectorAll('.target').length"), len(final))
-    advice = next(rule for rule in json.loads(pathlib.Path(ROOT, "silvervole", "data", "rules.json").read_text(encoding="utf-8"))["rules"] if rule["id"] == "97a4e1")
+    rules = json.loads(pathlib.Path(ROOT, "silvervole", "data", "rules.json").read_text(encoding="utf-8"))["rules"]
+    advice = next(rule for rule in rules if rule["id"] == "97a4e1")
     # The title, five headings and four ways to bypass blocks are for people; the composite of those four is undecided with them.
     expect("what is to judge", "Judge 10 questions, one after another" in reader.text("main")
            and "For a person to judge 10 findings, and 1 composite that follows from them" in reader.text("main"), reader.text("main")[:900])
-    expect("nobody judges the composite", "follows from others" in reader.text(".rule:has(.merged)") and "Nobody judges it" in reader.text(".rule:has(.merged)"))
+    expect("nobody judges the composite", "follows from others" in reader.text(".rule:has(.merged)")
+           and "Nobody judges it" in reader.text(".rule:has(.merged)"))
     expect("what mends a finding is said", next(one for one in advice["reasons"] if one["reason"] == "no-name")["mends"] in reader.text("main"))
     checked(reader, "a page", "page")
     reader.tab_to("the outcomes", "at.id === 'outcome'")
@@ -225,7 +229,8 @@ def taken_alone(reader: Reader, place: str) -> None:
 
 def desk_is_away(reader: Reader, end_desk: Callable[[], None]) -> None:
     """The desk ends while somebody judges."""
-    place = next(f"{one['rule']}-{one['node']}" for one in outcomes(reader.proxy) if one["automatic"] == "cantTell" and one["by"] == "" and one["reason"] != "merged")
+    place = next(f"{one['rule']}-{one['node']}" for one in outcomes(reader.proxy)
+                 if one["automatic"] == "cantTell" and one["by"] == "" and one["reason"] != "merged")
     begin(reader, place)
     end_desk()
     refused(reader, "the desk is away", "The desk is away")

@@ -188,7 +188,8 @@ def is_not_offered(reader: Reader) -> None:
     expect("it says why", "You are not allowed to do this on this site: it takes a judge. Your note is kept." in reader.text(".told"), reader.text(".told"))
     reader.open("?site=shop&page=list&judge=b49b2e-11")
     same("no form is offered", reader.browser.execute_script("return document.forms.length"), 0)
-    expect("but why, the note and the evidence", all(text in reader.text("main") for text in ("on shop that takes a judge", NOTE, "heading\nShop")), reader.text("main"))
+    expect("but why, the note and the evidence",
+           all(text in reader.text("main") for text in ("on shop that takes a judge", NOTE, "heading\nShop")), reader.text("main"))
     checked(reader, "no form")
     reader.open("?site=shop&page=list")
     expect("on the page neither", "3 questions open. Judging on shop takes a judge." in reader.text("main") and "Judge 3 questions" not in reader.text("main")
@@ -229,7 +230,8 @@ def is_large(reader: Reader) -> None:
     follow(reader, "Before: 4701 to 4800", "Page large of shop")
     expect("their elements", reader.browser.execute_script("return document.querySelectorAll('*').length") <= MOST_ELEMENTS)
     reader.open("?site=shop&page=large&rule=23a2a8&from=150")
-    expect("a part of one rule", "Findings 101 to 200 of 1600." in reader.text(".places") and "1600 findings, 100 of them here" in reader.text("main"), reader.text("main")[:900])
+    expect("a part of one rule", "Findings 101 to 200 of 1600." in reader.text(".places")
+           and "1600 findings, 100 of them here" in reader.text("main"), reader.text("main")[:900])
     expect("the elements of images", reader.browser.execute_script("return document.querySelectorAll('*').length") <= MOST_ELEMENTS)
 
 

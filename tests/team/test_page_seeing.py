@@ -77,7 +77,7 @@ def sees_its_place(reader: Reader) -> None:
         "Evidence": "Shop\nhttps://shop.example/", "Start tag": '<html lang="en">', "Link": "The page <https://shop.example/>"})
     same("without a picture nothing is said of one", reader.browser.execute_script(FRAME), None)
     reader.open("?site=shop&page=home&node=18")
-    expect("an image among the findings", reader.browser.execute_script(FACTS).get("Image") == "“Lamp” lamp.jpg <https://shop.example/lamp.jpg>", reader.text("main"))
+    same("an image among the findings", reader.browser.execute_script(FACTS).get("Image"), "“Lamp” lamp.jpg <https://shop.example/lamp.jpg>")
     reader.open("?site=shop&page=home&node=22")
     same("an address that is none of the web", reader.browser.execute_script(FACTS).get("Image"), "an empty alternative text javascript:alert(1)")
 
@@ -103,7 +103,8 @@ def sees_its_picture(reader: Reader) -> None:
     same("an element that isn't drawn", reader.browser.execute_script(FRAME)[::2],
          [[0, 460, 1000, 40], "The element itself is not drawn: the frame is around the div that it stands in. The whole picture"])
     look_at(reader, 6)
-    same("an element in nothing that is drawn", reader.browser.execute_script(FRAME), [None, None, "The element is not drawn. This is the upper part of the page. The whole picture"])
+    same("an element in nothing that is drawn", reader.browser.execute_script(FRAME),
+         [None, None, "The element is not drawn. This is the upper part of the page. The whole picture"])
     look_at(reader, 1, "c4a8a4")
     same("the page as a whole", reader.browser.execute_script(FRAME), [None, None, "This is the upper part of the page. The whole picture"])
     checked(reader, "a picture of the page as a whole")
