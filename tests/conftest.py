@@ -2,6 +2,7 @@
 from __future__ import annotations
 
 import tempfile
+from collections import Counter
 from typing import Any, Iterator
 
 import pytest
@@ -35,7 +36,10 @@ def pytest_runtest_call(item: pytest.Item) -> None:
 
 
 def pytest_terminal_summary(terminalreporter: Any) -> None:
-    """Says what the tests noted, and how many expectations were met; a test of assertions alone is one."""
+    """Says which tests were left out, what others noted, and how many expectations were met; a test of assertions alone is one."""
+    reasons = Counter(report.longrepr[2].removeprefix("Skipped: ") for report in terminalreporter.getreports("skipped"))
+    for reason, tests in reasons.items():
+        terminalreporter.write_line(f"{tests} tests left out: {reason}")
     reports = [report for kind in ("passed", "failed") for report in terminalreporter.getreports(kind) if report.when == "call"]
     told = [dict(report.user_properties) for report in reports]
     for line in sorted({line for properties in told for line in properties.get("notes", [])}):

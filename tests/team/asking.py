@@ -42,10 +42,9 @@ def trusting(certificate: str) -> ssl.SSLContext:
 
 def connection(proxy: Proxy, source: str = HOST) -> http.client.HTTPConnection:
     """A connection to the proxy, by TLS where its example has that."""
-    words = {"timeout": PATIENCE, "source_address": (source, 0)}
     if proxy.example == "sign-on.conf":
-        return http.client.HTTPConnection(HOST, proxy.port, **words)
-    return http.client.HTTPSConnection(HOST, proxy.port, context=trusting(proxy.certificate), **words)
+        return http.client.HTTPConnection(HOST, proxy.port, timeout=PATIENCE, source_address=(source, 0))
+    return http.client.HTTPSConnection(HOST, proxy.port, context=trusting(proxy.certificate), timeout=PATIENCE, source_address=(source, 0))
 
 
 def reply_over(link: http.client.HTTPConnection, line: str, body: bytes | None, fields: dict[str, str]) -> Reply:

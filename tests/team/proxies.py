@@ -93,7 +93,7 @@ class Proxy:
 
     def joined(self, text: str) -> str:
         """The text with one more desk on the ring, and the ring as it was for the sites that were there."""
-        ring = re.search(r"^upstream act_desk \{\n.*?^\}\n", text, re.MULTILINE | re.DOTALL).group()
+        ring = re.findall(r"^upstream act_desk \{\n.*?^\}\n", text, re.MULTILINE | re.DOTALL)[0]
         larger = ring.replace("}", f"    server {HOST}:{self.joining} max_fails=0;\n}}")
         text = text.replace(ring, larger + ring.replace("act_desk {", "act_desk_before {"))
         return text.replace("    # library act_desk_before;\n", "".join(f"    {site} act_desk_before;\n" for site in self.before))
