@@ -20,7 +20,7 @@ axe.run().then(({ violations }) => done(violations.map((one) => `${one.id}: ${on
 def axe_text() -> str | None:
     """axe-core, which AXE_CORE names or an npm folder has; None where it isn't there."""
     source = next((pathlib.Path(file) for file in (os.environ.get("AXE_CORE", ""), *PLACES) if file and os.path.isfile(file)), None)
-    return source and source.read_text(encoding="utf-8")
+    return None if source is None else source.read_text(encoding="utf-8")
 
 
 def violations(browser: Any) -> list[str]:

@@ -11,7 +11,7 @@ import threading
 from typing import Any, Iterator
 
 import pytest
-import yaml
+import yaml  # type: ignore[import]
 
 from .samples import ROOT
 

@@ -79,6 +79,8 @@ SLOW_SECONDS = 0.8
 class Handler(http.server.SimpleHTTPRequestHandler):
     """Sends the answers above, what depends on the request, or a file of the example site."""
 
+    server: Server
+
     def do_GET(self) -> None:
         path = self.path.split("?")[0]
         answers = {**ANSWERS, **self.server.more}

@@ -109,8 +109,8 @@ def changed(out: bytes) -> list[str]:
 def suite_counts(path: str) -> tuple[int, int, int, int]:
     """How many tests, failures and tests that were passed over a JUnit file has, by its attributes; and its tests."""
     root = ET.parse(path).getroot()
-    counted = tuple(int(root.attrib[name]) for name in ("tests", "failures", "skipped"))
-    return (*counted, len(root.findall("./testsuite/testcase")))
+    tests, failures, skipped = (int(root.attrib[name]) for name in ("tests", "failures", "skipped"))
+    return tests, failures, skipped, len(root.findall("./testsuite/testcase"))
 
 
 def test_compare(folder: str) -> None:

@@ -126,7 +126,7 @@ def press_tab(browser: Any, most: int = 400, active: str = ACTIVE) -> set[str]:
     """The ids of what the Tab key reaches, by pressing it; the script gives the id of what has the focus."""
     from selenium.webdriver.common.action_chains import ActionChains
     from selenium.webdriver.common.keys import Keys
-    reached = set()
+    reached: set[str] = set()
     for press in range(most):
         ActionChains(browser).send_keys(Keys.TAB).perform()
         name = browser.execute_script(active)

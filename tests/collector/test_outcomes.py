@@ -308,7 +308,7 @@ def test_outcome_forms() -> None:
         same(what, fault_of(json.dumps(changed)), f"home.outcomes is no reply of the desk to outcomes: {fault}")
 
     for members, strange, within, subject in ((top, STRANGE_TOP, lambda changed: changed, "it"),
-                                              (good, STRANGE, lambda changed: {**top, "outcomes": [row("c487ae", 3, "passed", "ok"), changed]}, "its outcome 2")):
+                                              (good, STRANGE, lambda changed: {**top, "outcomes": [row("c487ae", 3, "passed", "ok"), changed]}, "its outcome 2")):  # type: ignore[arg-type]
         same(f"the members of {subject}", sorted(members), sorted(strange))
         for name, values in strange.items():
             says(f"without {name}", within({key: value for key, value in members.items() if key != name}), f"{subject} has no member {name}")

@@ -74,7 +74,7 @@ class Desk:
         connection.close()
         return answer
 
-    def said(self, name: str, snapshot: str) -> dict[int, tuple[str, str]]:
+    def said(self, name: str, snapshot: str) -> dict[int, tuple[str, ...]]:
         """The role and the name of each node of a page for which a rule gives them."""
         self.ask("PUT", f"/sites/roles/pages/{name}", snapshot, **{"x-rev": "0"})
         outcomes = self.ask("GET", f"/sites/roles/pages/{name}/outcomes")["outcomes"]

@@ -236,7 +236,8 @@ def test_send_refusals(folder: str, desk: Between) -> None:
     """What the desk and its proxy refuse, in one line each; what passes is waited for."""
     at = ("GET", "/sites/acme/pages/home")
     soon = {"retry-after": "0"}
-    cases = (("401", 401, {}, b"<html>", "doesn't know this name and password"), ("403", 403, {}, b'{"refused":"NotAllowed","needed":"editor"}', "editor"),
+    cases: tuple[tuple[str, int, dict[str, str], bytes, str], ...] = (
+        ("401", 401, {}, b"<html>", "doesn't know this name and password"), ("403", 403, {}, b'{"refused":"NotAllowed","needed":"editor"}', "editor"),
              ("413", 413, {}, b'{"refused":"BodyTooLarge"}', "at most 8,388,608 bytes"),
              ("a redirect", 301, {"location": "https://other.example/"}, b"", "https://other.example/"),
              ("no desk", 200, {}, b"[]", "is no snapshot"), ("something else", 418, {}, b"", "418"))

@@ -92,7 +92,7 @@ def outline_of(row: dict[str, Any], parent: dict[str, Any], rows: list[dict[str,
     return " ".join(filter(None, words)) + (f"({below})" if below else "")
 
 
-def flat_rows(browser: Any, path: object) -> list[dict[str, Any]]:
+def flat_rows(browser: Any, path: Any) -> list[dict[str, Any]]:
     """The rows of a page with its shadow trees."""
     open_file(browser, path)
     text = take(browser, ADDRESS, FLAT).text
@@ -273,9 +273,9 @@ def test_shadow_paths(browser: Any) -> None:
     """The view's paths lead into shadow trees, and its start tags have ids as the page has them."""
     bodies = "".join(body for body, _ in OUTLINES.values())
     with page(bodies) as path:
-        for what in (path, OWN_PAGES / "shadow.html"):
+        for what in (path, str(OWN_PAGES / "shadow.html")):
             open_file(browser, what)
-            shown = read_page(take(browser, ADDRESS, FLAT).text.encode("utf-8"), str(what))
+            shown = read_page(take(browser, ADDRESS, FLAT).text.encode("utf-8"), what)
             paths = [[node.number, css_path(shown, node)] for node in shown.nodes.values() if node.is_element]
             same(f"{what}: paths that don't find their element", browser.execute_script(ASTRAY, ADDRESS, paths), [])
             tags = " ".join(start_tag(node) for node in shown.nodes.values() if node.is_element)

@@ -24,7 +24,8 @@ return boxes;
 
 def size_of(picture: bytes) -> tuple[int, int]:
     """The width and the height that a PNG tells."""
-    return struct.unpack(">II", picture[16:24])
+    width, height = struct.unpack(">II", picture[16:24])
+    return width, height
 
 
 def fits(told: list[int], measured: list[float]) -> bool:
@@ -65,14 +66,17 @@ def test_boxes(browser: Any) -> None:
         collected = collect_here(browser, path, *written)
         rows = json.loads(collected.text)["nodes"]
         number = {dict(row.get("attrs", [])).get("id"): str(row["n"]) for row in rows}
+        assert collected.shot is not None
         boxes = json.loads(collected.shot.boxes)["boxes"]
         same("display: contents, areas, and what isn't drawn", [boxes.get(number[name]) for name in "crkn"],
              [[10, 20, 30, 40], [110, 205, 20, 20], [130, 210, 20, 20], None])
     names = "contentType querySelector querySelectorAll documentElement body location performance createRange".split()
     with page("<p id=p>x" + "".join(f"<img alt='' name={name} id={name}>" for name in names)) as path:
         collected = collect_here(browser, path, *written, "--wait", "#p")
+        assert collected.shot is not None
         expect("names of images hide nothing", len(json.loads(collected.shot.boxes)["boxes"]) > 3)
     with page("<div style='height:20000px'>x") as path:
         collected = collect_here(browser, path, *written)
+        assert collected.shot is not None
         expect("of a page that is too long the picture holds the front, and says so",
                size_of(collected.shot.picture)[1] == 16384 and "the picture holds 1280 by 16384" in collected.notes[-1], collected.notes)

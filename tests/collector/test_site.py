@@ -35,9 +35,9 @@ def first_difference(got: bytes, kept: bytes) -> str:
 
 def meant_defects() -> tuple[dict[str, list[str]], dict[str, str]]:
     """The site's page on its defects: report lines by page, and each page's last line."""
-    lines = {name: [] for name in PAGES}
-    last = {}
-    page = None
+    lines: dict[str, list[str]] = {name: [] for name in PAGES}
+    last: dict[str, str] = {}
+    page = ""
     for line in (SITE / "README.md").read_text(encoding="utf-8").splitlines():
         heading = re.match(r"### `(\w+)\.html`", line)
         ending = re.search(r"`(passed \d+ failed \d+ cantTell \d+ inapplicable \d+)`", line)

@@ -264,6 +264,7 @@ def test_hostile(browser: Any, folder: str) -> None:
         snapshot = os.path.join(folder, "page.json")
         pathlib.Path(snapshot).write_text(text, encoding="utf-8")
         picture = os.path.join(folder, "page.png")
+        assert collected.shot is not None
         pathlib.Path(picture).write_bytes(collected.shot.picture)
         told = json.loads(collected.shot.boxes)
         told["snapshot"] = hashlib.sha256(text.encode("utf-8")).hexdigest()
@@ -295,7 +296,7 @@ def blocks(path: pathlib.Path) -> list[str]:
 def test_commands(folder: str) -> None:
     """The commands that the docs show lead from a page, and from many, to findings, where the desk is built."""
     commands = next(block for block in blocks(ROOT / "README.md") if "collector/view" in block)
-    written = re.search(r"> (\S+\.html)", commands).group(1)
+    written = re.findall(r"> (\S+\.html)", commands)[0]
     for name in ("collector", "crates", "examples"):
         os.symlink(ROOT / name, os.path.join(folder, name))
     done = subprocess.run(["bash", "-c", commands], cwd=folder, stdin=subprocess.DEVNULL, capture_output=True, check=False)
@@ -334,6 +335,7 @@ def test_view_picture(browser: Any, folder: str) -> None:
                   const scale = width / 1280;
                   return [mark.left - part.left - x, mark.top - part.top - y, mark.width, mark.height].map((side) => side / scale);
                 });""")
+        assert collected.shot is not None
         told = {int(n): box for n, box in json.loads(collected.shot.boxes)["boxes"].items()}
         off = [n for n, box in zip((71, 79, 123, 69), boxes) if any(abs(a - b) > 2 for a, b in zip(told[n], box))]
         same("outlines that aren't around their node", off, [])

@@ -20,7 +20,7 @@ def block(heading: str, language: str) -> str:
     """The first code block of a language under a heading of the docs."""
     text = DOCS.read_text(encoding="utf-8")
     part = text[text.index(f"\n## {heading}\n"):]
-    return re.search(rf"```{language}\n(.*?)```", part, re.DOTALL).group(1)
+    return re.findall(rf"```{language}\n(.*?)```", part, re.DOTALL)[0]
 
 
 def test_ways(browser: Any, base: str, folder: str) -> None:

@@ -29,7 +29,7 @@ def requests_a_second(proxy: Proxy, path: str) -> float:
                           capture_output=True, text=True, check=True)
     if "Non-2xx" in done.stdout or not re.search(r"^Failed requests: +0$", done.stdout, re.MULTILINE):
         raise RuntimeError(done.stdout)
-    return float(re.search(r"^Requests per second: +([0-9.]+)", done.stdout, re.MULTILINE).group(1))
+    return float(re.findall(r"^Requests per second: +([0-9.]+)", done.stdout, re.MULTILINE)[0])
 
 
 def snapshots_a_second(folder: str, jobs: int, snapshots: int) -> float:

@@ -41,6 +41,7 @@ def fill(proxy: Proxy) -> None:
 def put_picture(reader: Reader) -> None:
     """Puts the picture of the page home beside it, as the collector takes it."""
     shot = collect_here(reader.browser, SITE / "home.html", "--url", "https://library.example/", "--shot", "home.png").shot
+    assert shot is not None
     reader.proxy.make_shots()
     for kind, body in (("png", shot.picture), ("json", {"rev": 1, "boxes": json.loads(shot.boxes)["boxes"]})):
         same(f"the picture's {kind}", ask(reader.proxy, f"PUT /shots/library/home.{kind}", body, signed_in("ann")).status, 201)

@@ -91,7 +91,7 @@ def slow_and_cut(proxy: Proxy) -> None:
 
 def lived(proxy: Proxy, site: str, link: http.client.HTTPConnection) -> list[object]:
     """What of a site's life was answered otherwise than it should be."""
-    wrong = []
+    wrong: list[object] = []
     for caller, line, rev, body, wanted in life(site):
         fields = {**basic(caller), **({"x-rev": str(rev)} if rev is not None else {})}
         data = body if body is None or isinstance(body, bytes) else compact(body).encode()

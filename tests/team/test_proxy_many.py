@@ -28,9 +28,9 @@ def thousand() -> Iterator[tuple[str, str, int | None, object]]:
     return (request for request, _ in zip(asked, range(REQUESTS)))
 
 
-def answers(link: http.client.HTTPConnection, signed: bool) -> list[tuple[int, bytes]]:
+def answers(link: http.client.HTTPConnection, signed: bool) -> list[tuple[object, ...]]:
     """The replies to the thousand requests: through the proxy, which knows who signed in, or by the desk itself."""
-    found = []
+    found: list[tuple[object, ...]] = []
     for caller, line, rev, body in thousand():
         fields = {**(basic(caller) if signed else {"x-caller": caller}), **({"x-rev": str(rev)} if rev is not None else {})}
         data = body if body is None or isinstance(body, bytes) else compact(body).encode()

@@ -7,6 +7,7 @@ import re
 import shutil
 import signal
 import subprocess
+from typing import Any
 
 from serving import PROGRAM, free_port
 
@@ -23,7 +24,7 @@ def test_unit(folder: str) -> None:
     unit = shutil.copy(UNIT, f"{folder}/act-desk@8080.service")
     text = pathlib.Path(unit).read_text(encoding="utf-8").replace("/usr/bin/act_desk", "/bin/true")
     pathlib.Path(unit).write_text(text, encoding="utf-8")
-    analyze = {"capture_output": True, "text": True, "env": {**os.environ, "SYSTEMD_COLORS": "0"}}
+    analyze: dict[str, Any] = {"capture_output": True, "text": True, "env": {**os.environ, "SYSTEMD_COLORS": "0"}}
     verified = subprocess.run(["systemd-analyze", "verify", "--man=no", unit], check=False, **analyze)
     complaints = [line for line in verified.stderr.splitlines() if "act-desk" in line]
     same("what systemd finds wrong with the unit", complaints, [])
@@ -35,8 +36,8 @@ def test_unit(folder: str) -> None:
 def test_command(folder: str) -> None:
     """The unit's command line, without systemd: what it keeps outlives stops and kills."""
     text = UNIT.read_text(encoding="utf-8")
-    settings = dict(word.split("=", 1) for word in re.search(r"^Environment=(.*)$", text, re.MULTILINE)[1].split())
-    words = re.search(r"^ExecStart=/usr/bin/act_desk (.*)$", text, re.MULTILINE)[1].split()
+    settings = dict(word.split("=", 1) for word in re.findall(r"^Environment=(.*)$", text, re.MULTILINE)[0].split())
+    words = re.findall(r"^ExecStart=/usr/bin/act_desk (.*)$", text, re.MULTILINE)[0].split()
     port = free_port()
     words = [str(port) if word == "%i" else settings.get(word.strip("${}"), word) for word in words]
     kept = None
