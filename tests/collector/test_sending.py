@@ -238,9 +238,9 @@ def test_send_refusals(folder: str, desk: Between) -> None:
     soon = {"retry-after": "0"}
     cases: tuple[tuple[str, int, dict[str, str], bytes, str], ...] = (
         ("401", 401, {}, b"<html>", "doesn't know this name and password"), ("403", 403, {}, b'{"refused":"NotAllowed","needed":"editor"}', "editor"),
-             ("413", 413, {}, b'{"refused":"BodyTooLarge"}', "at most 8,388,608 bytes"),
-             ("a redirect", 301, {"location": "https://other.example/"}, b"", "https://other.example/"),
-             ("no desk", 200, {}, b"[]", "is no snapshot"), ("something else", 418, {}, b"", "418"))
+        ("413", 413, {}, b'{"refused":"BodyTooLarge"}', "at most 8,388,608 bytes"),
+        ("a redirect", 301, {"location": "https://other.example/"}, b"", "https://other.example/"),
+        ("no desk", 200, {}, b"[]", "is no snapshot"), ("something else", 418, {}, b"", "418"))
     file = write(folder, "page.json", snapshot(ROOMS))
     words = ("--desk", desk.address, "--caller", "ann", "acme/home", file)
     for what, status, fields, body, says in cases:
