@@ -153,7 +153,10 @@ def check_tree(rows):
         raise Fault("no row")
     if len(rows) > NODES:
         raise Fault(f"{len(rows)} rows")
-    by_number, depth, open_rows, referring = {}, {}, [], {}
+    by_number: dict[int, dict] = {}
+    depth: dict[int, int] = {}
+    open_rows: list[int] = []
+    referring: dict = {}
     for place, row in enumerate(rows):
         n, p = row["n"], row["p"]
 
@@ -199,14 +202,14 @@ def check_tree(rows):
 
 def reference_weight(rows, by_number, referring):
     """How much text the page's references reach, counted once for each reference; `referring` has the attributes of each row that refers."""
-    subtree = {}
+    subtree: dict[int, int] = {}
     for row in reversed(rows):
         length = size(row["text"] or "") + size("".join([value for _, value in row["attrs"]]))
         subtree[row["n"]] = subtree.get(row["n"], 0) + 1 + length // 64
         if row["p"] is not None:
             subtree[row["p"]] = subtree.get(row["p"], 0) + subtree[row["n"]]
-    first_with_id = {}
-    labels_by_for = {}
+    first_with_id: dict = {}
+    labels_by_for: dict = {}
     for row in rows:
         if row["tag"] is None:
             continue

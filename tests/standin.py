@@ -9,7 +9,7 @@ import shlex
 import subprocess
 from typing import Any
 
-from samples import ROOT, SHOP, shop
+from .samples import ROOT, SHOP, shop
 
 COMMAND = ROOT / "bin" / "silvervole"
 

@@ -11,7 +11,6 @@ import xml.etree.ElementTree as ET
 
 import pytest
 
-from samples import ROOT, SHOP, TABLE, listing_of, run, shop
 from silvervole.accepted.matching import with_accepted
 from silvervole.accepted.reading import read_accepted
 from silvervole.collect.ends import End, Stop
@@ -24,6 +23,8 @@ from silvervole.formats.listing import Listing
 from silvervole.formats.markdown import write_markdown
 from silvervole.formats.sarif import write_sarif
 from silvervole.formats.table import write_csv
+
+from .samples import ROOT, SHOP, TABLE, listing_of, run, shop
 
 ENTRY = '[[accepted]]\nrule = "{rule}"\nplace = "{place}"\nreason = "The vendor mends it"\nwho = "ann"\nuntil = {until}\n'
 CART = ENTRY.format(rule="c487ae", place="https://shop.example/ #cart", until="2026-06-30")

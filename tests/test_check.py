@@ -10,7 +10,7 @@ import jsonschema
 import junitparser
 import pytest
 
-from samples import ROOT, TABLE, run
+from .samples import ROOT, TABLE, run
 
 pytestmark = pytest.mark.desk
 SITE = ROOT / "examples" / "library"

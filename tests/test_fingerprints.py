@@ -5,8 +5,9 @@ import json
 import pathlib
 from typing import Any
 
-from samples import ROOT, SHOP, element, listing_of, run, shop, words
 from silvervole.formats.listing import Listing
+
+from .samples import ROOT, SHOP, element, listing_of, run, shop, words
 
 
 def marks(listing: Listing) -> dict[tuple[str, int], str]:

@@ -12,7 +12,6 @@ import jsonschema
 import junitparser
 import pytest
 
-from samples import FAILURES, ROOT, SHOP, SHOP_HTML, TABLE, element, listing_of, reply, run, shop, together, words
 from silvervole.formats.findings_json import write_json
 from silvervole.formats.github import write_github
 from silvervole.formats.gitlab import write_gitlab
@@ -22,6 +21,8 @@ from silvervole.formats.listing import Listing
 from silvervole.formats.markdown import write_markdown
 from silvervole.formats.options import FORMATS
 from silvervole.formats.table import HEADER, write_csv
+
+from .samples import FAILURES, ROOT, SHOP, SHOP_HTML, TABLE, element, listing_of, reply, run, shop, together, words
 
 HOSTILE = 'a\x1b[1m `x` ``y`` <script>alert(1)</script> | @everyone ::error::no\n%0A, "q" \u202e =1+1 ]]>'
 
@@ -167,7 +168,8 @@ def test_markdown_as_github_shows_it() -> None:
 
 def test_markdown_mentions_nobody() -> None:
     """GitHub looks for names with @ in the text that is shown: none is whole outside of code."""
-    listing = listing_of(shop(), reply(("cf77f2", 1, "failed", "failed", "merged", "", ""), ("047fe0", 1, "cantTell", "failed", "judge-heading-start", "@bob", "")))
+    listing = listing_of(shop(), reply(
+        ("cf77f2", 1, "failed", "failed", "merged", "", ""), ("047fe0", 1, "cantTell", "failed", "judge-heading-start", "@bob", "")))
     text = write_markdown(listing).decode("utf-8")
     assert "judged by @<!-- -->bob" in text and "@bob" not in text
 

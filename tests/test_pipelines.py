@@ -11,9 +11,9 @@ import threading
 from typing import Any, Iterator
 
 import pytest
-import yaml
+import yaml  # type: ignore[import]
 
-from samples import ROOT
+from .samples import ROOT
 
 pytestmark = pytest.mark.desk
 FILES = ROOT / "examples" / "pipelines"

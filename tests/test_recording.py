@@ -3,7 +3,7 @@ from __future__ import annotations
 
 import pytest
 
-from samples import ROOT, run
+from .samples import ROOT, run
 
 
 @pytest.mark.desk

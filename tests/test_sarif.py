@@ -9,8 +9,9 @@ from typing import Any
 import attr
 import sarif_om
 
-from samples import SHOP, listing_of, shop
 from silvervole.formats.sarif import write_sarif
+
+from .samples import SHOP, listing_of, shop
 
 # The class of what a member holds, where it holds objects or lists of them.
 CLASSES = {

@@ -14,7 +14,8 @@ from typing import Any
 import pytest
 
 from silvervole.serve import reasons, system
-from standin import COMMAND, desk, plain_environment, silvervole
+
+from .standin import COMMAND, desk, plain_environment, silvervole
 
 # A short program that has a lock on a file until it is ended.
 LOCKING = """import fcntl, os, struct, sys, time

@@ -13,7 +13,8 @@ from silvervole.formats.options import FORMATS
 from silvervole.settings.reading import KEYS
 from silvervole.settings.sign_in import Signed, signed
 from silvervole.settings.writing import FILES, Answers, settings_text
-from standin import at_terminal, desk, plain_environment, shop_file, silvervole
+
+from .standin import at_terminal, desk, plain_environment, shop_file, silvervole
 
 WHOLE = """
 jobs = 3

@@ -8,11 +8,12 @@ import subprocess
 
 import pytest
 
-from samples import ROOT
 from silvervole import __version__
 from silvervole.collect.ends import End, run_command
 from silvervole.main import WORDS
-from standin import COMMAND, desk, plain_environment, shop_file, silvervole
+
+from .samples import ROOT
+from .standin import COMMAND, desk, plain_environment, shop_file, silvervole
 
 PAGE = ROOT / "docs" / "use" / "silvervole.md"
 COMPLETION = ROOT / "deploy" / "completion" / "silvervole"

@@ -8,8 +8,8 @@ import pytest
 
 from silvervole.view.counting import FRAME
 
-from samples import SHOP, TABLE, element, words
-from standin import at_terminal, desk, shop_file, silvervole
+from .samples import SHOP, TABLE, element, words
+from .standin import at_terminal, desk, shop_file, silvervole
 
 ESCAPE = "\x1b["
 SUMS = "3 failed, 1 to judge, 2 passed; 1 rule without a target here"

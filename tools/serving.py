@@ -56,6 +56,10 @@ class Serving:
         return self
 
     def __exit__(self, *_):
+        self.end()
+
+    def end(self):
+        """Ends the program as `kill` does."""
         self.program.terminate()
         self.program.wait()
 
@@ -70,7 +74,7 @@ class Serving:
     def memory(self):
         """The memory that the program holds now, in kilobytes."""
         with open(f"/proc/{self.program.pid}/status", encoding="ascii") as status:
-            return int(re.search(r"VmRSS:\s+(\d+) kB", status.read()).group(1))
+            return int(re.findall(r"VmRSS:\s+(\d+) kB", status.read())[0])
 
     def descriptors(self):
         """How many files and sockets the program has open now."""

@@ -96,7 +96,7 @@ class App {
 /** Follows links within the desk without leaving the page, so that nothing that was typed is lost. */
 function followLinks(app) {
   document.addEventListener('click', (event) => {
-    const link = event.target.closest('a[href]');
+    const link = /** @type {Element} */ (event.target).closest('a[href]');
     if (!link || event.button !== 0 || event.ctrlKey || event.metaKey || event.shiftKey || event.altKey) return;
     const href = link.getAttribute('href');
     if (href === '#main') {

@@ -36,7 +36,7 @@ const pause = (seconds) => new Promise((done) => { setTimeout(done, seconds * 10
 /** The reply to a request. Where the proxy takes no more for now, it hasn't asked the desk: it is asked again a little later. */
 async function replyTo(path, given) {
   for (let tries = 1; ; tries += 1) {
-    const reply = await reached(fetch(path, { ...given, cache: 'no-store', redirect: 'error', signal: AbortSignal.timeout(PATIENCE) }));
+    const reply = await reached(fetch(path, { ...given, cache: 'no-store', redirect: 'error', signal: /** @type {any} */ (AbortSignal).timeout(PATIENCE) }));
     if (reply.status !== 429 || tries === TRIES) return reply;
     await pause(Number(reply.headers.get('retry-after')) || PAUSE);
   }

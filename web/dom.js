@@ -2,9 +2,11 @@
 
 /**
  * An element with attributes, properties and children.
- * @param {string} tag
- * @param {Record<string, unknown>} given attributes; one that begins with `on` is a listener, null and false are left out
+ * @template {keyof HTMLElementTagNameMap} T
+ * @param {T} tag
+ * @param {Record<string, any>} given attributes; one that begins with `on` is a listener, null and false are left out
  * @param {...(Node|string|null|Array<Node|string|null>)} children
+ * @returns {HTMLElementTagNameMap[T]}
  */
 export function el(tag, given = {}, ...children) {
   const made = document.createElement(tag);

@@ -44,7 +44,11 @@ const aloneField = (findings) => (findings.length === 1 ? null : el('div', { cla
 /** A form for the answer to a question, and what becomes of it. */
 class Answer {
   constructor(app, place, findings, outcome) {
-    Object.assign(this, { app, place, outcome, isSending: false, isStopped: false });
+    this.app = app;
+    this.place = place;
+    this.outcome = outcome;
+    this.isSending = false;
+    this.isStopped = false;
     // The one that is shown comes first; what the desk took isn't sent again.
     this.left = [outcome, ...findings.filter((one) => one !== outcome)];
     this.begun = begunOf(place, findings);

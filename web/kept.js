@@ -2,12 +2,22 @@
 
 const memory = new Map();
 
-/** The value under a key; what can't be kept by the browser is kept as long as this page is open. */
+/**
+ * The value under a key; what can't be kept by the browser is kept as long as this page is open.
+ * @param {string} key
+ * @param {'localStorage'|'sessionStorage'} store
+ */
 function read(key, store) {
   if (memory.has(key)) return memory.get(key);
   try { return window[store].getItem(key); } catch { return null; }
 }
 
+/**
+ * Keeps a value under a key; null takes it away.
+ * @param {string} key
+ * @param {'localStorage'|'sessionStorage'} store
+ * @param {string|null} value
+ */
 function write(key, store, value) {
   memory.set(key, value);
   try {

@@ -37,6 +37,7 @@ export class Nodes {
     this.places = new Map(this.list.map((row, place) => [row.n, place]));
     this.kids = grouped(this.list, (row) => row.p);
     this.root = this.list[0].n;
+    this.counts = null;
   }
 
   /** The element of a node: itself, or the one that a text stands in. */

@@ -16,7 +16,7 @@ const percent = (part, whole) => `${(100 * part) / whole}%`;
 /** The picture of a page: its image, its revision and the boxes of its nodes; null where there is none, or none that can be read. */
 export async function loadPicture(site, page) {
   try {
-    const reply = await fetch(path(site, page, 'json'), { signal: AbortSignal.timeout(PATIENCE) });
+    const reply = await fetch(path(site, page, 'json'), { signal: /** @type {any} */ (AbortSignal).timeout(PATIENCE) });
     if (!reply.ok) return null;
     const { rev, boxes } = await reply.json();
     const image = new Image();

@@ -6,6 +6,7 @@ const PAGE = new RegExp(`^page (\\S+) rev (\\d+) ${COUNTS}$`);
 const CRITERION = /^criterion (\S+) (A+) (\S+)$/;
 const TOTAL = new RegExp(`^total pages (\\d+) ${COUNTS}$`);
 
+/** @type {(counts: string[]) => Record<string, number>} */
 const countsOf = ([passed, failed, cantTell, inapplicable]) => ({ passed: Number(passed), failed: Number(failed), cantTell: Number(cantTell), inapplicable: Number(inapplicable) });
 
 /** The text of a site's report as pages, criteria and the sums over all pages; an Error where it isn't one. */

@@ -5,6 +5,9 @@ import { el } from './dom.js';
 
 /**
  * Sends an answer for each finding until one is refused or somebody says to stop: the findings that the desk took, and the refusal.
+ * @param {{ site: string, page: string }} place
+ * @param {Array<{ rule: string, node: number, digest: string }>} findings
+ * @param {{ verdict: string, note: string }} answer
  * @param {(taken: number) => void} tell is told how many were taken
  * @param {() => boolean} isStopped says whether to stop
  */

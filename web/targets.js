@@ -22,7 +22,7 @@ const outside = (href, text) => el('a', { href, rel: 'noreferrer' }, text);
 
 /** An address as a link where it is one of the web, by the page's own; else as it stands. */
 function addressLink(address, base) {
-  const full = URL.canParse(address, base) ? new URL(address, base) : null;
+  const full = /** @type {any} */ (URL).canParse(address, base) ? new URL(address, base) : null;
   return full && /^https?:$/.test(full.protocol) ? outside(full.href, address) : code(address || 'none');
 }
 

@@ -11,6 +11,7 @@ from silvervole.view.rules import Rule, RuleTable
 
 from .changes import Change, Kind, PageChanges
 
+
 def why(finding: Finding) -> str:
     """The reason's word, or who judged it."""
     return f"judged by {finding.judge}" if finding.judge else finding.reason

@@ -8,7 +8,7 @@ HEAD = """# What a finding means, and what mends it
 For those who mend pages: what each reason of a report means, and what usually mends it, rule by rule. `ok` stands for a
 target that meets no other reason. What exactly a rule asks stands in [rules.md](rules.md).
 
-This page is made from `silvervole/data/rules.json` by `collector/test --keep`, and [the view](collecting.md#the-view) shows
+This page is made from `silvervole/data/rules.json` by `collector/keep`, and [the view](collecting.md#the-view) shows
 the same words. Mend the words there.
 """
 

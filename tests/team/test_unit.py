@@ -1,0 +1,53 @@
+"""The unit of systemd: systemd's own ratings of it, and its command line."""
+from __future__ import annotations
+
+import os
+import pathlib
+import re
+import shutil
+import signal
+import subprocess
+from typing import Any
+
+from serving import PROGRAM, free_port
+
+from ..support import expect, note, same
+from .packages import needs
+from .proxies import wait_for
+from .test_service import UNIT, Kept
+
+pytestmark = needs("systemd")
+
+
+def test_unit(folder: str) -> None:
+    """The unit is one that systemd takes, and how exposed the service is by its own rating."""
+    unit = shutil.copy(UNIT, f"{folder}/act-desk@8080.service")
+    text = pathlib.Path(unit).read_text(encoding="utf-8").replace("/usr/bin/act_desk", "/bin/true")
+    pathlib.Path(unit).write_text(text, encoding="utf-8")
+    analyze: dict[str, Any] = {"capture_output": True, "text": True, "env": {**os.environ, "SYSTEMD_COLORS": "0"}}
+    verified = subprocess.run(["systemd-analyze", "verify", "--man=no", unit], check=False, **analyze)
+    complaints = [line for line in verified.stderr.splitlines() if "act-desk" in line]
+    same("what systemd finds wrong with the unit", complaints, [])
+    rated = subprocess.run(["systemd-analyze", "security", "--offline=true", "--threshold=15", "--no-pager", unit], check=False, **analyze)
+    expect("the service is hardly exposed: 1.5 at the most", rated.returncode == 0, rated.stdout[-400:])
+    note(rated.stdout.strip().splitlines()[-1].replace("→ ", ""))
+
+
+def test_command(folder: str) -> None:
+    """The unit's command line, without systemd: what it keeps outlives stops and kills."""
+    text = UNIT.read_text(encoding="utf-8")
+    settings = dict(word.split("=", 1) for word in re.findall(r"^Environment=(.*)$", text, re.MULTILINE)[0].split())
+    words = re.findall(r"^ExecStart=/usr/bin/act_desk (.*)$", text, re.MULTILINE)[0].split()
+    port = free_port()
+    words = [str(port) if word == "%i" else settings.get(word.strip("${}"), word) for word in words]
+    kept = None
+    for end in (signal.SIGTERM, signal.SIGKILL, signal.SIGTERM):
+        desk = subprocess.Popen([PROGRAM, *words], cwd=folder, stdin=subprocess.DEVNULL)
+        wait_for(desk, port, "the unit's command")
+        if kept is None:
+            kept = Kept(port)
+        else:
+            kept.is_there("the end of a program")
+        desk.send_signal(end)
+        desk.wait()
+    same("the files of the store", sorted(os.listdir(folder)), ["desk.db", "desk.db-wal"])
