@@ -1,8 +1,8 @@
 //! Plays a case in each of its ways.
 
 use crate::door_sweep::sweep_door;
-use crate::playing::{Outcome, play_all};
 use crate::run_sweep::sweep_run;
+use crate::{over_failing, over_store};
 use fixture_keepers::{Made, failing_store_keeper, memory_keeper, store_keeper};
 use fixture_plays::{Play, Swept, Way, sweep_cuts, sweep_keeper, sweep_link, swept_states};
 use fixture_rules::Marks;
@@ -12,6 +12,13 @@ use rule_book::Thirty;
 use std::alloc::Global;
 use std::thread::Threads;
 
+// What a play came to: all that came back, with what was kept; and the first difference from the script.
+#[derive(Drop)]
+struct Outcome {
+    came: Vec<u8>,
+    difference: Option<Difference>,
+}
+
 fn by_memory<R: Threads + Sync, B: Made>(
     rt: &R,
     alloc: Global,
@@ -19,7 +26,10 @@ fn by_memory<R: Threads + Sync, B: Made>(
     way: Way,
 ) -> Result<Outcome, Wrong> {
     let keeper = memory_keeper(alloc, &plot.case.setting, 0)?;
-    play_all(rt, Play::<_, B>::new(alloc, keeper, way)?, plot)
+    let mut play = Play::<_, B>::new(alloc, keeper, way)?;
+    let difference = over_failing::plot_differs(rt, &mut play, plot)?;
+    let came = play.came;
+    Ok(Outcome { came, difference })
 }
 
 fn by_store<R: Threads + Sync, B: Made>(
@@ -29,7 +39,10 @@ fn by_store<R: Threads + Sync, B: Made>(
     way: Way,
 ) -> Result<Outcome, Wrong> {
     let keeper = store_keeper(alloc, &plot.case.setting)?;
-    play_all(rt, Play::<_, B>::new(alloc, keeper, way)?, plot)
+    let mut play = Play::<_, B>::new(alloc, keeper, way)?;
+    let difference = over_store::plot_differs(rt, &mut play, plot)?;
+    let came = play.came;
+    Ok(Outcome { came, difference })
 }
 
 fn by_failing_store<R: Threads + Sync, B: Made>(
@@ -39,7 +52,10 @@ fn by_failing_store<R: Threads + Sync, B: Made>(
     way: Way,
 ) -> Result<Outcome, Wrong> {
     let keeper = failing_store_keeper(alloc, &plot.case.setting, 0)?;
-    play_all(rt, Play::<_, B>::new(alloc, keeper, way)?, plot)
+    let mut play = Play::<_, B>::new(alloc, keeper, way)?;
+    let difference = over_failing::plot_differs(rt, &mut play, plot)?;
+    let came = play.came;
+    Ok(Outcome { came, difference })
 }
 
 fn outcome_of<R: Threads + Sync, B: Made>(

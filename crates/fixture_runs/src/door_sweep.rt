@@ -1,7 +1,8 @@
 //! Each call of the door of a run fails in turn.
 
+use crate::over_failing::ended_run;
 use crate::run_sweep::{play_after, run_of};
-use crate::running::{Ended, ended_run, log_differs};
+use crate::running::{Ended, log_differs};
 use crate::streaming::Failing;
 use fixture_keepers::Made;
 use fixture_plays::{Swept, kept_now};

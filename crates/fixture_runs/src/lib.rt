@@ -5,6 +5,8 @@
 
 mod cases;
 mod door_sweep;
+mod over_failing;
+mod over_store;
 mod playing;
 mod run_sweep;
 mod running;

@@ -1,62 +1,10 @@
-//! Plays the steps of a case over a keeper.
+//! Plays the steps of a case over a keeper, but for its runs.
 
-use crate::running::run_differs;
-use crate::streaming::Runs;
-use fixture_keepers::Made;
+use fixture_keepers::{Made, Played};
 use fixture_plays::{Play, look_differs};
-use fixture_talks::{Plot, Step, Talk};
+use fixture_talks::{Step, Talk};
 use fixture_words::{Difference, Wrong};
 use std::thread::Threads;
-
-/// What a play came to: all that came back, with what was kept; and the first difference from the script.
-#[derive(Drop)]
-pub(crate) struct Outcome {
-    pub(crate) came: Vec<u8>,
-    pub(crate) difference: Option<Difference>,
-}
-
-/// Plays the head of a script and a case, to the first difference.
-pub(crate) fn play_all<R: Threads + Sync, K: Runs, B: Made>(
-    rt: &R,
-    mut play: Play<K, B>,
-    plot: Plot<'_>,
-) -> Result<Outcome, Wrong> {
-    let difference = plot_differs(rt, &mut play, plot)?;
-    let came = play.came;
-    Ok(Outcome { came, difference })
-}
-
-fn plot_differs<R: Threads + Sync, K: Runs, B: Made>(
-    rt: &R,
-    play: &mut Play<K, B>,
-    plot: Plot<'_>,
-) -> Result<Option<Difference>, Wrong> {
-    let mut joined = Talk::new(play.alloc, plot.case.line, true);
-    let head = steps_differ(rt, play, &mut joined, plot.head)?;
-    if head.is_some() {
-        return Ok(head);
-    }
-    let case = steps_differ(rt, play, &mut joined, plot.case.steps.as_slice())?;
-    if case.is_some() {
-        return Ok(case);
-    }
-    ask_joined(rt, play, &mut joined)
-}
-
-fn steps_differ<R: Threads + Sync, K: Runs, B: Made>(
-    rt: &R,
-    play: &mut Play<K, B>,
-    joined: &mut Talk,
-    steps: &[Step],
-) -> Result<Option<Difference>, Wrong> {
-    for step in steps {
-        let difference = step_differs(rt, play, joined, step)?;
-        if difference.is_some() {
-            return Ok(difference);
-        }
-    }
-    Ok(None)
-}
 
 // The talk of a step that may come over one connection with others.
 fn alone(step: &Step) -> Option<&Talk> {
@@ -66,7 +14,8 @@ fn alone(step: &Step) -> Option<&Talk> {
     }
 }
 
-fn step_differs<R: Threads + Sync, K: Runs, B: Made>(
+/// Plays a step, or what has to come before it where it is a run; the first difference from the script.
+pub(crate) fn step_differs<R: Threads + Sync, K: Played, B: Made>(
     rt: &R,
     play: &mut Play<K, B>,
     joined: &mut Talk,
@@ -84,13 +33,12 @@ fn step_differs<R: Threads + Sync, K: Runs, B: Made>(
     }
     match step {
         Step::Talk(talk) => play.ask(rt, talk),
-        Step::Run(run) => run_differs(rt, play, run),
         _ => look_differs(play, step),
     }
 }
 
-// Asks what was joined, where that is anything.
-fn ask_joined<R: Threads + Sync, K: Runs, B: Made>(
+/// Asks what was joined, where that is anything.
+pub(crate) fn ask_joined<R: Threads + Sync, K: Played, B: Made>(
     rt: &R,
     play: &mut Play<K, B>,
     joined: &mut Talk,

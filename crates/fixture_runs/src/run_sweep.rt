@@ -1,6 +1,7 @@
 //! Each call of the source, of the sinks and of the keeper of a run fails in turn.
 
-use crate::running::{Ended, end_differs, ended_run};
+use crate::over_failing::ended_run;
+use crate::running::{Ended, end_differs};
 use crate::streaming::Failing;
 use fixture_failing_keeper::FailingKeeper;
 use fixture_keepers::{FailingMemory, Made, memory_keeper};

@@ -4,15 +4,13 @@ ghost use Rattle.std.specs.Prelude.{◌≡◌, None, IfOk};
 ghost use Rattle.std.specs.List.{AllByRecursion};
 ghost use Rattle.links.specs.Memory.{IsUntouchedLink};
 
-use crate::streaming::{Failing, Runs, Streams, calls, streams_of};
-use fixture_keepers::Made;
-use fixture_plays::{Play, link_of};
+use crate::streaming::{Failing, Streams, calls};
+use fixture_plays::link_of;
 use fixture_talks::{Run, talk_differs};
 use fixture_words::{Difference, Wrong, bytes_differ};
 use links::{MemDoor, MemLink};
 use snap_tree::{List, Text};
 use std::alloc::Global;
-use std::thread::Threads;
 
 /// What a run ended with.
 #[derive(Drop)]
@@ -22,7 +20,7 @@ pub(crate) struct Ended {
     pub(crate) door: MemDoor,
 }
 
-fn texts(alloc: Global, words: &[String]) -> Result<List<Text>, Wrong> {
+pub(crate) fn texts(alloc: Global, words: &[String]) -> Result<List<Text>, Wrong> {
     let mut texts = Vec::new(alloc);
     for word in words {
         texts.push(Text::from_str(alloc, word.as_str())?)?;
@@ -42,37 +40,17 @@ fn links_of(alloc: Global, run: &Run, piece: u64) -> Result<List<MemLink>, Wrong
     Ok(List::from_vec(links))
 }
 
-fn door_of(alloc: Global, run: &Run, piece: u64, failing: Failing) -> Result<MemDoor, Wrong>
+pub(crate) fn door_of(
+    alloc: Global,
+    run: &Run,
+    piece: u64,
+    failing: Failing,
+) -> Result<MemDoor, Wrong>
     ensures { IfOk result (λ door. door.heard ≡ None) }
 {
     let links = links_of(alloc, run, piece)?;
     let fails = calls(alloc, run.door_fails.as_slice(), failing.door)?;
     Ok(MemDoor::new(alloc, links, fails)?)
-}
-
-/// Runs the program, where these calls fail besides those that the script names.
-pub(crate) fn ended_run<R: Threads + Sync, K: Runs, B: Made>(
-    rt: &R,
-    play: &mut Play<K, B>,
-    run: &Run,
-    failing: Failing,
-) -> Result<Ended, Wrong> {
-    let (alloc, piece) = (play.alloc, play.way.piece);
-    let words = texts(alloc, run.words.as_slice())?;
-    let mut streams = streams_of(alloc, run, piece, failing)?;
-    let mut door = door_of(alloc, run, piece, failing)?;
-    let books = &mut play.books;
-    if books.is_empty() {
-        return Err(Wrong::Line(run.line, "there is no book"));
-    }
-    let status = play
-        .keeper
-        .run_by(rt, alloc, &words, &mut streams, &mut door, books);
-    Ok(Ended {
-        status: u64::from(status),
-        streams,
-        door,
-    })
 }
 
 fn add_all(came: &mut Vec<u8>, ended: &Ended) -> Result<(), Wrong> {
@@ -84,15 +62,15 @@ fn add_all(came: &mut Vec<u8>, ended: &Ended) -> Result<(), Wrong> {
     Ok(())
 }
 
-/// The first difference between how a run ends and what the script says of it.
-pub(crate) fn run_differs<R: Threads + Sync, K: Runs, B: Made>(
-    rt: &R,
-    play: &mut Play<K, B>,
+/// Adds what a run wrote to all that came back; the first difference from what the script says of its end.
+pub(crate) fn ended_differs(
+    alloc: Global,
+    came: &mut Vec<u8>,
     run: &Run,
+    ended: &Ended,
 ) -> Result<Option<Difference>, Wrong> {
-    let ended = ended_run(rt, play, run, Failing::nothing())?;
-    add_all(&mut play.came, &ended)?;
-    end_differs(play.alloc, run, &ended)
+    add_all(came, ended)?;
+    end_differs(alloc, run, ended)
 }
 
 /// The first difference between the end of a run and what the script says of it.

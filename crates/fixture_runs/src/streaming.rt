@@ -1,21 +1,9 @@
-//! What a run reads and writes, and how it runs over a keeper.
+//! What a run reads and writes.
 
-ghost use Rattle.std.specs.Prelude.{◌≡◌, ◌<◌, None, vec_len};
-ghost use Rattle.links.specs.Memory.{doorway};
-
-use desk_run::run;
-use fixture_failing_keeper::FailingKeeper;
-use fixture_keepers::{Made, Played};
 use fixture_talks::{Run, Sink};
 use fixture_words::Wrong;
-use keep_core::Keeper;
-use keep_sql::SqlKeeper;
-use links::MemDoor;
-use snap_tree::{List, Text};
-use sqlite::Alter;
+use snap_tree::List;
 use std::alloc::Global;
-use std::thread::Threads;
-use store_run::run_store;
 use streams::{MemSink, MemSource};
 
 /// A call of each object that fails, besides those that the script names; at 0 none does.
@@ -40,10 +28,10 @@ impl Failing {
 
 /// What a run reads and writes.
 #[derive(Drop)]
-pub struct Streams {
-    pub input: MemSource,
-    pub out: MemSink,
-    pub err: MemSink,
+pub(crate) struct Streams {
+    pub(crate) input: MemSource,
+    pub(crate) out: MemSink,
+    pub(crate) err: MemSink,
 }
 
 /// The calls that fail: those that the script names, and another.
@@ -75,68 +63,4 @@ pub(crate) fn streams_of(
         out: mem_sink(alloc, &run.out, failing.out)?,
         err: mem_sink(alloc, &run.err, failing.err)?,
     })
-}
-
-/// A keeper over which the program runs.
-pub trait Runs: Played {
-    /// The status of a run over it.
-    fn run_by<R: Threads + Sync, B: Made>(
-        &mut self,
-        rt: &R,
-        alloc: Global,
-        words: &List<Text>,
-        streams: &mut Streams,
-        door: &mut MemDoor,
-        books: &mut Vec<B>,
-    ) -> u8
-        requires some { 0 < vec_len books.old }
-        requires unheard { (doorway door.old).heard ≡ None };
-}
-
-impl<K: Keeper + Drop> Runs for FailingKeeper<K> {
-    fn run_by<R: Threads + Sync, B: Made>(
-        &mut self,
-        rt: &R,
-        alloc: Global,
-        words: &List<Text>,
-        streams: &mut Streams,
-        door: &mut MemDoor,
-        books: &mut Vec<B>,
-    ) -> u8 {
-        run(
-            rt,
-            alloc,
-            words,
-            &mut streams.input,
-            &mut streams.out,
-            &mut streams.err,
-            self,
-            door,
-            books,
-        )
-    }
-}
-
-impl<S: Alter + Drop> Runs for SqlKeeper<S> {
-    fn run_by<R: Threads + Sync, B: Made>(
-        &mut self,
-        rt: &R,
-        alloc: Global,
-        words: &List<Text>,
-        streams: &mut Streams,
-        door: &mut MemDoor,
-        books: &mut Vec<B>,
-    ) -> u8 {
-        run_store(
-            rt,
-            alloc,
-            words,
-            &mut streams.input,
-            &mut streams.out,
-            &mut streams.err,
-            self,
-            door,
-            books,
-        )
-    }
 }
