@@ -574,6 +574,25 @@ function silvervoleSnapshot(address, options) {
     return modals.length > 0 && !modals.some((modal) => above.includes(modal.node));
   };
 
+  // For the ring around what has the focus a browser lays out all that stands
+  // beside it, which takes most of the time. Leaves the rings out, and returns
+  // what brings them back.
+  const withoutRings = () => {
+    const back = [];
+    try {
+      const sheet = new CSSStyleSheet();
+      sheet.replaceSync('*:focus { outline: none !important }');
+      for (const place of [document, ...trees.keys()]) {
+        const type = place === document ? Document : ShadowRoot;
+        const { get, set } = Object.getOwnPropertyDescriptor(type.prototype, 'adoptedStyleSheets');
+        const own = [...get.call(place)];
+        set.call(place, [...own, sheet]);
+        back.push(() => set.call(place, own));
+      }
+    } catch (error) { /* then it takes its time */ }
+    return () => back.forEach((put) => put());
+  };
+
   // Calls focus() on each element that could take it, from the state in which
   // the page was found, and puts the focus, the selection and with
   // preventScroll the scroll positions back. Listeners of the page hear none
@@ -595,39 +614,6 @@ function silvervoleSnapshot(address, options) {
       if (first !== null && first !== resting) give(focusOf, first, { preventScroll: true });
       else if (now !== null) give(blurOf, now);
     };
-    let active = first;
-    const ask = (element) => {
-      give(focusOf, element, { preventScroll: true });
-      active = activeElement();
-      return active === element;
-    };
-    const rest = () => {
-      if (active === first) return;
-      restore();
-      active = activeElement();
-    };
-    // What takes the focus keeps it until the next element is asked. What
-    // doesn't take it is asked again with the focus where it was found.
-    const takesFocus = (element) => {
-      const asFound = active === first;
-      if (element !== first && ask(element)) return true;
-      rest();
-      return element === first ? active === element : !asFound && ask(element);
-    };
-    // Besides what is visible, only the fallback content of a canvas takes
-    // focus: it stands for what is drawn on the canvas.
-    const candidates = records.filter((record) => record.element && (record.visible || record.inCanvas));
-    const isLikely = (record) => NATIVE_STOPS.has(record.tag) || hasAttribute(record.node, 'tabindex');
-    const probe = (record) => {
-      const element = record.node;
-      if (element === resting || element === documentElement() || isFrame(record)) {
-        // Asking a frame would move the focus into another document; the
-        // resting element is named as active without having the focus; and
-        // asked on the root, some browsers give the focus to the viewport.
-        record.focusable = !isInert(element) && (isFrame(record) || tabIndexOf(element) !== null
-          || (record.ns === 'html' && isContentEditable(element)));
-      } else record.focusable = takesFocus(element);
-    };
     const hush = (event) => {
       event.stopImmediatePropagation();
       if (event.type === 'change') unheard.add(event.composedPath()[0]);
@@ -636,10 +622,26 @@ function silvervoleSnapshot(address, options) {
     // Where the focus moves within one shadow tree, the window hears nothing of it.
     const places = [window, ...trees.keys()];
     for (const name of heard) for (const place of places) place.addEventListener(name, hush, true);
+    // Where something has the focus, its ring is seen.
+    const bringBack = first === null || first === resting ? withoutRings() : () => undefined;
     try {
-      // Those that most likely take the focus come first: to take it back from each takes as long as to give it.
-      for (const record of candidates.filter(isLikely)) probe(record);
-      for (const record of candidates) if (!isLikely(record)) probe(record);
+      for (const record of records) {
+        // Besides what is visible, only the fallback content of a canvas takes
+        // focus: it stands for what is drawn on the canvas.
+        if (!record.element || !(record.visible || record.inCanvas)) continue;
+        const element = record.node;
+        if (element === resting || element === documentElement() || isFrame(record)) {
+          // Asking a frame would move the focus into another document; the
+          // resting element is named as active without having the focus; and
+          // asked on the root, some browsers give the focus to the viewport.
+          record.focusable = !isInert(element) && (isFrame(record) || tabIndexOf(element) !== null
+            || (record.ns === 'html' && isContentEditable(element)));
+          continue;
+        }
+        if (element !== first) give(focusOf, element, { preventScroll: true });
+        record.focusable = activeElement() === element;
+        restore();
+      }
     } finally {
       restore();
       if (selection && !sameSelection()) {
@@ -647,6 +649,7 @@ function silvervoleSnapshot(address, options) {
         else selection.setBaseAndExtent(...chosen);
         restore();
       }
+      bringBack();
       for (const name of heard) for (const place of places) place.removeEventListener(name, hush, true);
     }
   };
