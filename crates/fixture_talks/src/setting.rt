@@ -82,7 +82,7 @@ pub struct Setting {
 }
 
 impl Setting {
-    /// One book of the thirty rules, a keeper in memory, each request over a connection of its own, whole.
+    /// One book of all rules, a keeper in memory, each request over a connection of its own, whole.
     pub fn usual(alloc: Global) -> Result<Self, Wrong> {
         Ok(Setting {
             book: Book::Thirty,
