@@ -1,2 +1,1 @@
 mod Nothing
-pub mod Numbered

@@ -102,7 +102,6 @@ fn said(alloc: Global, tree: &Tree, rule: RuleNo, n: NodeId) -> Result<Option<Ve
 
 // What the rule of a number says of a page, as the rule goes over it; nothing by a number that is no atomic rule of
 // the book.
-#[tactic(auto, using(crate::proofs::Numbered::by_number))]
 fn said_of_page(alloc: Global, tree: &Tree, rule: RuleNo) -> Result<Vec<NodeVerdict>, OutOfMemory>
     ensures { IfOk result (λ verdicts. verdicts.items ≡ page_verdicts (said thirty rule) tree.now) }
 {
