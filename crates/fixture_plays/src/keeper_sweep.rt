@@ -2,9 +2,14 @@
 
 use crate::playing::Play;
 use crate::states::{Swept, WHOLE};
+use fixture_failing_keeper::FailingKeeper;
 use fixture_keepers::{Made, Played, failing_store_keeper, memory_keeper};
-use fixture_talks::{End, Kind, Talk, talk_differs};
+use fixture_stores::MemStore;
+use fixture_talks::{End, Kind, Setting, Talk, talk_differs};
 use fixture_words::{Difference, Wrong};
+use keep_core::{Keeper, MemoryKeeper};
+use keep_sql::SqlKeeper;
+use sqlite::Alter;
 use std::thread::Threads;
 
 const FAULT: &[u8] =
@@ -69,6 +74,49 @@ fn plays_so<R: Threads + Sync, K: Played, B: Made>(
     Ok(faults == 0 || swept.keeps(&mut play, swept.talks.len())?)
 }
 
+// The same over this keeper.
+fn fails_over<R: Threads + Sync, K: Keeper + Drop, B: Made>(
+    rt: &R,
+    swept: &Swept<'_>,
+    keeper: FailingKeeper<K>,
+    faults: u64,
+) -> Result<bool, Wrong> {
+    let play = Play::<_, B>::new(swept.alloc, keeper, WHOLE)?;
+    plays_so(rt, swept, play, faults)
+}
+
+// The same over a store, whatever it lies in.
+fn fails_over_store<R: Threads + Sync, S: Alter + Drop, B: Made>(
+    rt: &R,
+    swept: &Swept<'_>,
+    keeper: FailingKeeper<SqlKeeper<S>>,
+    faults: u64,
+) -> Result<bool, Wrong> {
+    fails_over::<R, SqlKeeper<S>, B>(rt, swept, keeper, faults)
+}
+
+fn fails_in_memory<R: Threads + Sync, B: Made>(
+    rt: &R,
+    swept: &Swept<'_>,
+    setting: &Setting,
+    call: u64,
+    faults: u64,
+) -> Result<bool, Wrong> {
+    let keeper = memory_keeper(swept.alloc, setting, call)?;
+    fails_over::<R, MemoryKeeper, B>(rt, swept, keeper, faults)
+}
+
+fn fails_in_store<R: Threads + Sync, B: Made>(
+    rt: &R,
+    swept: &Swept<'_>,
+    setting: &Setting,
+    call: u64,
+    faults: u64,
+) -> Result<bool, Wrong> {
+    let keeper = failing_store_keeper(swept.alloc, setting, call)?;
+    fails_over_store::<R, MemStore, B>(rt, swept, keeper, faults)
+}
+
 fn fails_at<R: Threads + Sync, B: Made>(
     rt: &R,
     swept: &Swept<'_>,
@@ -76,16 +124,10 @@ fn fails_at<R: Threads + Sync, B: Made>(
     call: u64,
     faults: u64,
 ) -> Result<bool, Wrong> {
-    let (alloc, setting) = (swept.alloc, &swept.plot.case.setting);
+    let setting = &swept.plot.case.setting;
     match kind {
-        Kind::Memory => {
-            let keeper = memory_keeper(alloc, setting, call)?;
-            plays_so(rt, swept, Play::<_, B>::new(alloc, keeper, WHOLE)?, faults)
-        }
-        Kind::Store => {
-            let keeper = failing_store_keeper(alloc, setting, call)?;
-            plays_so(rt, swept, Play::<_, B>::new(alloc, keeper, WHOLE)?, faults)
-        }
+        Kind::Memory => fails_in_memory::<R, B>(rt, swept, setting, call, faults),
+        Kind::Store => fails_in_store::<R, B>(rt, swept, setting, call, faults),
     }
 }
 

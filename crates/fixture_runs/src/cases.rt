@@ -1,23 +1,19 @@
 //! Plays a case in each of its ways.
 
 use crate::door_sweep::sweep_door;
+use crate::playing::Outcome;
 use crate::run_sweep::sweep_run;
 use crate::{over_failing, over_store};
 use fixture_keepers::{Made, failing_store_keeper, memory_keeper, store_keeper};
-use fixture_plays::{Play, Swept, Way, sweep_cuts, sweep_keeper, sweep_link, swept_states};
+use fixture_plays::{Swept, Way, sweep_cuts, sweep_keeper, sweep_link, swept_states};
 use fixture_rules::Marks;
+use fixture_stores::MemStore;
 use fixture_talks::{Book, Kind, Plot, Sweep};
 use fixture_words::{Difference, Wrong, bytes_differ};
+use keep_core::MemoryKeeper;
 use rule_book::Thirty;
 use std::alloc::Global;
 use std::thread::Threads;
-
-// What a play came to: all that came back, with what was kept; and the first difference from the script.
-#[derive(Drop)]
-struct Outcome {
-    came: Vec<u8>,
-    difference: Option<Difference>,
-}
 
 fn by_memory<R: Threads + Sync, B: Made>(
     rt: &R,
@@ -26,10 +22,7 @@ fn by_memory<R: Threads + Sync, B: Made>(
     way: Way,
 ) -> Result<Outcome, Wrong> {
     let keeper = memory_keeper(alloc, &plot.case.setting, 0)?;
-    let mut play = Play::<_, B>::new(alloc, keeper, way)?;
-    let difference = over_failing::plot_differs(rt, &mut play, plot)?;
-    let came = play.came;
-    Ok(Outcome { came, difference })
+    over_failing::outcome_of::<R, MemoryKeeper, B>(rt, alloc, keeper, plot, way)
 }
 
 fn by_store<R: Threads + Sync, B: Made>(
@@ -39,10 +32,7 @@ fn by_store<R: Threads + Sync, B: Made>(
     way: Way,
 ) -> Result<Outcome, Wrong> {
     let keeper = store_keeper(alloc, &plot.case.setting)?;
-    let mut play = Play::<_, B>::new(alloc, keeper, way)?;
-    let difference = over_store::plot_differs(rt, &mut play, plot)?;
-    let came = play.came;
-    Ok(Outcome { came, difference })
+    over_store::outcome_of::<R, MemStore, B>(rt, alloc, keeper, plot, way)
 }
 
 fn by_failing_store<R: Threads + Sync, B: Made>(
@@ -52,13 +42,10 @@ fn by_failing_store<R: Threads + Sync, B: Made>(
     way: Way,
 ) -> Result<Outcome, Wrong> {
     let keeper = failing_store_keeper(alloc, &plot.case.setting, 0)?;
-    let mut play = Play::<_, B>::new(alloc, keeper, way)?;
-    let difference = over_failing::plot_differs(rt, &mut play, plot)?;
-    let came = play.came;
-    Ok(Outcome { came, difference })
+    over_store::outcome_of_failing::<R, MemStore, B>(rt, alloc, keeper, plot, way)
 }
 
-fn outcome_of<R: Threads + Sync, B: Made>(
+fn outcome_by<R: Threads + Sync, B: Made>(
     rt: &R,
     alloc: Global,
     plot: Plot<'_>,
@@ -121,7 +108,7 @@ fn kind_differs<R: Threads + Sync, B: Made>(
 ) -> Result<Option<Difference>, Wrong> {
     let ways = ways_of(alloc, plot)?;
     for way in &ways {
-        let outcome = outcome_of::<R, B>(rt, alloc, plot, kind, *way)?;
+        let outcome = outcome_by::<R, B>(rt, alloc, plot, kind, *way)?;
         let difference = differs_so(alloc, plot.case.line, outcome, first)?;
         if difference.is_some() {
             return Ok(difference);

@@ -2,13 +2,13 @@
 
 ghost use Rattle.std.specs.Prelude.{◌≡◌, ◌<◌, None, vec_len};
 
-use crate::playing::{ask_joined, step_differs};
+use crate::playing::{Outcome, ask_joined, step_differs};
 use crate::running::{Ended, door_of, ended_differs, texts};
 use crate::streaming::{Failing, Streams, streams_of};
 use desk_run::run;
 use fixture_failing_keeper::FailingKeeper;
 use fixture_keepers::Made;
-use fixture_plays::Play;
+use fixture_plays::{Play, Way};
 use fixture_talks::{Plot, Run, Step, Talk};
 use fixture_words::{Difference, Wrong};
 use keep_core::Keeper;
@@ -90,8 +90,8 @@ fn any_differs<R: Threads + Sync, K: Keeper + Drop, B: Made>(
     }
 }
 
-/// Plays the head of a script and a case, to the first difference.
-pub(crate) fn plot_differs<R: Threads + Sync, K: Keeper + Drop, B: Made>(
+// The first difference in the head of a script and in a case.
+fn plot_differs<R: Threads + Sync, K: Keeper + Drop, B: Made>(
     rt: &R,
     play: &mut Play<FailingKeeper<K>, B>,
     plot: Plot<'_>,
@@ -104,4 +104,18 @@ pub(crate) fn plot_differs<R: Threads + Sync, K: Keeper + Drop, B: Made>(
         }
     }
     ask_joined(rt, play, &mut joined)
+}
+
+/// Plays the head of a script and a case over a keeper, to the first difference.
+pub(crate) fn outcome_of<R: Threads + Sync, K: Keeper + Drop, B: Made>(
+    rt: &R,
+    alloc: Global,
+    keeper: FailingKeeper<K>,
+    plot: Plot<'_>,
+    way: Way,
+) -> Result<Outcome, Wrong> {
+    let mut play = Play::<_, B>::new(alloc, keeper, way)?;
+    let difference = plot_differs(rt, &mut play, plot)?;
+    let came = play.came;
+    Ok(Outcome { came, difference })
 }

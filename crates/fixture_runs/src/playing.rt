@@ -6,6 +6,13 @@ use fixture_talks::{Step, Talk};
 use fixture_words::{Difference, Wrong};
 use std::thread::Threads;
 
+/// What a play came to: all that came back, with what was kept; and the first difference from the script.
+#[derive(Drop)]
+pub(crate) struct Outcome {
+    pub(crate) came: Vec<u8>,
+    pub(crate) difference: Option<Difference>,
+}
+
 // The talk of a step that may come over one connection with others.
 fn alone(step: &Step) -> Option<&Talk> {
     match step {
