@@ -1,10 +1,12 @@
-//! Tests that cross crates: of what no script says, a request over a socket, a door that is to give no link, and want of
-//! memory. There is no call of its own.
+//! Tests that cross crates: imports, long pages and edits over connections, and a request over a socket. There is no
+//! call of its own.
 #![tactic(auto)]
 
 #[cfg(test)]
-mod doors;
+mod connection;
 #[cfg(test)]
-mod memory;
+mod edits;
+#[cfg(test)]
+mod imports;
 #[cfg(test)]
 mod sockets;
