@@ -1,12 +1,10 @@
-//! Tests that cross crates: imports, long pages and edits over connections, and a request over a socket. There is no
-//! call of its own.
+//! Tests that cross crates: of what no script says, a request over a socket, a door that is to give no link, and want of
+//! memory. There is no call of its own.
 #![tactic(auto)]
 
 #[cfg(test)]
-mod connection;
+mod doors;
 #[cfg(test)]
-mod edits;
-#[cfg(test)]
-mod imports;
+mod memory;
 #[cfg(test)]
 mod sockets;

@@ -1,13 +1,14 @@
 //! The desk over the sockets of the system.
 
-use crate::connection::keeper_failing;
 use desk_http::serve;
+use keep_core::MemoryKeeper;
 use links::Door;
 use rule_book::Thirty;
 use std::io::{Read, Write};
 use std::net::{Ipv4Addr, TcpStream};
 use std::test::Fail;
 use tcp_door::{Patience, TcpDoor};
+use texts::List;
 
 const PUT_SITE: &[u8] =
     b"PUT /sites/acme HTTP/1.1\r\nx-caller: ann\r\ncontent-length: 0\r\nconnection: close\r\n\r\n";
@@ -20,7 +21,7 @@ const SITE_IS_PUT: &[u8] =
 fn a_request_over_tcp_has_its_reply(rt: HostRuntime) -> Result<(), Fail> {
     let alloc = rt.alloc();
     let mut books = [Thirty::new()];
-    let mut keeper = keeper_failing(alloc, &[])?;
+    let mut keeper = MemoryKeeper::new(alloc, List::from_vec(Vec::new(alloc)));
     let mut door = TcpDoor::new(&rt, Patience::usual());
     door.listen(0, 1)?;
     let mut peer = TcpStream::connect(&rt, (Ipv4Addr::LOCALHOST, door.port()))?;

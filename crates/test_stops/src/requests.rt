@@ -1,8 +1,8 @@
 //! Requests that change what is kept, one after another.
 
 use desk_http::serve_link;
-use fixture_requests::link_of;
-use fixture_script::{Kept, kept_of};
+use fixture_kept::{Kept, kept_of};
+use fixture_links::link_of;
 use keep_core::{Keeper, MemoryKeeper};
 use rule_book::Thirty;
 use std::alloc::Global;

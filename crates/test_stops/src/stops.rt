@@ -2,7 +2,7 @@
 
 use crate::disks::{Disks, Stopped, disks_of, has_stopped, new_disks, opened, ways};
 use crate::requests::{REQUESTS, accepted, kept_now, states};
-use fixture_script::{Kept, is_state};
+use fixture_kept::{Kept, is_state};
 use keep_sql::Prepared;
 use sqlite::Files;
 use std::alloc::Global;

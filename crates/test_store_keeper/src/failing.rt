@@ -1,16 +1,13 @@
-//! Which calls fail.
+//! Each call fails until a store is prepared.
 
 ghost use Rattle.std.specs.Prelude.{IfOk};
 ghost use Rattle.keep_core.specs.Fits.{Fits};
 
-use crate::keeping::go;
-use fixture_failing_keeper::FailingKeeper;
-use fixture_sites::Ask::Get;
-use fixture_sites::{Case, KEEPER_FAULT, Unasked, View, named};
-use fixture_stores::{MemStore, ready_keeper, waiting_keeper};
+use fixture_sites::{Unasked, named};
+use fixture_stores::{MemStore, waiting_keeper};
 use keep_core::{Batch, Change, KeepFault, Keeper};
 use keep_sql::SqlKeeper;
-use snap_tree::{List, OutOfMemory, Text};
+use snap_tree::{OutOfMemory, Text};
 use std::alloc::Global;
 use std::test::Fail;
 
@@ -78,137 +75,4 @@ fn each_call_fails_until_the_store_is_prepared(rt: HostRuntime) -> Result<(), Fa
         true => Ok(()),
         false => Err(Fail::from("a call")),
     }
-}
-
-// Whether the call of this number alone fails, of a keeper behind one that fails it.
-fn fails_alone(alloc: Global, number: u64) -> Result<bool, Fail> {
-    let fails = List::from_vec(Vec::from_slice(alloc, &[number])?);
-    let mut keeper = FailingKeeper::new(ready_keeper(alloc)?, fails);
-    let wanted = [
-        number == 1,
-        number == 2,
-        number == 3,
-        number == 4,
-        number == 5,
-    ];
-    Ok(failing(alloc, &mut keeper)? == wanted)
-}
-
-#[test]
-fn the_call_that_a_list_names_fails_alone(rt: HostRuntime) -> Result<(), Fail> {
-    for number in 1..7 {
-        if !fails_alone(rt.alloc(), number)? {
-            return Err(Fail::from(number));
-        }
-    }
-    Ok(())
-}
-
-// A site with a member and a page, and a judgement and an outcome of that, which all read. The snapshot, in hexadecimal, is
-// that of a heading alone: {"url":"https://example.org/","nodes":[{"n":1,"p":null,"tag":"h1"}]}.
-const ROWS: &str =
-    "INSERT INTO sites (name, counter) VALUES ('acme', 1); INSERT INTO members (site, user, role) VALUES ('acme', 'ann', 0); INSERT INTO pages (site, page, rev, hand, snapshot) VALUES ('acme', 'home', 1, 'ann', x'7b2275726c223a2268747470733a2f2f6578616d706c652e6f72672f222c226e6f646573223a5b7b226e223a312c2270223a6e756c6c2c22746167223a226831227d5d7d'); INSERT INTO judgements (site, page, seq, rule, node, verdict, hand, note, evidence) VALUES ('acme', 'home', 1, 16, 1, 0, 'bob', '', 'heading'); INSERT INTO outcomes (site, page, seq, rule, node, auto, reason, evidence, last, hand) VALUES ('acme', 'home', 1, 16, 1, 2, 'judge-heading', 'heading', 0, 'bob')";
-
-// One byte, which is no snapshot.
-const NO_SNAPSHOT: &str = "UPDATE pages SET snapshot = x'78'";
-
-// What is changed of those rows, and which calls fail then.
-static CHANGED: [(&str, Failing); 19] = [
-    ("", NONE),
-    ("UPDATE sites SET counter = 9223372036854775807", NONE),
-    (
-        "UPDATE sites SET counter = -1",
-        [true, false, false, false, false],
-    ),
-    (
-        "UPDATE members SET role = 4",
-        [true, false, false, false, false],
-    ),
-    (
-        "UPDATE members SET user = 'Ann'",
-        [true, false, false, false, false],
-    ),
-    (
-        "UPDATE pages SET rev = -1",
-        [false, true, true, false, false],
-    ),
-    (
-        "UPDATE pages SET page = 'Home'",
-        [false, false, true, false, false],
-    ),
-    (NO_SNAPSHOT, [false, true, false, false, false]),
-    (
-        "UPDATE judgements SET seq = 2",
-        [false, false, false, true, false],
-    ),
-    (
-        "UPDATE judgements SET rule = 65536",
-        [false, false, false, true, false],
-    ),
-    (
-        "UPDATE judgements SET node = 4294967296",
-        [false, false, false, true, false],
-    ),
-    (
-        "UPDATE judgements SET verdict = 3",
-        [false, false, false, true, false],
-    ),
-    (
-        "UPDATE outcomes SET seq = 0",
-        [false, false, false, false, true],
-    ),
-    (
-        "UPDATE outcomes SET rule = -1",
-        [false, false, false, false, true],
-    ),
-    (
-        "UPDATE outcomes SET node = -1",
-        [false, false, false, false, true],
-    ),
-    (
-        "UPDATE outcomes SET auto = 3",
-        [false, false, false, false, true],
-    ),
-    (
-        "UPDATE outcomes SET last = -1",
-        [false, false, false, false, true],
-    ),
-    (
-        "UPDATE outcomes SET reason = 'boredom'",
-        [false, false, false, false, true],
-    ),
-    (
-        "INSERT INTO outcomes (site, page, seq, rule, node, auto, reason, evidence, last, hand) VALUES ('acme', 'home', 3, 16, 2, 2, 'judge-heading', 'heading', 2, '')",
-        [false, false, false, false, true],
-    ),
-];
-
-// A keeper that is prepared over those rows, changed so.
-fn keeper_of(alloc: Global, changed: &str) -> Result<SqlKeeper<MemStore>, Fail> {
-    let mut keeper = waiting_keeper(alloc, true, &[ROWS, changed])?;
-    keeper.prepare(alloc)?;
-    Ok(keeper)
-}
-
-fn fails_so(alloc: Global, changed: &str, wanted: Failing) -> Result<bool, Fail> {
-    let mut keeper = keeper_of(alloc, changed)?;
-    Ok(failing(alloc, &mut keeper)? == wanted)
-}
-
-#[test]
-fn calls_fail_of_rows_that_do_not_read(rt: HostRuntime) -> Result<(), Fail> {
-    for (changed, wanted) in CHANGED.as_slice() {
-        if !fails_so(rt.alloc(), changed, *wanted)? {
-            return Err(Fail::from(*changed));
-        }
-    }
-    Ok(())
-}
-
-static ASKED: [Case; 1] = [("ann", "acme", Get(View::Page, "home"), KEEPER_FAULT)];
-
-#[test]
-fn a_page_that_does_not_read_is_a_fault_of_the_keeper(rt: HostRuntime) -> Result<(), Fail> {
-    let mut keeper = keeper_of(rt.alloc(), NO_SNAPSHOT)?;
-    go(&rt, rt.alloc(), &mut keeper, ASKED.as_slice())
 }

@@ -1,0 +1,28 @@
+ghost use Rattle.std.specs.Prelude.{IfOk};
+ghost use Rattle.links.specs.Memory.{IsUntouchedLink};
+
+use links::MemLink;
+use std::alloc::Global;
+use texts::{List, OutOfMemory};
+
+// Room for what is written to a link, and how many reads it allows.
+const ROOM: usize = 100_000;
+
+const MOST_READS: u64 = 1_000_000;
+
+/// A link that brings these bytes, so many in a read, none of whose calls fails. It has room for 100,000 bytes. Fails only
+/// for want of memory.
+pub fn link_of(alloc: Global, bytes: &[u8], piece: usize) -> Result<MemLink, OutOfMemory>
+    ensures { IfOk result IsUntouchedLink }
+{
+    let bytes = Vec::from_slice(alloc, bytes)?;
+    let none = Vec::new(alloc);
+    MemLink::new(
+        alloc,
+        List::from_vec(bytes),
+        piece,
+        ROOM,
+        MOST_READS,
+        List::from_vec(none),
+    )
+}
