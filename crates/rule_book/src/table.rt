@@ -37,70 +37,80 @@ const BLOCKS_CAN_BE_BYPASSED: RuleInfo = RuleInfo {
     ],
 };
 
-// The atomic rules in the order of their numbers, to what is made of them.
-macro_rules! atomic_rules {
+// The rules in the order of their numbers, for what is made of them: atomic ones, and then the composite ones whose
+// numbers follow theirs, as often as that changes.
+macro_rules! rules {
     ($made:ident $given:tt) => {
         $made!($given
-            PageHasTitle,
-            TitleIsDescriptive,
-            PageHasLang,
-            LanguageIsKnown,
-            LanguageOfPartIsKnown,
-            ViewportAllowsZoom,
-            PageHasNoDelay,
-            ButtonHasName,
-            LinkHasName,
-            ImageHasName,
-            ImageButtonHasName,
-            FormFieldHasName,
-            IframeHasName,
-            HeadingHasName,
-            SvgImageHasName,
-            HeadingIsDescriptive,
-            AutocompleteIsValid,
-            RoleIsValid,
-            AriaAttributeIsDefined,
-            AriaValueIsValid,
-            HasRequiredStates,
-            OwnsRequiredElements,
-            HiddenHoldsNoFocus,
-            HeadersReferToCells,
-            HeaderHasCells,
-            HasHeadingToStart,
-            HasLandmark,
-            HasSkipLink,
-            HasCollapse,
+            {
+                PageHasTitle,
+                TitleIsDescriptive,
+                PageHasLang,
+                LanguageIsKnown,
+                LanguageOfPartIsKnown,
+                ViewportAllowsZoom,
+                PageHasNoDelay,
+                ButtonHasName,
+                LinkHasName,
+                ImageHasName,
+                ImageButtonHasName,
+                FormFieldHasName,
+                IframeHasName,
+                HeadingHasName,
+                SvgImageHasName,
+                HeadingIsDescriptive,
+                AutocompleteIsValid,
+                RoleIsValid,
+                AriaAttributeIsDefined,
+                AriaValueIsValid,
+                HasRequiredStates,
+                OwnsRequiredElements,
+                HiddenHoldsNoFocus,
+                HeadersReferToCells,
+                HeaderHasCells,
+                HasHeadingToStart,
+                HasLandmark,
+                HasSkipLink,
+                HasCollapse,
+            }
+            (BLOCKS_CAN_BE_BYPASSED)
         )
     };
 }
 
-macro_rules! with_infos {
-    (($($composite:ident),*) $($rule:ident,)*) => {
-        &[$($rule::INFO,)* $($composite),*]
+macro_rules! infos_of {
+    (() $({ $($rule:ident,)* } ($($composite:ident),*))*) => {
+        &[$($($rule::INFO,)* $($composite,)*)*]
+    };
+}
+
+macro_rules! composites_of {
+    (() $({ $($rule:ident,)* } ($($composite:ident),*))*) => {
+        &[$($($composite,)*)*]
     };
 }
 
 macro_rules! on_node {
-    (($number:ident, $alloc:ident, $tree:ident, $n:ident) $($rule:ident,)*) => {
+    (($number:ident, $alloc:ident, $tree:ident, $n:ident) $({ $($rule:ident,)* } $composites:tt)*) => {
         match $number.0 {
-            $($rule::NO => $rule.judge($alloc, $tree, $n),)*
+            $($($rule::NO => $rule.judge($alloc, $tree, $n),)*)*
             _ => Ok(None),
         }
     };
 }
 
 macro_rules! on_page {
-    (($number:ident, $alloc:ident, $tree:ident) $($rule:ident,)*) => {
+    (($number:ident, $alloc:ident, $tree:ident) $({ $($rule:ident,)* } $composites:tt)*) => {
         match $number.0 {
-            $($rule::NO => on_page_by(&$rule, $alloc, $tree, $number),)*
+            $($($rule::NO => on_page_by(&$rule, $alloc, $tree, $number),)*)*
             _ => Ok(Vec::new($alloc)),
         }
     };
 }
 
-static INFOS: &[RuleInfo] = atomic_rules!(with_infos(BLOCKS_CAN_BE_BYPASSED));
+static INFOS: &[RuleInfo] = rules!(infos_of());
 
-static COMPOSITES: &[RuleInfo] = &[BLOCKS_CAN_BE_BYPASSED];
+static COMPOSITES: &[RuleInfo] = rules!(composites_of());
 
 /// What the rules say of themselves, in the order of their numbers.
 pub fn infos() -> &'static [RuleInfo]
@@ -125,7 +135,7 @@ pub fn said(
 ) -> Result<Option<Verdict>, OutOfMemory>
     ensures { IfOk result (λ verdict. verdict ≡ said thirty rule tree.now n) }
 {
-    atomic_rules!(on_node(rule, alloc, tree, n))
+    rules!(on_node(rule, alloc, tree, n))
 }
 
 // What a rule says of a page, where the book says by this number what the rule does.
@@ -151,5 +161,5 @@ pub fn said_of_page(
 ) -> Result<Vec<NodeVerdict>, OutOfMemory>
     ensures { IfOk result (λ verdicts. verdicts.items ≡ page_verdicts (said thirty rule) tree.now) }
 {
-    atomic_rules!(on_page(rule, alloc, tree))
+    rules!(on_page(rule, alloc, tree))
 }
