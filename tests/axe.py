@@ -9,8 +9,8 @@ from typing import Any
 from .support import ROOT, note
 
 # The first is where tools/axe-core writes it.
-PLACES = (f"{ROOT}/build/axe.min.js", "node_modules/axe-core/axe.min.js", "/usr/share/nodejs/axe-core/axe.min.js", "/usr/lib/node_modules/axe-core/axe.min.js",
-          "/usr/local/lib/node_modules/axe-core/axe.min.js")
+PLACES = (f"{ROOT}/build/axe.min.js", "node_modules/axe-core/axe.min.js", "/usr/share/nodejs/axe-core/axe.min.js",
+          "/usr/lib/node_modules/axe-core/axe.min.js", "/usr/local/lib/node_modules/axe-core/axe.min.js")
 RUN = """
 const done = arguments[0];
 axe.run().then(({ violations }) => done(violations.map((one) => `${one.id}: ${one.nodes[0].target}`)), (error) => done([String(error)]));
