@@ -57,6 +57,8 @@ def test_uncut(browser: Any) -> None:
             ("a script that is shown", f"<script style='display:block'>//{long}</script>", "in node 4 (script)"),
             ("a script in what names a link", f"<div id=a hidden><script>//{long}</script>Text</div><a href=#a aria-labelledby='b a'>x</a>",
              "in node 5 (script)"),
+            ("a script in what a list owns", f"<div id=a hidden><script>//{long}</script>Text</div><div role=list aria-owns='b a'></div>",
+             "in node 5 (script)"),
             ("a style in a label", f"<label hidden><style>/*{long}*/</style>Text<input></label>", "in node 5 (style)")):
         with page(body) as path:
             refused_here(browser, f"{what} refuses the page", End.LIMIT, line, path, *WRITTEN)
