@@ -126,46 +126,6 @@ def found_words():
     return listing("aria-labelledby", " ".join("a" * 32_000), count=3)
 
 
-def owned_lists():
-    """Lists that all own one list of ten items."""
-    page, body = begun()
-    items = page.element(body, "div", [("id", "a")])
-    for _ in range(10):
-        page.element(items, "div", [("role", "listitem")])
-    for _ in range(9_000):
-        page.element(body, "div", [("role", "list"), ("aria-owns", "a")])
-    return page
-
-
-def owning_each_other():
-    """Buttons in a ring, each with a long text and owning the next one, and so many lists in another ring."""
-    page, body = begun()
-    for number in range(120):
-        button = page.element(body, "button", [("id", f"b{number}"), ("aria-owns", f"b{(number + 1) % 120}")], "rvft")
-        page.words(button, "a" * 50_000)
-    for number in range(120):
-        page.element(body, "div", [("role", "list"), ("id", f"l{number}"), ("aria-owns", f"l{(number + 1) % 120}")])
-    return page
-
-
-def owning_many_words(words, ids):
-    """A button, deep in other elements, that owns by these words, and elements with these ids."""
-    page, body = begun()
-    page.element(nested(page, body, ["div"], HEIGHT), "button", [("aria-owns", words)], "rvft")
-    for name in ids:
-        page.element(body, "p", [("id", name)])
-    return page
-
-
-def owned_by_names():
-    """Buttons without a text of their own that all own one text."""
-    page, body = begun()
-    page.words(page.element(body, "p", [("id", "a")]), "a" * 600)
-    for _ in range(9_000):
-        page.element(body, "button", [("aria-owns", "a")], "rvft")
-    return page
-
-
 def below_long_roles():
     """Nested tables whose roles are long lists of unknown words, and leaves below them."""
     page, inner = begun()
@@ -365,11 +325,6 @@ PAGES = [
     (lambda: listing("aria-labelledby", repeated("x")), 2, "aria-labelledby, 120 long lists, none found"),
     (lambda: listing("aria-describedby", repeated("x")), 2, "aria-describedby, 120 long lists, none found"),
     (lambda: listing("aria-owns", repeated("x")), 2, "aria-owns, 120 long lists, none found"),
-    (owned_lists, 2, "9,000 lists that own one list of ten items"),
-    (owning_each_other, 2, "120 buttons, and 120 lists, that own each other"),
-    (lambda: owning_many_words(" ".join("a" * 32_000), "a"), 2, "a button that owns one element by 32,000 words"),
-    (lambda: owning_many_words(" ".join(ids(9_000)), ids(9_000)), 2, "a button that owns 9,000 elements"),
-    (owned_by_names, 2, "9,000 buttons that own one text"),
     (lambda: listing("aria-flowto", repeated("x")), 2, "aria-flowto, 120 long lists, none found"),
     (lambda: listing("aria-controls", repeated("a")), 2, "aria-controls, 120 long lists, all found"),
     (lambda: listing("aria-relevant", repeated("all")), 2, "aria-relevant, 120 long lists"),

@@ -14,7 +14,7 @@ pub(crate) enum Key<'a> {
     Tagged(&'a str),
 }
 
-static LOOKED_AT: [&str; 24] = [
+static LOOKED_AT: [&str; 25] = [
     "alt",
     "autocomplete",
     "colspan",
@@ -39,6 +39,7 @@ static LOOKED_AT: [&str; 24] = [
     "title",
     "type",
     "value",
+    "xml:lang",
 ];
 
 fn is_looked_at(name: &str) -> bool {
