@@ -4,3 +4,5 @@ pub mod Sighting
 pub mod Asking
 pub mod Finding
 pub mod Tagging
+pub mod Nearest
+pub mod Once
