@@ -1,9 +1,10 @@
-//! Pages at random, each with edits at random: the audit after the edits has the outcomes of a full one, and judges the
-//! pairs of a rule and a node that a plain program finds affected.
+//! Pages at random on which an element owns others by aria-owns, each with edits at random, and with a list of language
+//! subtags before and after: the audit after the edits has the outcomes of a full one, and judges the pairs of a rule and a
+//! node that a plain program finds affected.
 
 ghost use Rattle.std.specs.Prelude.{◌≡◌, IfOk, IfSome};
 
-use crate::again::audited_again;
+use crate::again::{audited_again, with_langs};
 use crate::judged::affected;
 use fixture_dice::Dice;
 use fixture_pages::{facts, page_in, row_in};
@@ -21,18 +22,35 @@ const MOST_NODES: u32 = 14;
 
 const MOST_EDITS: u64 = 3;
 
+// What a page begins with: a root, and an element that owns others where their ids are there.
+static ROOTS: [&str; 3] = ["1 0 html", "1 0 html lang=gsw-CH", "1 0 html lang=xxx"];
+
+static OWNERS: [&str; 6] = [
+    "2 1 div role=list aria-owns=a~b",
+    "2 1 button aria-owns=b~a~b",
+    "2 1 h2 id=a aria-owns=b",
+    "2 1 a href=/x aria-owns=a",
+    "2 1 label for=a aria-owns=b",
+    "2 1 div role=list id=b aria-owns=c~a",
+];
+
 static TAGS: [&str; 16] = [
     "p", "div", "button", "a", "h2", "label", "input", "table", "tr", "td", "th", "title", "meta",
     "img", "main", "svg:svg",
 ];
 
-static ATTRIBUTES: [&str; 24] = [
+static ATTRIBUTES: [&str; 28] = [
     "id=a",
+    "id=a",
+    "id=a",
+    "id=b",
+    "id=b",
     "id=b",
     "aria-labelledby=a",
     "aria-labelledby=a~b",
     "aria-describedby=b",
-    "aria-owns=c",
+    "aria-owns=a",
+    "aria-owns=b~a",
     "for=a",
     "alt=x",
     "title=t",
@@ -42,19 +60,19 @@ static ATTRIBUTES: [&str; 24] = [
     "aria-hidden=true",
     "aria-label=n",
     "aria-expanded=true",
-    "lang=xx",
+    "lang=gsw",
     "href=/x",
     "class=c",
     "headers=a",
     "scope=col",
-    "http-equiv=refresh",
-    "content=5",
+    "http-equiv=refresh content=5",
     "type=image",
     "autocomplete=name",
 ];
 
 // Names and values of attributes that edits set and take out.
-static NAMES: [&str; 12] = [
+static NAMES: [&str; 15] = [
+    "id",
     "id",
     "aria-labelledby",
     "for",
@@ -62,14 +80,21 @@ static NAMES: [&str; 12] = [
     "role",
     "aria-hidden",
     "lang",
+    "xml:lang",
     "href",
     "class",
     "headers",
     "content",
     "aria-owns",
+    "aria-owns",
 ];
 
-static VALUES: [&str; 8] = ["a", "b", "a b", "true", "list", "xx", "5", ""];
+static VALUES: [&str; 10] = [
+    "a", "b", "a b", "b c a", "true", "list", "gsw", "xx", "5", "",
+];
+
+// Lists of language subtags, with a space between.
+static LANGS: [&str; 4] = ["", "gsw", "xxx", "gsw xxx"];
 
 static WORDS: [&str; 4] = ["One", "Two", "Go", ""];
 
@@ -101,10 +126,13 @@ fn last_of(open: &[u32]) -> u32 {
 
 // A page's text: each node stands below the last element before it, or below one that is above that.
 fn page_text(alloc: Global, dice: &mut Dice) -> Result<String, AllocError> {
-    let mut text = String::from_str(alloc, "1 0 html")?;
+    let root = dice.pick(&ROOTS, "1 0 html");
+    let owner = dice.pick(&OWNERS, "2 1 p");
+    let mut text = format!(in alloc; "{root};{owner}")?;
     let mut open = Vec::new(alloc);
     open.push(1)?;
-    for n in 2..MOST_NODES {
+    open.push(2)?;
+    for n in 3..MOST_NODES {
         let depth = dice.below(open.len() as u64);
         open.truncate((depth as usize).saturating_add(1));
         let row = row_text(alloc, dice, n, last_of(open.as_slice()))?;
@@ -196,14 +224,25 @@ fn edits(alloc: Global, dice: &mut Dice, old: &Tree) -> Result<Vec<Edit>, Fail> 
     Ok(edits)
 }
 
+// The page at a site that accepts one of the lists of language subtags; as it is in one of two cases.
+fn spoken(alloc: Global, dice: &mut Dice, page: Tree) -> Result<Tree, Fail>
+    ensures { IfOk result (λ t. t.address ≡ page.address) }
+{
+    if dice.below(2) == 0 {
+        return Ok(page);
+    }
+    with_langs(alloc, page, dice.pick(&LANGS, ""))
+}
+
 // Whether a page was edited; fails where the audit after that isn't as it has to be.
 fn is_edited(alloc: Global, dice: &mut Dice) -> Result<bool, Fail> {
     let text = page_text(alloc, dice)?;
-    let old = page_in(alloc, text.as_str())?;
+    let old = spoken(alloc, dice, page_in(alloc, text.as_str())?)?;
     let edits = edits(alloc, dice, &old)?;
     let Some(new) = edited(alloc, &old, edits.as_slice())? else {
         return Ok(false);
     };
+    let new = spoken(alloc, dice, new)?;
     let (cost, same) = audited_again(alloc, &old, &new)?;
     if same & (cost == affected(alloc, &old, &new)?) {
         Ok(!edits.is_empty())

@@ -1,7 +1,7 @@
+use crate::again::versions;
 use crate::judged::{compared, info_of, keeps, whole};
 use crate::reach::{Less, Place};
-use fixture_pages::page_in;
-use rule_core::Class::{SelfOnly, Title};
+use rule_core::Class::{SelfOnly, Sub, Title};
 use snap_tree::NodeId;
 use std::alloc::Global;
 use std::test::Fail;
@@ -10,7 +10,7 @@ use std::test::Fail;
 // then says another thing although the pages agree on the smaller reach.
 type Smaller = (u16, Less, &'static str, &'static str, u32);
 
-static ON_PAGES: [Smaller; 11] = [
+static ON_PAGES: [Smaller; 13] = [
     (
         1,
         Less::Expects(SelfOnly),
@@ -27,6 +27,20 @@ static ON_PAGES: [Smaller; 11] = [
     ),
     (3, Less::Frame, "1 0 html lang=en", "1 0 body lang=en", 1),
     (4, Less::Frame, "1 0 html lang=en", "1 0 body lang=en", 1),
+    (
+        4,
+        Less::Expects(SelfOnly),
+        "1 0 html lang=gsw-CH",
+        "gsw@1 0 html lang=gsw-CH",
+        1,
+    ),
+    (
+        5,
+        Less::Expects(Sub),
+        "haw@1 0 html;2 1 p lang=gsw;3 2 #Hoi",
+        "haw gsw@1 0 html;2 1 p lang=gsw;3 2 #Hoi",
+        2,
+    ),
     (
         5,
         Less::Applies(SelfOnly),
@@ -58,7 +72,7 @@ const STILL: &str = "1 0 html;2 1 button";
 
 const STOP: &str = "1 0 html;2 1 button !rvft";
 
-static ON_NAMES: [Smaller; 13] = [
+static ON_NAMES: [Smaller; 14] = [
     (
         8,
         Less::Expects(SelfOnly),
@@ -78,6 +92,13 @@ static ON_NAMES: [Smaller; 13] = [
         Less::LostIds,
         "1 0 html;2 1 button aria-labelledby=q;3 1 p;4 3 #Find",
         "1 0 html;2 1 button aria-labelledby=q;3 1 p id=q;4 3 #Find",
+        2,
+    ),
+    (
+        8,
+        Less::LostIds,
+        "1 0 html;2 1 button aria-owns=q;3 1 p;4 3 #Find",
+        "1 0 html;2 1 button aria-owns=q;3 1 p id=q;4 3 #Find",
         2,
     ),
     (
@@ -152,7 +173,7 @@ static ON_NAMES: [Smaller; 13] = [
     ),
 ];
 
-static ON_ARIA: [Smaller; 10] = [
+static ON_ARIA: [Smaller; 11] = [
     (
         17,
         Less::Own,
@@ -217,6 +238,13 @@ static ON_ARIA: [Smaller; 10] = [
         2,
     ),
     (
+        22,
+        Less::LostIds,
+        "1 0 html;2 1 p role=list aria-owns=q;3 1 p role=listitem",
+        "1 0 html;2 1 p role=list aria-owns=q;3 1 p role=listitem id=q",
+        2,
+    ),
+    (
         23,
         Less::Expects(SelfOnly),
         "1 0 html;2 1 p aria-hidden=true;3 2 button",
@@ -244,8 +272,7 @@ static ON_TABLES: [Smaller; 2] = [
 
 fn is_too_small(alloc: Global, case: &Smaller) -> Result<bool, Fail> {
     let (number, less, before, after, n) = *case;
-    let old = page_in(alloc, before)?;
-    let new = page_in(alloc, after)?;
+    let (old, new) = versions(alloc, before, after)?;
     let Some(info) = info_of(number) else {
         return Ok(false);
     };

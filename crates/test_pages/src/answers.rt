@@ -16,7 +16,7 @@
 //! | `aria N`, `looked N`, `sight N ..` | the attributes `aria-`; title, alt and aria-owns; whether it is such a node |
 //! | `cells N` | where the cells of a table are placed |
 //! | `tagged TAG`, `id ".."`, `find ".."` | the nodes of a tag, of an id, of the words of a reference |
-//! | `nodes`, `address` | the number of nodes, the address |
+//! | `nodes`, `address`, `languages` | the number of nodes, the address, the language subtags that the page's site accepts |
 //! | `sent`, `rows`, `built`, `kept`, `written` | what is said of bytes as a snapshot, as a list of rows, as a page, as kept ones; how they are written |
 //! | `evidence`, `digest`, `reason`, `finding`, `inputs`, `merge`, `final` | what becomes of outcomes |
 //! | `tidy`, `word`, `number`, `web-address`, `table ..`, `made-pages SEED COUNT` | texts, numbers, addresses, ARIA's tables, made pages |
@@ -25,7 +25,7 @@
 
 use crate::aria::from_table;
 use crate::judgings::{digested, evidence, finally, finding, kind_of_inputs, merged, reason};
-use crate::looks::{cells, looked_up, page_lines};
+use crate::looks::{cells, languages, looked_up, page_lines};
 use crate::rules::{book, judge, rule, table};
 use crate::snapshots::read;
 use crate::sources::State;
@@ -45,6 +45,7 @@ pub(crate) fn answer(
         "refused" => one(alloc, String::from_str(alloc, state.refused())?),
         "rules" => table(alloc),
         "gives" => page_lines(alloc, state.tree()?),
+        "languages" => languages(alloc, state.tree()?),
         "rule" => rule(alloc, state.tree()?, rest),
         "cells" => cells(alloc, state.tree()?, rest),
         "book" => book(alloc, state.tree()?),

@@ -258,3 +258,13 @@ pub(crate) fn page_lines(alloc: Global, tree: &Tree) -> Result<Vec<String>, Trou
     }
     Ok(lines)
 }
+
+/// The language subtags that a copy of a page has, each a line.
+pub(crate) fn languages(alloc: Global, tree: &Tree) -> Result<Vec<String>, Trouble> {
+    let copy = tree.copy()?;
+    let mut lines = Vec::new(alloc);
+    for lang in copy.langs().as_slice() {
+        lines.push(String::from_str(alloc, lang.as_str())?)?;
+    }
+    Ok(lines)
+}

@@ -4,6 +4,7 @@
 //! |---|---|
 //! | `page` | the page of the lines below it |
 //! | `made SEED N` | a page that is made for trials |
+//! | `accepts` | the page at a site that accepts language subtags, of which each is a line |
 //! | `edits` | the page after `set 2 class "x y"`, `drop 2 class`, `text 6 "Go"`, `facts 5 rv` or `none`, `remove 7`, `move 5 to 7 at 1`, `insert in 2 at 0` with rows below it; each list begins with the page of the case |
 //! | `json`, `hex`, `spaces N` | bytes: a text, hexadecimal digits, so many spaces |
 //! | `read` | the page that the bytes are |
@@ -21,7 +22,7 @@ use made_pages::made_page;
 use rule_core::LastLong;
 use snap_edit::{EditFault, EditKind, apply};
 use snap_json::read_snapshot;
-use snap_tree::{BuildFault, List, Raw, Row, Text, Tree};
+use snap_tree::{BuildFault, List, Raw, Row, Text, Tree, langs_fault};
 use std::alloc::Global;
 
 /// The address of each page that is written as lines.
@@ -69,6 +70,7 @@ impl State {
                 let (seed, page) = cut(rest, ' ');
                 self.build(made_page(self.alloc, number(seed)?, number(page)?)?)?;
             }
+            "accepts" => self.accept(step.block.as_slice())?,
             "edits" => self.edit(step.block.as_slice())?,
             "json" => self.send(step.block.as_slice(), false)?,
             "hex" => self.send(step.block.as_slice(), true)?,
@@ -146,6 +148,27 @@ impl State {
         match read_snapshot(self.alloc, self.bytes.as_slice()) {
             Ok(tree) => self.page = Some(tree),
             Err(_) => return Err(Trouble::NoPage),
+        }
+        Ok(())
+    }
+
+    fn accept(&mut self, lines: &[Line]) -> Result<(), Trouble> {
+        let mut langs = Vec::new(self.alloc);
+        for line in lines {
+            langs.push(Text::from_str(self.alloc, line.text.as_str())?)?;
+        }
+        let langs = List::from_vec(langs);
+        let Some(page) = &self.page else {
+            return Err(Trouble::NoPage);
+        };
+        self.edited = None;
+        self.refused = String::new(self.alloc);
+        match langs_fault(&langs) {
+            None => {
+                let page = page.with_langs(self.alloc, &langs)?;
+                self.page = Some(page);
+            }
+            Some(place) => self.refused = format!(in self.alloc; "language {place}")?,
         }
         Ok(())
     }
