@@ -74,6 +74,7 @@ pub fn edited<B: RuleBook>(
     requires some { 0 < length books.old }
     requires room { counter < MOST_REVISION }
     requires address { kept.now.page.tree.address ≡ tree.address }
+    requires langs { kept.now.page.tree.langs ≡ tree.langs }
     requires names { AreNames sent.site sent.page }
     requires fits { FitsPage kept.now.page }
     ensures decided { IsTrueTo B.book kept.now → Agrees ⊥ result
