@@ -32,6 +32,9 @@ put_page-requires-clause-address g c = (fits_at c.in-PutPage.is c.requires.fits)
 pub returns-in-PutPage-clause-counted : goal.returns-in-PutPage-clause-counted
 returns-in-PutPage-clause-counted g c = costs_at c.in-PutPage.is (costs_put _ _ _ _ _ _ _ _ _ c.put_page.ensures.costs.counted)
 
+pub returns-in-PutPage-clause-others : goal.returns-in-PutPage-clause-others
+returns-in-PutPage-clause-others g c = λ no. c.put_page.ensures.costs.others
+
 pub returns-in-DropPage-clause-decided : goal.returns-in-DropPage-clause-decided
 returns-in-DropPage-clause-decided g c = decides_at c.in-DropPage.is (c.drop_page.ensures _)
 
