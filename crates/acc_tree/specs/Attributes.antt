@@ -42,7 +42,7 @@ looked_at_names =
     codes "for" ∷ codes "headers" ∷ codes "href" ∷ codes "http-equiv" ∷ codes "id" ∷
     codes "label" ∷ codes "lang" ∷ codes "list" ∷ codes "multiple" ∷ codes "name" ∷
     codes "placeholder" ∷ codes "role" ∷ codes "rowspan" ∷ codes "scope" ∷ codes "selected" ∷
-    codes "size" ∷ codes "title" ∷ codes "type" ∷ codes "value" ∷ []
+    codes "size" ∷ codes "title" ∷ codes "type" ∷ codes "value" ∷ codes "xml:lang" ∷ []
 
 -- a folded name begins `aria-`
 abbrev pub begins_aria : List ℕ → Bool
