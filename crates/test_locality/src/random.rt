@@ -42,7 +42,7 @@ static ATTRIBUTES: [&str; 24] = [
     "aria-hidden=true",
     "aria-label=n",
     "aria-expanded=true",
-    "lang=xx",
+    "lang=gsw",
     "href=/x",
     "class=c",
     "headers=a",
@@ -69,7 +69,7 @@ static NAMES: [&str; 12] = [
     "aria-owns",
 ];
 
-static VALUES: [&str; 8] = ["a", "b", "a b", "true", "list", "xx", "5", ""];
+static VALUES: [&str; 8] = ["a", "b", "a b", "true", "list", "gsw", "5", ""];
 
 static WORDS: [&str; 4] = ["One", "Two", "Go", ""];
 
@@ -100,7 +100,7 @@ fn last_of(open: &[u32]) -> u32 {
 }
 
 // A page's text: each node stands below the last element before it, or below one that is above that.
-fn page_text(alloc: Global, dice: &mut Dice) -> Result<String, AllocError> {
+pub(crate) fn page_text(alloc: Global, dice: &mut Dice) -> Result<String, AllocError> {
     let mut text = String::from_str(alloc, "1 0 html")?;
     let mut open = Vec::new(alloc);
     open.push(1)?;
@@ -174,7 +174,7 @@ fn edit(alloc: Global, dice: &mut Dice) -> Result<Edit, Fail> {
 }
 
 // The page after edits; None where they can't be carried out.
-fn edited(alloc: Global, old: &Tree, edits: &[Edit]) -> Result<Option<Tree>, OutOfMemory>
+pub(crate) fn edited(alloc: Global, old: &Tree, edits: &[Edit]) -> Result<Option<Tree>, OutOfMemory>
     ensures { IfOk result (λ new. IfSome new (λ t. t.address ≡ old.now.address)) }
 {
     match apply(alloc, old, edits) {
@@ -185,7 +185,7 @@ fn edited(alloc: Global, old: &Tree, edits: &[Edit]) -> Result<Option<Tree>, Out
 }
 
 // Edits that can be carried out.
-fn edits(alloc: Global, dice: &mut Dice, old: &Tree) -> Result<Vec<Edit>, Fail> {
+pub(crate) fn edits(alloc: Global, dice: &mut Dice, old: &Tree) -> Result<Vec<Edit>, Fail> {
     let mut edits = Vec::new(alloc);
     for _ in 0..=dice.below(MOST_EDITS) {
         edits.push(edit(alloc, dice)?)?;
