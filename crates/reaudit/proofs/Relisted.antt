@@ -1,7 +1,7 @@
 -- Where pages differ in their lists of language subtags alone, a rule whose applicability doesn't look at the list has rows on
 -- the same nodes at the most, and only those are to be judged of which its expectations look at it.
 use Rattle.std.proofs.Common.{◌≡◌, ◌≤◌, ◌<◌, ◌+◌, ◌&&◌, ◌||◌, not, ℕ, List, [], ◌∷◌, length, map, filter, take, Bool, true, false, if◌then◌else◌, Option, Some, None, option_map, IfSome, refl, sym, ◌∙◌, ap, subst, arith}
-use Rattle.std.proofs.lemmas.List.{length-take, length-take-le}
+use Rattle.std.proofs.lemmas.List.{length-take, length-take-le, take_all}
 use Rattle.std.proofs.lemmas.List.Folds.{list_all-append}
 use Rattle.std.specs.List.{filter_map, cons_option}
 use Rattle.std.specs.Option.{is_some}
@@ -96,18 +96,12 @@ same_there info says local old new versions are off n rest =
 
 -- ---- its rows
 
-anew : (rule : RuleNo) (n : NodeId) (earlier js : List Judgement) (v w : Verdict) → Some v ≡ Some w → Some (again js (row_of rule n earlier v)) ≡ Some (row_of rule n js w)
-anew rule n earlier js v w e = ap (option_map (row_of rule n js)) e
-
-some_row : (info : RuleInfo) (b : Bool) (old new : Document) (n : NodeId) → looks_at_langs info.expects ≡ b → AreRelisted old new → b ≡ false → all_same_in old new (looked_at info.expects old n) ≡ true
-some_row info b old new n is are off = class_agrees info.expects old new n are (is ∙ off)
-
 module _ (book : Book) (info : RuleInfo) (local : IsLocal info (book.means info.no)) (old new : Document) (versions : AreVersions old new) (are : AreRelisted old new) (off : looks_at_langs info.applies ≡ false)
     (earlier js : List Judgement) where
-  had : NodeId → Option OutRow
+  abbrev had : NodeId → Option OutRow
   had = atomic_row book old earlier info.no
 
-  has : NodeId → Option OutRow
+  abbrev has : NodeId → Option OutRow
   has = atomic_row book new js info.no
 
   -- of one node
@@ -142,7 +136,7 @@ module _ (book : Book) (info : RuleInfo) (local : IsLocal info (book.means info.
 -- ---- what that costs
 
 module _ (book : Book) (info : RuleInfo) (old new : Document) (are : AreRelisted old new) (on : looks_at_langs info.expects ≡ true) (earlier : List Judgement) where
-  affected_at : NodeId → Bool
+  abbrev affected_at : NodeId → Bool
   affected_at = is_affected info (book.means info.no) old new
 
   -- a node with a row is affected
@@ -230,3 +224,10 @@ cost_taken info own i = by_class (looks_at_langs info.expects)
     by_class : (b : Bool) → (if b then length (take i own) else 0) ≤ (if b then length own else 0)
     by_class true = let cut = length-take i own in grind (arith, cut)
     by_class false = omega arith
+
+-- the rows up to some number
+pub front_whole : (most : ℕ) (rows : List OutRow) → length rows ≤ most → take most rows ≡ rows
+front_whole most rows few = take_all most rows few
+
+pub front_few : (most : ℕ) (rows : List OutRow) → most ≤ length rows → length (take most rows) ≤ most
+front_few most rows few = let cut = length-take-le most rows few in omega (arith, cut)

@@ -16,13 +16,13 @@ use Rattle.page_keys.proofs.Tests.{options, nodes, attrs, spaces, facts}
 use Rattle.reaudit.specs.SameRows.{same_body, same_row, same_rows}
 
 bodies : (a b : Body) → same_body a b ≡ true → a ≡ b
-bodies (Element s tag as) (Element z other others) h =
-    let more = second_so (sameb space.the_type s z) (bytes_eq tag other && pointwise same_attr as others) h in
-    let spaces_same = (spaces s z).0 (first_so (sameb space.the_type s z) (bytes_eq tag other && pointwise same_attr as others) h) in
-    let tags = (bytes_decides tag other).0 (first_so (bytes_eq tag other) (pointwise same_attr as others) more) in
-    let each = (pointwise_decides attrs as others).0 (second_so (bytes_eq tag other) (pointwise same_attr as others) more) in
+bodies (Element s tag xs) (Element z other others) h =
+    let more = second_so (sameb space.the_type s z) (bytes_eq tag other && pointwise same_attr xs others) h in
+    let spaces_same = (spaces s z).0 (first_so (sameb space.the_type s z) (bytes_eq tag other && pointwise same_attr xs others) h) in
+    let tags = (bytes_decides tag other).0 (first_so (bytes_eq tag other) (pointwise same_attr xs others) more) in
+    let each = (pointwise_decides attrs xs others).0 (second_so (bytes_eq tag other) (pointwise same_attr xs others) more) in
     λ i. Element (spaces_same i) (tags i) (each i)
-bodies (Element s tag as) (Words text) h = cc
+bodies (Element s tag xs) (Words text) h = cc
 bodies (Words text) (Element z other others) h = cc
 bodies (Words text) (Words other) h = ap Words ((bytes_decides text other).0 h)
 
@@ -40,10 +40,10 @@ rows a b h =
 all_rows : (old new : List Row) → same_rows old new ≡ true → old ≡ new
 all_rows [] [] h = refl
 all_rows [] (b ∷ bs) h = cc
-all_rows (a ∷ as) [] h = cc
-all_rows (a ∷ as) (b ∷ bs) h =
-    let one = rows a b (first_so (same_row a b) (same_rows as bs) h) in
-    let more = all_rows as bs (second_so (same_row a b) (same_rows as bs) h) in
+all_rows (a ∷ xs) [] h = cc
+all_rows (a ∷ xs) (b ∷ bs) h =
+    let one = rows a b (first_so (same_row a b) (same_rows xs bs) h) in
+    let more = all_rows xs bs (second_so (same_row a b) (same_rows xs bs) h) in
     λ i. one i ∷ more i
 
 pub same_trees : (old new : Trees) → grown (rows_of old) ≡ old → grown (rows_of new) ≡ new → same_rows (rows_of old) (rows_of new) ≡ true → old ≡ new

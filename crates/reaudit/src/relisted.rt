@@ -92,6 +92,18 @@ fn rows_relisted<B: RuleBook>(
     Ok(rows)
 }
 
+// The rows up to some number.
+#[tactic(auto, using(crate::proofs::Relisted::front_whole, crate::proofs::Relisted::front_few))]
+fn first_rows(rows: &[OutRow], most: usize) -> &[OutRow]
+    ensures whole { length rows.now ≤ most → result.now ≡ rows.now }
+    ensures few { length result.now ≤ most }
+{
+    match rows.split_at_checked(most) {
+        Some((front, _)) => front,
+        None => rows,
+    }
+}
+
 /// The rows of a rule, whose applicability doesn't look at the list of language subtags, on a page whose list alone is
 /// another one. It goes over the nodes on which the rule had a row, and judges them where its expectations look at the
 /// list.
@@ -115,7 +127,6 @@ pub(crate) fn rows_again<B: RuleBook>(
     well(old);
     well(new);
     // A page has no more rows of a rule than nodes.
-    let most = new.rows().len().min(rows.len());
-    let (own, _) = rows.split_at(most);
+    let own = first_rows(rows, new.rows().len());
     rows_relisted(alloc, book, info, new, own, by_node)
 }
