@@ -103,18 +103,18 @@ module _ (book : Book) (site caller page : List ℕ) (rule : RuleNo) (node : Nod
       → (IsTrueTo book kept → Agrees ⊥ result (judge book site caller page rule node verdict seen note (page_state kept)))
       → JudgesOn site page result
       → Decides book (record { caller = caller; command = command.Judge site page rule node verdict seen note }) old new result
-  decides_judge old new kept result named page_named finds agrees on = record {
-    reads = only_read old new (let r : Result KeptPage Refusal = Ok kept in r) result (λ e. absurd (on.no_fault e)) finds.reads;
+  decides_judge old new kept result named page_named finds agrees judges = record {
+    reads = only_read old new (let r : Result KeptPage Refusal = Ok kept in r) result (λ e. absurd (judges.no_fault e)) finds.reads;
     agrees =
         λ t told sound.
         let f = finds.found t told in
         agrees_with result (judge book site caller page rule node verdict seen note (page_state kept)) _
         (followed needed.Judge caller site page t f.0 (Some (page_state kept)) (λ _ p. judge book site caller page rule node verdict seen note p) _ f.1 f.2 (λ k has same. refl))
         (agrees (found_is_true book t sound site page kept f.2 f.3));
-    fits = all_fit site page named page_named result on.adds;
-    there = all_there site page new.tables (λ t told. there_in (kept_page site page t) (page_state kept) (finds.found t told).2) result on.adds;
-    accepted = on.accepted;
-    firm = judged_firm book (record { caller = caller; command = command.Judge site page rule node verdict seen note }) new.tables result on.judged;
+    fits = all_fit site page named page_named result judges.adds;
+    there = all_there site page new.tables (λ t told. there_in (kept_page site page t) (page_state kept) (finds.found t told).2) result judges.adds;
+    accepted = judges.accepted;
+    firm = judged_firm book (record { caller = caller; command = command.Judge site page rule node verdict seen note }) new.tables result judges.judged;
   }
 
   pub decides_no_judge : (old new : Told) (r : Refusal) → FindsKept needed.Judge caller site page old new (Err r)

@@ -30,23 +30,28 @@ pub fn audit_by_first<B: RuleBook>(
     audit_page(alloc, &mut books[0], tree, js)
 }
 
-/// The outcomes of an edited page by the first of some books, by the outcomes of the page before.
+/// The outcomes of an edited page by the first of some books, by those that are kept of it.
 pub fn reaudit_by_first<B: RuleBook>(
     alloc: Global,
     books: &mut [B],
-    old: &Tree,
-    new: &Tree,
-    rows: &Outcomes,
-    js: &[Judgement],
+    kept: &KeptPage,
+    tree: &Tree,
 ) -> Result<Outcomes, OutOfMemory>
     requires some { 0 < length books.old }
-    requires address { old.now.address ≡ new.now.address }
-    ensures rows { rows.now.rows ≡ outcomes B.book old.now js.now
-        → IfOk result (λ o. o.rows ≡ outcomes B.book new.now js.now) }
-    ensures costs { FirstJudgesLess B.calls (rows.now.rows ≡ outcomes B.book old.now js.now)
-        (length (affected B.book old.now new.now)) (judgings B.book new.now) books.old books.new }
+    requires address { kept.now.page.tree.address ≡ tree.now.address }
+    ensures rows { IsTrueTo B.book kept.now → IfOk result (λ o. o.rows ≡ outcomes B.book tree.now kept.now.judgements) }
+    ensures costs { FirstJudgesLess B.calls (IsTrueTo B.book kept.now)
+        (length (affected B.book kept.now.page.tree tree.now)) (judgings B.book tree.now) books.old books.new }
 {
-    reaudit(alloc, &mut books[0], old, rows, new, js)
+    let js = kept.judgements.as_slice();
+    reaudit(
+        alloc,
+        &mut books[0],
+        &kept.page.tree,
+        &kept.outcomes,
+        tree,
+        js,
+    )
 }
 
 /// A page as it is put where its tree was edited: its outcomes come of those that are kept.
@@ -66,8 +71,7 @@ pub fn page_edited<B: RuleBook>(
     ensures costs { FirstJudgesLess B.calls (IsTrueTo B.book kept.now)
         (length (affected B.book kept.now.page.tree tree)) (judgings B.book tree) books.old books.new }
 {
-    let js = kept.judgements.as_slice();
-    let outcomes = reaudit_by_first(alloc, books, &kept.page.tree, &tree, &kept.outcomes, js)?;
+    let outcomes = reaudit_by_first(alloc, books, kept, &tree)?;
     let hand = hand.copy(alloc)?;
     let head = PageHead { page, rev, hand };
     Ok(PagePut {

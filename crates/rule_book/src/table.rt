@@ -78,13 +78,13 @@ macro_rules! rules {
     };
 }
 
-macro_rules! infos_of {
+macro_rules! each_info {
     (() $({ $($rule:ident,)* } ($($composite:ident),*))*) => {
         &[$($($rule::INFO,)* $($composite,)*)*]
     };
 }
 
-macro_rules! composites_of {
+macro_rules! each_composite {
     (() $({ $($rule:ident,)* } ($($composite:ident),*))*) => {
         &[$($($composite,)*)*]
     };
@@ -108,9 +108,9 @@ macro_rules! on_page {
     };
 }
 
-static INFOS: &[RuleInfo] = rules!(infos_of());
+static INFOS: &[RuleInfo] = rules!(each_info());
 
-static COMPOSITES: &[RuleInfo] = rules!(composites_of());
+static COMPOSITES: &[RuleInfo] = rules!(each_composite());
 
 /// What the rules say of themselves, in the order of their numbers.
 pub fn infos() -> &'static [RuleInfo]
