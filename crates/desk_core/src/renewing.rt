@@ -74,6 +74,7 @@ pub fn edited<B: RuleBook>(
     requires some { 0 < length books.old }
     requires room { counter < MOST_REVISION }
     requires address { kept.now.page.tree.address ≡ tree.address }
+    requires langs { kept.now.page.tree.langs ≡ tree.langs }
     requires site { IsTrue (is_name sent.site) }
     requires page { IsTrue (is_name sent.page) }
     requires fits { FitsPage kept.now.page }
