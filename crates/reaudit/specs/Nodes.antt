@@ -9,17 +9,17 @@ use Rattle.reaudit.specs.Known.{placed_of, ArePlaced, same_nodes}
 use Rattle.reaudit.specs.Marks.{is_marked}
 
 -- the pages agree on all that rules look at of a node of both
-abbrev pub is_settled : Option Known → Bool
-is_settled None = false
-is_settled (Some k) = k.flags.itself && (k.flags.sub && (k.flags.table && (k.flags.title && (k.flags.metas && k.flags.whole))))
+abbrev pub is_settled : Bool → Option Known → Bool
+is_settled langs None = false
+is_settled langs (Some k) = langs && (k.flags.itself && (k.flags.sub && (k.flags.table && (k.flags.title && (k.flags.metas && k.flags.whole)))))
 
 -- the others: those that the edit reaches
 abbrev pub reached_by : List Placed → List Placed
-reached_by placed = filter (λ p. not (is_settled p.known)) placed
+reached_by placed = filter (λ p. not (is_settled p.langs p.known)) placed
 
 -- the edit reaches a node, or it may have a row
 abbrev pub is_live : List Bool → Placed → Bool
-is_live marks p = not (is_settled p.known) || is_marked marks p.node
+is_live marks p = not (is_settled p.langs p.known) || is_marked marks p.node
 
 -- those that the edit reaches, and those that may have a row
 abbrev pub live_by : List Bool → List Placed → List Placed

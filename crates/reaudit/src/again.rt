@@ -58,8 +58,8 @@ fn add_kept(
     Ok(())
 }
 
-fn class_flag(class: Class, flags: Flags) -> bool
-    ensures { result ≡ class_flag class flags }
+fn class_flag(langs: bool, class: Class, flags: Flags) -> bool
+    ensures { result ≡ class_flag langs class flags }
 {
     match class {
         Class::SelfOnly => flags.itself,
@@ -68,16 +68,18 @@ fn class_flag(class: Class, flags: Flags) -> bool
         Class::Title => flags.title,
         Class::Metas => flags.metas,
         Class::Whole => flags.whole,
+        Class::Lang => flags.itself & langs,
+        Class::SubLang => flags.sub & langs,
     }
 }
 
-fn has_to_judge(info: &RuleInfo, known: Option<Known>, target: bool) -> bool
-    ensures { result ≡ has_to_judge info.now known target }
+fn has_to_judge(info: &RuleInfo, langs: bool, known: Option<Known>, target: bool) -> bool
+    ensures { result ≡ has_to_judge info.now langs known target }
 {
     match known {
         Some(known) => {
-            !(class_flag(info.applies, known.flags)
-                && (!target || class_flag(info.expects, known.flags)))
+            !(class_flag(langs, info.applies, known.flags)
+                && (!target || class_flag(langs, info.expects, known.flags)))
         }
         None => true,
     }
@@ -101,7 +103,7 @@ fn add_either<B: RuleBook>(
         (B.calls book.old) (B.calls book.new) }
     ensures within { B.calls book.new ≤ B.calls book.old + 1 }
 {
-    if has_to_judge(info, placed.known, row.is_some()) {
+    if has_to_judge(info, placed.langs, placed.known, row.is_some()) {
         add_judged(rows, alloc, book, new, by_node, info.no, placed.node)
     } else {
         add_kept(rows, alloc, row, by_node)
@@ -109,10 +111,10 @@ fn add_either<B: RuleBook>(
 }
 
 // Whether a node had no row, and the edit doesn't reach it: so it has none. Most nodes are so.
-fn is_quiet(known: Option<Known>, had: bool) -> bool
-    ensures { result ≡ (is_settled known && not had) }
+fn is_quiet(placed: Placed, had: bool) -> bool
+    ensures { result ≡ (is_settled placed.langs placed.known && not had) }
 {
-    is_settled(known) & !had
+    is_settled(placed.langs, placed.known) & !had
 }
 
 // Adds the row of a rule on a node of the new page, where there is one.
@@ -132,7 +134,7 @@ fn add_found<B: RuleBook>(
         (B.calls book.old) (B.calls book.new) }
     ensures within { B.calls book.new ≤ B.calls book.old + 1 }
 {
-    if is_quiet(placed.known, row.is_some()) {
+    if is_quiet(placed, row.is_some()) {
         return Ok(());
     }
     add_either(rows, alloc, book, info, new, row, by_node, placed)

@@ -1,13 +1,14 @@
 ghost use Rattle.std.specs.Prelude.{◌≡◌, map, IfOk};
 ghost use Rattle.snap_tree.specs.Well.{IsWell};
 ghost use Rattle.acc_tree.specs.Seen.{seen};
+ghost use Rattle.page_keys.specs.PageKeys.{same_langs};
 ghost use Rattle.page_changes.specs.Flags.{AreFlags};
 ghost use Rattle.reaudit.specs.ByNumber.{placed_by};
 ghost use Rattle.reaudit.specs.Known.{ArePlaced, in_order, same_nodes};
 
 use crate::by_number::{ByNumber, by_number, found};
 use page_changes::{Flags, changes};
-use snap_tree::{NodeId, OutOfMemory, Row, Tree};
+use snap_tree::{List, NodeId, OutOfMemory, Row, Text, Tree};
 use std::alloc::Global;
 
 /// What is known of a node of the old page: its place in document order, from 0, and what of it is the same.
@@ -22,16 +23,31 @@ pub struct Known {
 pub struct Placed {
     pub node: NodeId,
     pub known: Option<Known>,
+    /// Whether the two pages have the same list of language subtags.
+    pub langs: bool,
 }
 
-fn place_all(alloc: Global, by_number: &ByNumber, rows: &[Row]) -> Result<Vec<Placed>, OutOfMemory>
-    ensures { IfOk result (λ placed. placed.items ≡ map (λ row. placed_by by_number.now row.id) rows.now) }
+/// Whether two lists of language subtags are the same.
+pub(crate) fn same_langs(old: &List<Text>, new: &List<Text>) -> bool
+    ensures { result ≡ same_langs old.now new.now }
+{
+    *old == *new
+}
+
+fn place_all(
+    alloc: Global,
+    by_number: &ByNumber,
+    langs: bool,
+    rows: &[Row],
+) -> Result<Vec<Placed>, OutOfMemory>
+    ensures { IfOk result (λ placed. placed.items ≡ map (λ row. placed_by by_number.now langs row.id) rows.now) }
 {
     let mut placed = Vec::with_capacity(alloc, rows.len())?;
     for row in rows {
         placed.push(Placed {
             node: row.id,
             known: found(by_number, row.id),
+            langs,
         })?;
     }
     Ok(placed)
@@ -59,8 +75,8 @@ pub(crate) fn same_nodes(old: &[Row], new: &[Row]) -> bool
 }
 
 // The nodes of these flags, in their order.
-fn place_in_order(alloc: Global, list: &[Flags]) -> Result<Vec<Placed>, OutOfMemory>
-    ensures { IfOk result (λ placed. placed.items ≡ in_order 0 list.now) }
+fn place_in_order(alloc: Global, langs: bool, list: &[Flags]) -> Result<Vec<Placed>, OutOfMemory>
+    ensures { IfOk result (λ placed. placed.items ≡ in_order langs 0 list.now) }
 {
     let mut placed = Vec::with_capacity(alloc, list.len())?;
     let mut rest = list;
@@ -72,6 +88,7 @@ fn place_in_order(alloc: Global, list: &[Flags]) -> Result<Vec<Placed>, OutOfMem
                 place,
                 flags: *flags,
             }),
+            langs,
         })?;
         place += 1;
         rest = later;
@@ -91,10 +108,11 @@ pub fn known_nodes(alloc: Global, old: &Tree, new: &Tree) -> Result<Vec<Placed>,
     ensures { IfOk result (λ placed. ArePlaced old.now new.now placed.items) }
 {
     well(old);
+    let langs = same_langs(old.langs(), new.langs());
     let flags = changes(alloc, old, new)?;
     if same_nodes(old.rows(), new.rows()) {
-        return place_in_order(alloc, flags.as_slice());
+        return place_in_order(alloc, langs, flags.as_slice());
     }
     let by_number = by_number(alloc, flags.as_slice())?;
-    place_all(alloc, &by_number, new.rows())
+    place_all(alloc, &by_number, langs, new.rows())
 }

@@ -17,6 +17,10 @@ pub enum Class {
     Metas,
     /// Where the node is the root, every node.
     Whole,
+    /// The node and its ancestors, and the language subtags that the page's site accepts.
+    Lang,
+    /// The node's subtree too, and what references in it find, and these language subtags.
+    SubLang,
 }
 
 /// What a rule says of itself.

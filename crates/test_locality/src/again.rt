@@ -1,5 +1,4 @@
 ghost use Rattle.std.specs.Prelude.{◌≡◌, IfOk};
-ghost use Rattle.fixture_pages.specs.declared.pages.TheConstants.{ADDRESS};
 
 use audit::audit_page;
 use fixture_pages::page_in;
@@ -7,43 +6,16 @@ use judge_core::{Judgement, OutRow};
 use reaudit::reaudit;
 use rule_book::Thirty;
 use rule_core::{Auto, RuleBook};
-use snap_tree::{List, Text, Tree, langs_fault, next_word};
+use snap_tree::{Text, Tree};
 use std::alloc::Global;
 use std::test::Fail;
-
-/// A page with the language subtags of a text, in place of its own.
-pub(crate) fn with_langs(alloc: Global, page: Tree, words: &str) -> Result<Tree, Fail>
-    ensures { IfOk result (λ t. t.address ≡ page.address) }
-{
-    let mut langs = Vec::new(alloc);
-    let mut rest = words;
-    while let Some((lang, later)) = next_word(rest) {
-        langs.push(Text::from_str(alloc, lang)?)?;
-        rest = later;
-    }
-    let langs = List::from_vec(langs);
-    if langs_fault(&langs).is_some() {
-        return Err(Fail::from("a list of languages"));
-    }
-    Ok(page.with_langs(alloc, &langs)?)
-}
-
-/// The page of a text, before which language subtags may stand, with `@` behind them.
-pub(crate) fn page_of(alloc: Global, text: &str) -> Result<Tree, Fail>
-    ensures { IfOk result (λ t. t.address ≡ ADDRESS.now) }
-{
-    match text.split_once('@') {
-        None => Ok(page_in(alloc, text)?),
-        Some((langs, page)) => with_langs(alloc, page_in(alloc, page)?, langs),
-    }
-}
 
 /// The pages of two texts.
 pub(crate) fn versions(alloc: Global, before: &str, after: &str) -> Result<(Tree, Tree), Fail>
     ensures { IfOk result (λ pages. pages.0.address ≡ pages.1.address) }
 {
-    let old = page_of(alloc, before)?;
-    let new = page_of(alloc, after)?;
+    let old = page_in(alloc, before)?;
+    let new = page_in(alloc, after)?;
     Ok((old, new))
 }
 

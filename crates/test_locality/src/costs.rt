@@ -8,8 +8,7 @@ use std::test::Fail;
 // other node has two, of the rules 5 and 16, where its subtree changed or what is referred to from there; and one more
 // of each of the rules 8 to 15, 20, 22 and 23 that it is a target of. A target of the rules 24 and 25 has one where its
 // table changed, and a `meta` has one, of rule 7, where another did. The root has four, of the rules 26 to 29, where
-// anything changed, and two, of the rules 1 and 2, where a title did. Where the list of language subtags changed, each
-// target of the rules 4 and 5 has one.
+// anything changed, and two, of the rules 1 and 2, where a title did.
 type Edited = (&'static str, &'static [(&'static str, u64)]);
 
 // A page of texts.
@@ -317,36 +316,6 @@ static FOLLOWED: Edited = (
     ],
 );
 
-// Pages before whose text the language subtags of their site stand.
-static SPOKEN: [Edited; 3] = [
-    (
-        "@1 0 html lang=gsw-CH",
-        &[
-            ("gsw@1 0 html lang=gsw-CH", 1),
-            ("@1 0 html lang=gsw-CH", 0),
-            ("haw@1 0 html lang=gsw-CH", 1),
-        ],
-    ),
-    (
-        "gsw haw@1 0 html;2 1 p lang=gsw;3 2 #Hoi;4 1 p lang=haw;5 1 p lang=en;6 5 b lang=fr;7 6 #Oui",
-        &[
-            (
-                "haw gsw@1 0 html;2 1 p lang=gsw;3 2 #Hoi;4 1 p lang=haw;5 1 p lang=en;6 5 b lang=fr;7 6 #Oui",
-                3,
-            ),
-            (
-                "gsw haw@1 0 html;2 1 p lang=gsw;3 2 #Hei;4 1 p lang=haw;5 1 p lang=en;6 5 b lang=fr;7 6 #Oui",
-                29 + 2 + 2 + 4,
-            ),
-            (
-                "haw@1 0 html;2 1 p lang=gsw;3 2 #Hei;4 1 p lang=haw;5 1 p lang=en;6 5 b lang=fr;7 6 #Oui",
-                29 + 2 + 2 + 4 + 2,
-            ),
-        ],
-    ),
-    ("gsw@1 0 html;2 1 p", &[("haw@1 0 html;2 1 p", 0)]),
-];
-
 fn each_costs(alloc: Global, edited: &Edited) -> Result<(), Fail> {
     let (before, afters) = *edited;
     for (after, wanted) in afters {
@@ -410,12 +379,4 @@ fn an_item_reaches_its_list(rt: HostRuntime) -> Result<(), Fail> {
 #[test]
 fn an_element_reaches_what_owns_it(rt: HostRuntime) -> Result<(), Fail> {
     each_costs(rt.alloc(), &FOLLOWED)
-}
-
-#[test]
-fn a_language_reaches_what_is_written_in_it(rt: HostRuntime) -> Result<(), Fail> {
-    for edited in SPOKEN.as_slice() {
-        each_costs(rt.alloc(), edited)?;
-    }
-    Ok(())
 }

@@ -1,10 +1,9 @@
-//! Pages at random on which an element owns others by aria-owns, each with edits at random, and with a list of language
-//! subtags before and after: the audit after the edits has the outcomes of a full one, and judges the pairs of a rule and a
-//! node that a plain program finds affected.
+//! Pages at random on which an element owns others by aria-owns, each with edits at random: the audit after the edits has the
+//! outcomes of a full one, and judges the pairs of a rule and a node that a plain program finds affected.
 
 ghost use Rattle.std.specs.Prelude.{◌≡◌, IfOk, IfSome};
 
-use crate::again::{audited_again, with_langs};
+use crate::again::audited_again;
 use crate::judged::affected;
 use fixture_dice::Dice;
 use fixture_pages::{facts, page_in, row_in};
@@ -93,9 +92,6 @@ static VALUES: [&str; 10] = [
     "a", "b", "a b", "b c a", "true", "list", "gsw", "xx", "5", "",
 ];
 
-// Lists of language subtags, with a space between.
-static LANGS: [&str; 4] = ["", "gsw", "xxx", "gsw xxx"];
-
 static WORDS: [&str; 4] = ["One", "Two", "Go", ""];
 
 // The row of a number below a parent: a text, or an element with an attribute or none.
@@ -125,7 +121,7 @@ fn last_of(open: &[u32]) -> u32 {
 }
 
 // A page's text: each node stands below the last element before it, or below one that is above that.
-fn page_text(alloc: Global, dice: &mut Dice) -> Result<String, AllocError> {
+pub(crate) fn page_text(alloc: Global, dice: &mut Dice) -> Result<String, AllocError> {
     let root = dice.pick(&ROOTS, "1 0 html");
     let owner = dice.pick(&OWNERS, "2 1 p");
     let mut text = format!(in alloc; "{root};{owner}")?;
@@ -202,7 +198,7 @@ fn edit(alloc: Global, dice: &mut Dice) -> Result<Edit, Fail> {
 }
 
 // The page after edits; None where they can't be carried out.
-fn edited(alloc: Global, old: &Tree, edits: &[Edit]) -> Result<Option<Tree>, OutOfMemory>
+pub(crate) fn edited(alloc: Global, old: &Tree, edits: &[Edit]) -> Result<Option<Tree>, OutOfMemory>
     ensures { IfOk result (λ new. IfSome new (λ t. t.address ≡ old.now.address)) }
 {
     match apply(alloc, old, edits) {
@@ -213,7 +209,7 @@ fn edited(alloc: Global, old: &Tree, edits: &[Edit]) -> Result<Option<Tree>, Out
 }
 
 // Edits that can be carried out.
-fn edits(alloc: Global, dice: &mut Dice, old: &Tree) -> Result<Vec<Edit>, Fail> {
+pub(crate) fn edits(alloc: Global, dice: &mut Dice, old: &Tree) -> Result<Vec<Edit>, Fail> {
     let mut edits = Vec::new(alloc);
     for _ in 0..=dice.below(MOST_EDITS) {
         edits.push(edit(alloc, dice)?)?;
@@ -224,25 +220,14 @@ fn edits(alloc: Global, dice: &mut Dice, old: &Tree) -> Result<Vec<Edit>, Fail> 
     Ok(edits)
 }
 
-// The page at a site that accepts one of the lists of language subtags; as it is in one of two cases.
-fn spoken(alloc: Global, dice: &mut Dice, page: Tree) -> Result<Tree, Fail>
-    ensures { IfOk result (λ t. t.address ≡ page.address) }
-{
-    if dice.below(2) == 0 {
-        return Ok(page);
-    }
-    with_langs(alloc, page, dice.pick(&LANGS, ""))
-}
-
 // Whether a page was edited; fails where the audit after that isn't as it has to be.
 fn is_edited(alloc: Global, dice: &mut Dice) -> Result<bool, Fail> {
     let text = page_text(alloc, dice)?;
-    let old = spoken(alloc, dice, page_in(alloc, text.as_str())?)?;
+    let old = page_in(alloc, text.as_str())?;
     let edits = edits(alloc, dice, &old)?;
     let Some(new) = edited(alloc, &old, edits.as_slice())? else {
         return Ok(false);
     };
-    let new = spoken(alloc, dice, new)?;
     let (cost, same) = audited_again(alloc, &old, &new)?;
     if same & (cost == affected(alloc, &old, &new)?) {
         Ok(!edits.is_empty())

@@ -271,8 +271,8 @@ pub(crate) fn add_class<'a>(
         Class::Whole => add_whole(keys, place, n),
         Class::Lang => keys.push(Key::Langs),
         Class::SubLang => {
-            add_sub(keys, place, n)?;
-            keys.push(Key::Langs)
+            keys.push(Key::Langs)?;
+            add_sub(keys, place, n)
         }
     }
 }

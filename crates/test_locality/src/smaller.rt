@@ -1,7 +1,7 @@
 use crate::again::versions;
 use crate::judged::{compared, info_of, keeps, whole};
 use crate::reach::{Less, Place};
-use rule_core::Class::{SelfOnly, Sub, Title};
+use rule_core::Class::{SelfOnly, Title};
 use snap_tree::NodeId;
 use std::alloc::Global;
 use std::test::Fail;
@@ -10,7 +10,7 @@ use std::test::Fail;
 // then says another thing although the pages agree on the smaller reach.
 type Smaller = (u16, Less, &'static str, &'static str, u32);
 
-static ON_PAGES: [Smaller; 13] = [
+static ON_PAGES: [Smaller; 11] = [
     (
         1,
         Less::Expects(SelfOnly),
@@ -27,20 +27,6 @@ static ON_PAGES: [Smaller; 13] = [
     ),
     (3, Less::Frame, "1 0 html lang=en", "1 0 body lang=en", 1),
     (4, Less::Frame, "1 0 html lang=en", "1 0 body lang=en", 1),
-    (
-        4,
-        Less::Expects(SelfOnly),
-        "1 0 html lang=gsw-CH",
-        "gsw@1 0 html lang=gsw-CH",
-        1,
-    ),
-    (
-        5,
-        Less::Expects(Sub),
-        "haw@1 0 html;2 1 p lang=gsw;3 2 #Hoi",
-        "haw gsw@1 0 html;2 1 p lang=gsw;3 2 #Hoi",
-        2,
-    ),
     (
         5,
         Less::Applies(SelfOnly),

@@ -12,6 +12,7 @@ pub(crate) enum Key<'a> {
     Id(&'a str),
     LabelFor(&'a str),
     Tagged(&'a str),
+    /// The language subtags that the site accepts.
     Langs,
 }
 

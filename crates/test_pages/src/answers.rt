@@ -16,21 +16,22 @@
 //! | `aria N`, `looked N`, `sight N ..` | the attributes `aria-`; title, alt and aria-owns; whether it is such a node |
 //! | `cells N` | where the cells of a table are placed |
 //! | `tagged TAG`, `id ".."`, `find ".."` | the nodes of a tag, of an id, of the words of a reference |
-//! | `nodes`, `address`, `languages` | the number of nodes, the address, the language subtags that the page's site accepts |
+//! | `nodes`, `address`, `langs` | the number of nodes, the address, the language subtags that the site accepts |
 //! | `sent`, `rows`, `built`, `kept`, `written` | what is said of bytes as a snapshot, as a list of rows, as a page, as kept ones; how they are written |
 //! | `evidence`, `digest`, `reason`, `finding`, `inputs`, `merge`, `final` | what becomes of outcomes |
+//! | `langs-fault gsw haw` | the place of the first that breaks the form of a list of language subtags |
 //! | `tidy`, `word`, `number`, `web-address`, `table ..`, `made-pages SEED COUNT` | texts, numbers, addresses, ARIA's tables, made pages |
 //!
 //! N is a node's number, or `last`.
 
 use crate::aria::from_table;
 use crate::judgings::{digested, evidence, finally, finding, kind_of_inputs, merged, reason};
-use crate::looks::{cells, languages, looked_up, page_lines};
+use crate::looks::{cells, looked_up, page_lines};
 use crate::rules::{book, judge, rule, table};
 use crate::snapshots::read;
 use crate::sources::State;
 use crate::trouble::Trouble;
-use crate::values::{address, digits, first_word, made, tidied};
+use crate::values::{address, digits, faulty_lang, first_word, made, tidied};
 use crate::words::cut;
 use std::alloc::Global;
 
@@ -45,7 +46,6 @@ pub(crate) fn answer(
         "refused" => one(alloc, String::from_str(alloc, state.refused())?),
         "rules" => table(alloc),
         "gives" => page_lines(alloc, state.tree()?),
-        "languages" => languages(alloc, state.tree()?),
         "rule" => rule(alloc, state.tree()?, rest),
         "cells" => cells(alloc, state.tree()?, rest),
         "book" => book(alloc, state.tree()?),
@@ -66,6 +66,7 @@ pub(crate) fn answer(
         }
         "made-pages" => one(alloc, made(alloc, rest)?),
         "number" => one(alloc, digits(alloc, rest)?),
+        "langs-fault" => one(alloc, faulty_lang(alloc, rest)?),
         "sent" | "rows" | "built" | "kept" | "written" => {
             one(alloc, read(alloc, state.bytes(), word)?)
         }

@@ -4,7 +4,7 @@
 //! |---|---|
 //! | `page` | the page of the lines below it |
 //! | `made SEED N` | a page that is made for trials |
-//! | `accepts` | the page at a site that accepts language subtags, of which each is a line |
+//! | `accepts gsw haw` | the page, whose site accepts these language subtags in place of those before |
 //! | `edits` | the page after `set 2 class "x y"`, `drop 2 class`, `text 6 "Go"`, `facts 5 rv` or `none`, `remove 7`, `move 5 to 7 at 1`, `insert in 2 at 0` with rows below it; each list begins with the page of the case |
 //! | `json`, `hex`, `spaces N` | bytes: a text, hexadecimal digits, so many spaces |
 //! | `read` | the page that the bytes are |
@@ -16,6 +16,7 @@ use crate::lines::{Line, Step};
 use crate::shown::lines_of;
 use crate::sketch::Sketch;
 use crate::trouble::Trouble;
+use crate::values::words_of;
 use crate::words::{count, cut, number};
 use judge_core::Judgement;
 use made_pages::made_page;
@@ -70,7 +71,7 @@ impl State {
                 let (seed, page) = cut(rest, ' ');
                 self.build(made_page(self.alloc, number(seed)?, number(page)?)?)?;
             }
-            "accepts" => self.accept(step.block.as_slice())?,
+            "accepts" => self.accept(rest)?,
             "edits" => self.edit(step.block.as_slice())?,
             "json" => self.send(step.block.as_slice(), false)?,
             "hex" => self.send(step.block.as_slice(), true)?,
@@ -134,6 +135,20 @@ impl State {
         Ok(())
     }
 
+    fn accept(&mut self, words: &str) -> Result<(), Trouble> {
+        let langs = words_of(self.alloc, words)?;
+        let Some(page) = &self.page else {
+            return Err(Trouble::NoPage);
+        };
+        let relisted = match langs_fault(&langs) {
+            Some(_) => return Err(Trouble::NotInForm),
+            None => page.with_langs(self.alloc, &langs)?,
+        };
+        self.page = Some(relisted);
+        self.edited = None;
+        Ok(())
+    }
+
     fn judge(&mut self, lines: &[Line]) -> Result<(), Trouble> {
         self.judgements.clear();
         for line in lines {
@@ -148,27 +163,6 @@ impl State {
         match read_snapshot(self.alloc, self.bytes.as_slice()) {
             Ok(tree) => self.page = Some(tree),
             Err(_) => return Err(Trouble::NoPage),
-        }
-        Ok(())
-    }
-
-    fn accept(&mut self, lines: &[Line]) -> Result<(), Trouble> {
-        let mut langs = Vec::new(self.alloc);
-        for line in lines {
-            langs.push(Text::from_str(self.alloc, line.text.as_str())?)?;
-        }
-        let langs = List::from_vec(langs);
-        let Some(page) = &self.page else {
-            return Err(Trouble::NoPage);
-        };
-        self.edited = None;
-        self.refused = String::new(self.alloc);
-        match langs_fault(&langs) {
-            None => {
-                let page = page.with_langs(self.alloc, &langs)?;
-                self.page = Some(page);
-            }
-            Some(place) => self.refused = format!(in self.alloc; "language {place}")?,
         }
         Ok(())
     }
