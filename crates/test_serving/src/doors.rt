@@ -2,11 +2,10 @@
 
 ghost use Rattle.std.specs.Prelude.{◌≡◌, None, IfOk};
 
-use desk_http::serve;
+use crate::served::is_served;
 use fixture_links::link_of;
 use keep_core::MemoryKeeper;
 use links::{Door, MemDoor};
-use rule_book::Thirty;
 use std::alloc::Global;
 use std::process::Abort;
 use std::test::Fail;
@@ -27,10 +26,9 @@ fn door(alloc: Global) -> Result<MemDoor, OutOfMemory>
 fn no_link_is_taken_where_none_is_allowed(rt: HostRuntime) -> Result<(), Fail> {
     let alloc = rt.alloc();
     let mut door = door(alloc)?;
-    let mut keeper = MemoryKeeper::new(alloc, List::from_vec(Vec::new(alloc)));
-    let mut books = [Thirty::new()];
-    assert!(rt; door.listen(80, 0).is_ok());
-    assert!(rt; serve(&rt, alloc, &mut door, &mut keeper, &mut books).is_ok());
+    let keeper = MemoryKeeper::new(alloc, List::from_vec(Vec::new(alloc)));
+    door.listen(80, 0)?;
+    assert!(rt; is_served(&rt, alloc, &mut door, keeper));
     assert!(rt; door.log().is_empty());
     Ok(())
 }

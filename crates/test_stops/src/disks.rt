@@ -41,14 +41,6 @@ pub fn opened(alloc: Global, disks: Disks) -> Result<DiskKeeper, Disks> {
     }
 }
 
-/// The disks of a keeper.
-pub fn disks_of(keeper: DiskKeeper) -> Result<Disks, Fail> {
-    match keeper.into_store() {
-        Some(store) => Ok(store.close()),
-        None => Err(Fail::from("no store")),
-    }
-}
-
 /// Whether a disk answers no more calls.
 pub fn has_stopped(disk: &mut Fuse<Memory>) -> bool {
     !disk.may_be_used() || disk.len().is_err()
