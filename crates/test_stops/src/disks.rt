@@ -1,5 +1,6 @@
 //! Stores over two disks in memory, each of which stops after so many calls.
 
+use fixture_words::same_front;
 use keep_sql::SqlKeeper;
 use sqlite::{Connection, FileStore, Files, Options};
 use sqlite_disk::{Crash, Disk, Fuse, Memory};
@@ -65,18 +66,6 @@ pub fn ways(is_synced: bool) -> &'static [Left] {
     } else {
         EACH.as_slice()
     }
-}
-
-// How many bytes are the same in both, from the front.
-fn same_front(one: &[u8], other: &[u8]) -> usize {
-    let mut same = 0usize;
-    for (a, b) in one.iter().zip(other.iter()) {
-        if *a != *b {
-            return same;
-        }
-        same = same.saturating_add(1);
-    }
-    same
 }
 
 /// The bytes of a disk that stopped: those that were written, and those of the last sync.

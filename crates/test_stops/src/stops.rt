@@ -2,7 +2,6 @@
 
 use crate::disks::{Disks, Stopped, has_stopped, new_disks, opened, ways};
 use crate::requests::{REQUESTS, accepted, kept_now, states};
-use fixture_kept::{Kept, is_state};
 use keep_sql::{Prepared, SqlKeeper};
 use sqlite::{Alter, Files};
 use std::alloc::Global;
@@ -36,9 +35,9 @@ fn served<R: Threads + Sync, S: Alter + Drop>(
 }
 
 // What a keeper holds, once it is ready.
-fn kept_over<S: Alter + Drop>(alloc: Global, mut keeper: SqlKeeper<S>) -> Result<Kept, Fail> {
+fn kept_over<S: Alter + Drop>(alloc: Global, mut keeper: SqlKeeper<S>) -> Result<String, Fail> {
     keeper.prepare(alloc)?;
-    kept_now(alloc, &mut keeper)
+    Ok(kept_now(alloc, &mut keeper)?)
 }
 
 // How many requests are accepted over disks, and the disks then.
@@ -53,18 +52,27 @@ fn run<R: Threads + Sync>(rt: &R, alloc: Global, disks: Disks) -> Result<(usize,
 }
 
 // What a store over disks that are started again holds.
-fn kept_again(alloc: Global, disks: Disks) -> Result<Kept, Fail> {
+fn kept_again(alloc: Global, disks: Disks) -> Result<String, Fail> {
     match opened(alloc, disks) {
         Ok(keeper) => kept_over(alloc, keeper),
         Err(_) => Err(Fail::from("it isn't opened")),
     }
 }
 
+// Whether this is what was kept after so many requests or after one more.
+fn is_near(states: &[String], count: usize, now: &str) -> bool {
+    states
+        .iter()
+        .skip(count)
+        .take(2)
+        .any(|state| state.as_str() == now)
+}
+
 // Whether that is what was kept after so many requests or after one more, whatever is left of what wasn't synced.
 fn keeps_near(
     alloc: Global,
     mut disks: Disks,
-    states: &[Kept],
+    states: &[String],
     count: usize,
 ) -> Result<bool, Fail> {
     let log = Stopped::new(alloc, &mut disks.log)?;
@@ -73,7 +81,7 @@ fn keeps_near(
         let log = log.started(alloc, *left)?;
         let db = db.started(alloc, *left)?;
         let now = kept_again(alloc, Files { log, db })?;
-        if !is_state(states, count, &now) && !is_state(states, count.saturating_add(1), &now) {
+        if !is_near(states, count, now.as_str()) {
             return Ok(false);
         }
     }
@@ -101,7 +109,7 @@ fn stops<R: Threads + Sync>(
     alloc: Global,
     fused: Fused,
     calls: u64,
-    states: &[Kept],
+    states: &[String],
 ) -> Result<bool, Fail> {
     let (count, mut disks) = run(rt, alloc, fused_disks(alloc, fused, calls))?;
     let has_stopped = has_stopped(&mut disks.log) || has_stopped(&mut disks.db);
