@@ -1,5 +1,5 @@
 -- The nodes of a page that was edited, as every rule goes over them.
-use Rattle.std.specs.Prelude.{◌≡◌, ◌&&◌, ◌||◌, not, List, filter, Bool, false, Option, Some, None}
+use Rattle.std.specs.Prelude.{◌≡◌, ◌&&◌, ◌||◌, not, List, filter, Bool, true, false, Option, Some, None}
 use Rattle.std.specs.List.{AllByRecursion}
 use Rattle.snap_tree.specs.Trees.{Document, rows_of}
 use Rattle.reaudit.specs.declared.known.Known.{Known}
@@ -7,6 +7,7 @@ use Rattle.reaudit.specs.declared.known.Placed.{Placed}
 use Rattle.reaudit.specs.declared.nodes.Nodes.{Nodes}
 use Rattle.reaudit.specs.Known.{placed_of, ArePlaced, same_nodes}
 use Rattle.reaudit.specs.Marks.{is_marked}
+use Rattle.reaudit.specs.Relisted.{AreRelisted}
 
 -- the pages agree on all that rules look at of a node of both
 abbrev pub is_settled : Bool → Option Known → Bool
@@ -34,3 +35,4 @@ pub record AreNodes (old new : Document) (nodes : Nodes) : Type 0 where
   pub reached : nodes.reached.items ≡ reached_by nodes.placed.items
   pub live : nodes.live.items ≡ live_by nodes.marks.items nodes.placed.items
   pub in_order : nodes.in_order ≡ same_nodes (rows_of old.trees) (rows_of new.trees)
+  pub relisted : nodes.relisted ≡ true → AreRelisted old new

@@ -15,6 +15,7 @@ ghost use Rattle.reaudit.specs.Nodes.{AreNodes, is_settled};
 use crate::before::{row_before, rows_before};
 use crate::known::{Known, Placed, well};
 use crate::nodes::{Nodes, is_settled};
+use crate::relisted::rows_again;
 use judge_core::OutRow;
 use judged_rows::{ByNode, after, head_on, row_again, row_of};
 use page_changes::Flags;
@@ -23,7 +24,7 @@ use snap_tree::{List, NodeId, OutOfMemory, Tree};
 use std::alloc::Global;
 
 // Adds the row of a rule on a node, which is judged, where there is one.
-fn add_judged<B: RuleBook>(
+pub(crate) fn add_judged<B: RuleBook>(
     rows: &mut Vec<OutRow>,
     alloc: Global,
     book: &mut B,
@@ -43,7 +44,7 @@ fn add_judged<B: RuleBook>(
 }
 
 // Adds the row that a node had, where it had one, with its final outcome anew.
-fn add_kept(
+pub(crate) fn add_kept(
     rows: &mut Vec<OutRow>,
     alloc: Global,
     row: Option<&OutRow>,
@@ -288,7 +289,8 @@ fn rows_by_none<B: RuleBook>(
 /// page, under whatever judgements those are. The rule judges at most the nodes of the new page on which the edit
 /// affects it; and where the rows aren't those of the old page, never more than the nodes of the new page. Only the nodes
 /// are gone over that the edit reaches, and, where the rule had rows, those that are marked, as the nodes of these rows
-/// must be. Fails only for want of memory.
+/// must be; and where the pages differ in their lists of language subtags alone, those of the rows, unless the rule's
+/// applicability looks at the list. Fails only for want of memory.
 pub fn atomic_again<B: RuleBook>(
     alloc: Global,
     book: &mut B,
@@ -308,6 +310,10 @@ pub fn atomic_again<B: RuleBook>(
     ensures counted { CostsAgain B.book info.now old.now new.now rows.now (B.calls book.old) (B.calls book.new) }
     ensures within { B.calls book.new ≤ B.calls book.old + node_count new.now }
 {
+    if nodes.relisted && !info.applies.looks_at_langs() {
+        let again = rows_again(alloc, book, info, old, new, rows, by_node)?;
+        return Ok(List::from_vec(again));
+    }
     if rows.is_empty() {
         let again = rows_by_none(alloc, book, info, old, new, nodes, by_node)?;
         return Ok(List::from_vec(again));

@@ -1,12 +1,14 @@
-ghost use Rattle.std.specs.Prelude.{◌≡◌, map, IfOk};
+ghost use Rattle.std.specs.Prelude.{◌≡◌, map, IfOk, IsTrue};
 ghost use Rattle.snap_tree.specs.Well.{IsWell};
 ghost use Rattle.acc_tree.specs.Seen.{seen};
 ghost use Rattle.page_keys.specs.PageKeys.{same_langs};
 ghost use Rattle.page_changes.specs.Flags.{AreFlags};
 ghost use Rattle.reaudit.specs.ByNumber.{placed_by};
 ghost use Rattle.reaudit.specs.Known.{ArePlaced, in_order, same_nodes};
+ghost use Rattle.reaudit.specs.Relisted.{AreRelisted};
 
 use crate::by_number::{ByNumber, by_number, found};
+use crate::relisted::all_agreeing;
 use page_changes::{Flags, changes};
 use snap_tree::{List, NodeId, OutOfMemory, Row, Text, Tree};
 use std::alloc::Global;
@@ -103,13 +105,43 @@ pub(crate) fn well(tree: &Tree)
     let _rows = tree.rows();
 }
 
+// What of each node of the old page is the same; where it is known that all is, the nodes aren't compared.
+fn flags_between(
+    alloc: Global,
+    old: &Tree,
+    new: &Tree,
+    relisted: bool,
+) -> Result<Vec<Flags>, OutOfMemory>
+    requires { IsTrue relisted → AreRelisted old.now new.now }
+    ensures { IfOk result (λ flags. AreFlags (seen old.now.trees) (seen new.now.trees) flags.items) }
+{
+    if relisted {
+        all_agreeing(alloc, old.rows())
+    } else {
+        changes(alloc, old, new)
+    }
+}
+
 /// The nodes of the new page in document order, with what is known of each. Fails only for want of memory.
 pub fn known_nodes(alloc: Global, old: &Tree, new: &Tree) -> Result<Vec<Placed>, OutOfMemory>
     ensures { IfOk result (λ placed. ArePlaced old.now new.now placed.items) }
 {
+    placed_nodes(alloc, old, new, false)
+}
+
+/// The same, where it may be known that the pages differ in their lists of language subtags alone.
+pub(crate) fn placed_nodes(
+    alloc: Global,
+    old: &Tree,
+    new: &Tree,
+    relisted: bool,
+) -> Result<Vec<Placed>, OutOfMemory>
+    requires { IsTrue relisted → AreRelisted old.now new.now }
+    ensures { IfOk result (λ placed. ArePlaced old.now new.now placed.items) }
+{
     well(old);
     let langs = same_langs(old.langs(), new.langs());
-    let flags = changes(alloc, old, new)?;
+    let flags = flags_between(alloc, old, new, relisted)?;
     if same_nodes(old.rows(), new.rows()) {
         return place_in_order(alloc, langs, flags.as_slice());
     }

@@ -2,8 +2,9 @@ ghost use Rattle.std.specs.Prelude.{◌≡◌, ◌&&◌, IfOk};
 ghost use Rattle.reaudit.specs.Marks.{AreMarked};
 ghost use Rattle.reaudit.specs.Nodes.{is_live, is_settled, live_by, reached_by, AreNodes};
 
-use crate::known::{Known, Placed, known_nodes, same_nodes};
+use crate::known::{Known, Placed, placed_nodes, same_nodes};
 use crate::marks::{is_marked, marks_of};
+use crate::relisted::is_relisted;
 use judge_core::OutRow;
 use page_changes::Flags;
 use snap_tree::{OutOfMemory, Tree};
@@ -22,6 +23,8 @@ pub struct Nodes {
     pub live: Vec<Placed>,
     /// Whether the pages hold the same nodes, in the same order.
     pub in_order: bool,
+    /// Whether the pages are known to differ in their lists of language subtags alone.
+    pub relisted: bool,
 }
 
 fn all_agree(flags: Flags) -> bool
@@ -83,7 +86,8 @@ pub fn nodes_of(
     ensures nodes { IfOk result (λ nodes. AreNodes old.now new.now nodes) }
     ensures marked { IfOk result (λ nodes. AreMarked nodes.marks.items rows.now) }
 {
-    let placed = known_nodes(alloc, old, new)?;
+    let relisted = is_relisted(old, new);
+    let placed = placed_nodes(alloc, old, new, relisted)?;
     let marks = marks_of(alloc, placed.len(), rows)?;
     let live = live_by(alloc, marks.as_slice(), placed.as_slice())?;
     let reached = reached_by(alloc, live.as_slice())?;
@@ -94,5 +98,6 @@ pub fn nodes_of(
         marks,
         live,
         in_order,
+        relisted,
     })
 }

@@ -23,6 +23,22 @@ pub enum Class {
     SubLang,
 }
 
+impl Class {
+    ghost use Rattle.std.specs.Prelude.{◌≡◌};
+    ghost use Rattle.rule_core.specs.Reach.{looks_at_langs};
+
+    /// Whether the class looks at the list of language subtags that the page's site accepts.
+    pub fn looks_at_langs(self) -> bool
+        ensures { result ≡ looks_at_langs self }
+    {
+        match self {
+            Class::SelfOnly | Class::Sub | Class::Table => false,
+            Class::Title | Class::Metas | Class::Whole => false,
+            Class::Lang | Class::SubLang => true,
+        }
+    }
+}
+
 /// What a rule says of itself.
 #[derive(Clone, Copy, Debug, PartialEq, Eq)]
 pub struct RuleInfo {

@@ -30,11 +30,7 @@ impl LanguageIsKnown {
     };
 }
 
-fn verdict(
-    alloc: Global,
-    accepted: &List<Text>,
-    root: &Row,
-) -> Result<Option<Verdict>, OutOfMemory>
+fn verdict(alloc: Global, accepted: &List<Text>, root: &Row) -> Result<Option<Verdict>, OutOfMemory>
     ensures { IfOk result (λ verdict. verdict ≡ language_verdict accepted.now (seen_row root.now)) }
 {
     match attr(root, Attribute::Lang) {

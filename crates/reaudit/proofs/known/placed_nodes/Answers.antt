@@ -6,7 +6,7 @@ use Rattle.page_keys.specs.PageKeys.{same_langs}
 use Rattle.reaudit.specs.declared.known.Placed.{Placed}
 use Rattle.reaudit.specs.Known.{first_known, placed_of, in_order, same_nodes}
 use Rattle.reaudit.proofs.InOrder.{placed_in_order}
-use Rattle.reaudit.proofs.known.known_nodes.Goals as goal
+use Rattle.reaudit.proofs.known.placed_nodes.Goals as goal
 
 pub returns-then-same_nodes : goal.returns-then-same_nodes
 returns-then-same_nodes c =
