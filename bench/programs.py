@@ -30,7 +30,7 @@ def steps_in(lines):
 
 def least(told):
     """The least time of each step in what some runs told."""
-    found = {}
+    found: dict[str, int] = {}
     for run in told:
         for step, micros in run:
             found[step] = min(found.get(step, micros), micros)

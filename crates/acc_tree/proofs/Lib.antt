@@ -5,4 +5,6 @@ pub mod Asking
 pub mod Finding
 pub mod Tagging
 pub mod Nearest
+pub mod Ancestors
 pub mod Once
+pub mod Numbered

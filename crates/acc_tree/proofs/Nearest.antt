@@ -5,9 +5,8 @@ use Rattle.snap_tree.specs.declared.row.NodeId.{NodeId}
 use Rattle.snap_tree.specs.declared.row.Row.{Row}
 use Rattle.snap_tree.specs.Spots.{Spot, spot}
 use Rattle.snap_tree.specs.Trees.{Trees}
-use Rattle.acc_tree.specs.declared.above.TableAbove.{TableAbove}
-use Rattle.acc_tree.specs.Frames.{is_table, is_label, table_at, above_of, under}
-use Rattle.acc_tree.specs.Sights.{Sight, sight_of, summed, first_table, first_label, TellsNearest}
+use Rattle.acc_tree.specs.Frames.{is_table, is_label, table_at, above_of}
+use Rattle.acc_tree.specs.Sights.{Sight, summed, first_table, first_label, TellsNearest}
 use Rattle.acc_tree.specs.Tags.{html_tag}
 use Rattle.acc_tree.proofs.Asking.{is_nearest, not_nearest}
 use Rattle.acc_tree.proofs.Sighting.{sight_is_spot}

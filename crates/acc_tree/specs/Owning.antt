@@ -1,7 +1,7 @@
 -- What an element owns: the elements that count as its children. They are those below it, and those that it follows by
 -- aria-owns. From an element that was followed nothing is followed. So each owned element comes with a number: how many
 -- times one may still follow from there on, 1 or 0.
-use Rattle.std.specs.Prelude.{◌||◌, not, ℕ, suc, List, [], ◌∷◌, ◌++◌, map, Bool, true, false, if◌then◌else◌, Option, Some, None}
+use Rattle.std.specs.Prelude.{◌||◌, not, ℕ, zero, suc, List, [], ◌∷◌, ◌++◌, map, Bool, true, false, if◌then◌else◌, Option, Some, None}
 use Rattle.std.specs.List.{flat_map}
 use Rattle.std.specs.Option.{option_map_or}
 use Rattle.aria_tables.specs.declared.role.Role.{Role}
@@ -66,7 +66,7 @@ in_its_place through s =
 
 -- what a row takes in, where one may follow so many times: that in the place of each node which it follows
 abbrev pub taken : List Role → Trees → ℕ → Row → List OwnedElement
-taken through trees 0 row = []
+taken through trees zero row = []
 taken through trees (suc number) row = flat_map (in_its_place through) (followed trees row)
 
 -- what an element owns where one may follow so many times and these roles are looked through, again and again: first

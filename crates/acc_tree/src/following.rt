@@ -1,5 +1,7 @@
-ghost use Rattle.std.specs.Prelude.{◌≡◌, IfOk};
+ghost use Rattle.std.specs.Prelude.{◌≡◌, ◌&&◌, ◌++◌, [], ◌∷◌, not, true, if◌then◌else◌, IfOk, OnOk};
+ghost use Rattle.std.specs.BTreeSet.{contains, Updates};
 ghost use Rattle.std.specs.List.{list_any};
+ghost use Rattle.std.specs.Ordering.{nat_cmp};
 ghost use Rattle.snap_tree.specs.Rows.{has_number};
 ghost use Rattle.acc_tree.specs.Following.{rows_above, is_ancestor, are_apart, follows};
 ghost use Rattle.acc_tree.specs.Seen.{seen_row, seen};
@@ -45,6 +47,25 @@ fn are_apart(tree: &Tree, n: NodeId, m: NodeId) -> bool
     n.0 != m.0 && !is_ancestor(tree, m, n) && !is_ancestor(tree, n, m)
 }
 
+// Adds a node to those that n follows, where it is new and stands apart from n.
+fn add_new(
+    tree: &Tree,
+    n: NodeId,
+    before: &mut BTreeSet<u32>,
+    nodes: &mut Vec<NodeId>,
+    node: NodeId,
+) -> Result<(), OutOfMemory>
+    ensures before { OnOk result (Updates nat_cmp before.old before.new node.0 true) }
+    ensures nodes { OnOk result (nodes.new.items ≡ nodes.old.items
+        ++ (if not (contains nat_cmp before.old node.0) && are_apart (seen tree.now.trees) n node then node ∷ [] else [])) }
+{
+    let is_new = before.insert(node.0)?;
+    if is_new && are_apart(tree, n, node) {
+        nodes.push(node)?;
+    }
+    Ok(())
+}
+
 /// The nodes that an element follows by aria-owns, given its row.
 ///
 /// Each is the first element in document order whose id is some word of the value, and neither the element
@@ -56,10 +77,7 @@ pub fn follows(alloc: Global, tree: &Tree, row: &Row) -> Result<List<NodeId>, Ou
     let mut before = BTreeSet::new(alloc);
     let mut rest = text_at(row, Attribute::Aria(AriaAttr::Owns));
     while let Some((node, later)) = first_found(tree, rest) {
-        let is_new = before.insert(node.0)?;
-        if is_new && are_apart(tree, row.id, node) {
-            nodes.push(node)?;
-        }
+        add_new(tree, row.id, &mut before, &mut nodes, node)?;
         rest = later;
     }
     Ok(List::from_vec(nodes))

@@ -29,7 +29,6 @@ pub fn laws_of_sights()
 ///
 /// The nearest HTML `table` and the nearest HTML `label` that a sight tells of are the first ones among the node's
 /// ancestors, of which the parent comes first; it tells of none exactly where no ancestor is one.
-#[tactic(auto, using(crate::proofs::Nearest::tells_nearest))]
 pub fn laws_of_above()
     ensures { (t : Trees) (n : NodeId) → TellsNearest t n }
 {}

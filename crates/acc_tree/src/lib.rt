@@ -4,7 +4,8 @@
 //!
 //! Start with [`role`], [`included`] and [`owned`], which answer for a node by its number. Code that goes
 //! over a page carries what is above along ([`Above`], [`under`]) and asks [`role_at`], [`included_at`]
-//! and the others of a row; [`sight_of`] gives both for a number.
+//! and the others of a row; [`sight_of`] gives both for a number. What an element takes in from elsewhere by
+//! aria-owns, [`follows`] says, on which names stand too.
 //!
 //! Contracts see a page as far as it is looked at: `seen` keeps of each row the attributes that
 //! [`Attribute`] names and all whose names begin `aria-`. So two pages that agree on these have the same

@@ -211,10 +211,10 @@ pub fn owned_by(
     let inner = under(&sight.above, sight.row);
     if number == 0 {
         add_inner(&mut list, through, &inner, sight.below)?;
-    } else {
-        add_owned(alloc, &mut list, through, tree, &inner, sight.below)?;
-        add_taken(alloc, &mut list, through, tree, sight.row)?;
+        return Ok(List::from_vec(list));
     }
+    add_owned(alloc, &mut list, through, tree, &inner, sight.below)?;
+    add_taken(alloc, &mut list, through, tree, sight.row)?;
     Ok(List::from_vec(list))
 }
 
@@ -234,12 +234,7 @@ fn items_of(alloc: Global, elements: &[OwnedElement]) -> Result<List<Item>, OutO
 /// The elements that a node owns with no role looked through, where one may follow aria-owns from it so many times,
 /// 0 or 1; each with how many times one may still follow from there on (see `owned_by`). None for a number that the
 /// tree doesn't hold.
-pub fn items(
-    alloc: Global,
-    tree: &Tree,
-    n: NodeId,
-    number: u8,
-) -> Result<List<Item>, OutOfMemory>
+pub fn items(alloc: Global, tree: &Tree, n: NodeId, number: u8) -> Result<List<Item>, OutOfMemory>
     requires { number ≤ 1 }
     ensures { IfOk result (λ list. list ≡ items (seen tree.now.trees) n number) }
 {

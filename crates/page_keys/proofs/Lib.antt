@@ -7,5 +7,7 @@ pub mod Pages
 pub mod Again
 pub mod Outer
 pub mod Referring
+pub mod Following
 pub mod Classes
+pub mod Taking
 pub mod Looking

@@ -1,5 +1,5 @@
-//! Pages at random on which an element owns others by aria-owns, each with edits at random: the audit after the edits has the
-//! outcomes of a full one, and judges the pairs of a rule and a node that a plain program finds affected.
+//! Pages at random on which an element owns others by aria-owns, each with edits at random: the audit after the edits has
+//! the outcomes of a full one, and judges the pairs of a rule and a node that a plain program finds affected.
 
 ghost use Rattle.std.specs.Prelude.{◌≡◌, IfOk, IfSome};
 

@@ -1,6 +1,6 @@
-use crate::again::versions;
 use crate::judged::{compared, info_of, keeps, whole};
 use crate::reach::{Less, Place};
+use fixture_pages::page_in;
 use rule_core::Class::{SelfOnly, Title};
 use snap_tree::NodeId;
 use std::alloc::Global;
@@ -258,7 +258,8 @@ static ON_TABLES: [Smaller; 2] = [
 
 fn is_too_small(alloc: Global, case: &Smaller) -> Result<bool, Fail> {
     let (number, less, before, after, n) = *case;
-    let (old, new) = versions(alloc, before, after)?;
+    let old = page_in(alloc, before)?;
+    let new = page_in(alloc, after)?;
     let Some(info) = info_of(number) else {
         return Ok(false);
     };
