@@ -1,4 +1,5 @@
 pub mod Tests
+pub mod PageTests
 pub mod Stands
 pub mod Agreeing
 pub mod Trails

@@ -1,20 +1,22 @@
 ghost use Rattle.std.specs.Prelude.{ℕ, List};
-ghost use Rattle.snap_tree.specs.Trees.{Trees};
+ghost use Rattle.snap_tree.specs.Trees.{Trees, Document};
 ghost use Rattle.aria_tables.specs.declared.role.Role.{Role};
 ghost use Rattle.acc_tree.specs.Owning.{items, owned};
 ghost use Rattle.acc_tree.specs.Pages.{role, explicit_role, is_exposed, is_included, is_decorative};
 ghost use Rattle.acc_tree.specs.Sights.{sight_of};
 ghost use Rattle.page_keys.specs.Keys.{Key};
 ghost use Rattle.page_keys.specs.Same.{TellsSame};
+ghost use Rattle.page_keys.specs.PageKeys.{PageKey, TellsSameIn};
 ghost use Rattle.page_keys.specs.Nodes.{self_keys, tree_keys, node_keys};
 ghost use Rattle.page_keys.specs.Classes.{sub_keys, table_keys, title_keys, metas_keys, whole_keys};
 ghost use Rattle.page_keys.specs.Laws.{LooksAt, alone, subtree, table_sight, root_titles, meta_owns, page_at};
 ghost use Rattle.page_keys.specs.Laws.{words_find, labelled_by, labels_at, follows_at, owned_elements};
 
-/// The test of a key tells whether two pages agree on it. It does nothing: the clause is what it is for.
-#[tactic(auto, using(crate::proofs::Tests::same_tells))]
+/// The test of a key tells whether two pages agree on it. It does nothing: the clauses are what it is for.
+#[tactic(auto, using(crate::proofs::Tests::same_tells, crate::proofs::PageTests::same_in_tells))]
 pub fn laws_of_keys()
-    ensures { (old new : Trees) (key : Key) → TellsSame old new key }
+    ensures nodes { (old new : Trees) (key : Key) → TellsSame old new key }
+    ensures pages { (old new : Document) (key : PageKey) → TellsSameIn old new key }
 {}
 
 /// What is said of a node by itself. It does nothing: the clauses are what it is for.
