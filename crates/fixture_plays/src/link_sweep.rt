@@ -3,7 +3,7 @@
 use crate::playing::{Play, Way, link_of};
 use crate::states::{Swept, kept_now};
 use crate::watched::Watched;
-use fixture_keepers::{Made, memory_keeper};
+use fixture_keepers::{FailingMemory, Made, Played, memory_keeper};
 use fixture_talks::{End, Talk};
 use fixture_words::{Difference, Wrong};
 use std::thread::Threads;
@@ -76,7 +76,23 @@ fn ended_so(swept: &Swept<'_>, end: End, link: &Watched, call: Call, now: &str) 
     }
 }
 
-// Whether it ends so, and no call fails where none is to.
+// Whether it ends so over this keeper, and no call fails where none is to.
+fn fails_over<R: Threads + Sync, K: Played, B: Made>(
+    rt: &R,
+    swept: &Swept<'_>,
+    keeper: K,
+    asked: &[u8],
+    call: Call,
+    fails: bool,
+) -> Result<bool, Wrong> {
+    let mut play = Play::<_, B>::new(swept.alloc, keeper, way_of(call.piece))?;
+    let mut link = Watched::over(link_of(swept.alloc, asked, call.piece, &[call.number])?);
+    let end = play.serve(rt, &mut link)?;
+    let now = kept_now(&mut play, swept.plot)?;
+    let is_fault = link.faults() != (0, 0);
+    Ok(is_fault == fails && ended_so(swept, end, &link, call, now.as_str()))
+}
+
 fn fails_at<R: Threads + Sync, B: Made>(
     rt: &R,
     swept: &Swept<'_>,
@@ -85,12 +101,7 @@ fn fails_at<R: Threads + Sync, B: Made>(
     fails: bool,
 ) -> Result<bool, Wrong> {
     let keeper = memory_keeper(swept.alloc, &swept.plot.case.setting, 0)?;
-    let mut play = Play::<_, B>::new(swept.alloc, keeper, way_of(call.piece))?;
-    let mut link = Watched::over(link_of(swept.alloc, asked, call.piece, &[call.number])?);
-    let end = play.serve(rt, &mut link)?;
-    let now = kept_now(&mut play, swept.plot)?;
-    let is_fault = link.faults() != (0, 0);
-    Ok(is_fault == fails && ended_so(swept, end, &link, call, now.as_str()))
+    fails_over::<R, FailingMemory, B>(rt, swept, keeper, asked, call, fails)
 }
 
 /// The first call of the connection that goes otherwise, of so many; or the one after them, where that is made too.
@@ -110,16 +121,16 @@ pub fn sweep_link<R: Threads + Sync, B: Made>(
     Ok(None)
 }
 
-// Whether of so many bytes the requests that they have whole are answered, and no more is kept.
-fn is_cut_so<R: Threads + Sync, B: Made>(
+// Whether of so many bytes the requests that they have whole are answered over this keeper, and no more is kept.
+fn is_cut_over<R: Threads + Sync, K: Played, B: Made>(
     rt: &R,
     swept: &Swept<'_>,
+    keeper: K,
     asked: &[u8],
     piece: u64,
     cut: usize,
 ) -> Result<bool, Wrong> {
     let talks = swept.talks.as_slice();
-    let keeper = memory_keeper(swept.alloc, &swept.plot.case.setting, 0)?;
     let mut play = Play::<_, B>::new(swept.alloc, keeper, way_of(piece))?;
     let front = asked.get(..cut).unwrap_or(asked);
     let mut link = link_of(swept.alloc, front, piece, &[])?;
@@ -128,6 +139,17 @@ fn is_cut_so<R: Threads + Sync, B: Made>(
     let is_told = replies_in(talks, link.written()) == Some(whole);
     let is_end = end == end_after(talks, whole, cut);
     Ok(is_end && is_told && swept.keeps(&mut play, whole)?)
+}
+
+fn is_cut_so<R: Threads + Sync, B: Made>(
+    rt: &R,
+    swept: &Swept<'_>,
+    asked: &[u8],
+    piece: u64,
+    cut: usize,
+) -> Result<bool, Wrong> {
+    let keeper = memory_keeper(swept.alloc, &swept.plot.case.setting, 0)?;
+    is_cut_over::<R, FailingMemory, B>(rt, swept, keeper, asked, piece, cut)
 }
 
 // How a connection ends that is cut after so many bytes, which have so many requests whole.

@@ -1,7 +1,7 @@
 //! What is kept before a case's first request and after each, where nothing fails: what sweeps compare with.
 
 use crate::playing::{Play, Way};
-use fixture_keepers::{Made, Played, kept_lines, memory_keeper};
+use fixture_keepers::{FailingMemory, Made, Played, kept_lines, memory_keeper};
 use fixture_talks::{Kept, Plot, Step, Talk};
 use fixture_words::{Difference, Wrong};
 use std::alloc::Global;
@@ -112,22 +112,32 @@ impl<'a> Swept<'a> {
     }
 }
 
+// The same over this keeper.
+fn states_over<'a, R: Threads + Sync, K: Played, B: Made>(
+    rt: &R,
+    mut swept: Swept<'a>,
+    keeper: K,
+) -> Result<Swept<'a>, Wrong> {
+    let plot = swept.plot;
+    let mut play = Play::<_, B>::new(swept.alloc, keeper, WHOLE)?;
+    swept.note(&mut play)?;
+    swept.add_all(rt, &mut play, plot.head)?;
+    swept.add_all(rt, &mut play, plot.case.steps.as_slice())?;
+    Ok(swept)
+}
+
 /// Plays a case's talks, and notes what is kept.
 pub fn swept_states<'a, R: Threads + Sync, B: Made>(
     rt: &R,
     alloc: Global,
     plot: Plot<'a>,
 ) -> Result<Swept<'a>, Wrong> {
-    let keeper = memory_keeper(alloc, &plot.case.setting, 0)?;
-    let mut play = Play::<_, B>::new(alloc, keeper, WHOLE)?;
-    let mut swept = Swept {
+    let swept = Swept {
         alloc,
         plot,
         talks: Vec::new(alloc),
         states: Vec::new(alloc),
     };
-    swept.note(&mut play)?;
-    swept.add_all(rt, &mut play, plot.head)?;
-    swept.add_all(rt, &mut play, plot.case.steps.as_slice())?;
-    Ok(swept)
+    let keeper = memory_keeper(alloc, &plot.case.setting, 0)?;
+    states_over::<R, FailingMemory, B>(rt, swept, keeper)
 }

@@ -4,7 +4,7 @@ use crate::over_failing::ended_run;
 use crate::running::{Ended, end_differs};
 use crate::streaming::Failing;
 use fixture_failing_keeper::FailingKeeper;
-use fixture_keepers::{FailingMemory, Made, memory_keeper};
+use fixture_keepers::{FailingMemory, Made, Played, memory_keeper};
 use fixture_plays::{Play, Swept, Way};
 use fixture_talks::{Run, Step};
 use fixture_words::{Difference, Wrong};
@@ -71,20 +71,20 @@ fn keeper_call(call: Call) -> u64 {
     }
 }
 
-/// A play after the talks of the case, of whose keeper this call fails from now on.
-pub(crate) fn play_after<R: Threads + Sync, B: Made>(
+/// A play over this keeper after the talks of the case, of which this call fails from now on.
+pub(crate) fn play_after<R: Threads + Sync, K: Played, B: Made>(
     rt: &R,
     swept: &Swept<'_>,
+    keeper: K,
     piece: u64,
     call: u64,
-) -> Result<Play<FailingKeeper<FailingMemory>, B>, Wrong> {
+) -> Result<Play<FailingKeeper<K>, B>, Wrong> {
     let alloc = swept.alloc;
     let way = Way {
         piece,
         is_joined: false,
         books: 1,
     };
-    let keeper = memory_keeper(alloc, &swept.plot.case.setting, 0)?;
     let mut play = Play::<_, B>::new(alloc, keeper, way)?;
     for talk in &swept.talks {
         play.exchange(rt, talk)?;
@@ -122,28 +122,34 @@ fn ended_by(run: &Run, object: Object, ended: &Ended) -> bool {
     }
 }
 
-// Whether a run ends as it has to where a call fails, and leaves what was kept.
-fn fails_so<R: Threads + Sync, B: Made>(
+// Whether a run over this keeper ends as it has to where a call fails, and leaves what was kept; or as the script says, where
+// the call is one more than are made.
+fn goes_over<R: Threads + Sync, K: Played, B: Made>(
     rt: &R,
     swept: &Swept<'_>,
-    run: &Run,
+    keeper: K,
     call: Call,
+    fails: bool,
 ) -> Result<bool, Wrong> {
-    let mut play = play_after::<R, B>(rt, swept, call.piece, keeper_call(call))?;
+    let run = run_of(swept)?;
+    let mut play = play_after::<R, K, B>(rt, swept, keeper, call.piece, keeper_call(call))?;
     let ended = ended_run(rt, &mut play, run, failing_at(call))?;
-    Ok(ended_by(run, call.object, &ended) && swept.keeps(&mut play, swept.talks.len())?)
+    if fails {
+        let is_ended = ended_by(run, call.object, &ended);
+        Ok(is_ended && swept.keeps(&mut play, swept.talks.len())?)
+    } else {
+        Ok(end_differs(swept.alloc, run, &ended)?.is_none())
+    }
 }
 
-// Whether a run ends as the script says where the call fails that would come after the last of an object.
-fn ends_then<R: Threads + Sync, B: Made>(
+fn goes_so<R: Threads + Sync, B: Made>(
     rt: &R,
     swept: &Swept<'_>,
-    run: &Run,
     call: Call,
+    fails: bool,
 ) -> Result<bool, Wrong> {
-    let mut play = play_after::<R, B>(rt, swept, call.piece, keeper_call(call))?;
-    let ended = ended_run(rt, &mut play, run, failing_at(call))?;
-    Ok(end_differs(swept.alloc, run, &ended)?.is_none())
+    let keeper = memory_keeper(swept.alloc, &swept.plot.case.setting, 0)?;
+    goes_over::<R, FailingMemory, B>(rt, swept, keeper, call, fails)
 }
 
 // The first call of an object, of so many, that goes otherwise; or the one after them, where that is made too.
@@ -152,32 +158,22 @@ fn object_differs<R: Threads + Sync, B: Made>(
     swept: &Swept<'_>,
     last: Call,
 ) -> Result<Option<Difference>, Wrong> {
-    let run = run_of(swept)?;
     let Call {
         piece,
         object,
         number: calls,
     } = last;
-    for number in 1..calls.saturating_add(1) {
+    for number in 1..calls.saturating_add(2) {
         let call = Call {
             piece,
             object,
             number,
         };
-        if !fails_so::<R, B>(rt, swept, run, call)? {
+        if !goes_so::<R, B>(rt, swept, call, number <= calls)? {
             return swept.differs("call", number);
         }
     }
-    let next = Call {
-        piece,
-        object,
-        number: calls.saturating_add(1),
-    };
-    if ends_then::<R, B>(rt, swept, run, next)? {
-        Ok(None)
-    } else {
-        swept.differs("no call", next.number)
-    }
+    Ok(None)
 }
 
 fn piece_differs<R: Threads + Sync, B: Made>(

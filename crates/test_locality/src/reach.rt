@@ -269,5 +269,13 @@ pub(crate) fn add_class<'a>(
         Class::Title => add_titles(keys, place, n),
         Class::Metas => add_metas(keys, place.tree, n),
         Class::Whole => add_whole(keys, place, n),
+        Class::Lang => {
+            keys.push(Key::Langs)?;
+            Ok(())
+        }
+        Class::SubLang => {
+            keys.push(Key::Langs)?;
+            add_sub(keys, place, n)
+        }
     }
 }

@@ -39,11 +39,21 @@ fn found(alloc: Global, tree: &Tree, word: &str, rest: &str) -> Result<String, T
         "find" => find(alloc, tree, rest),
         "nodes" => Ok(format!(in alloc; "{}", tree.rows().len())?),
         "address" => quoted(alloc, tree.address().as_str()),
+        "langs" => langs(alloc, tree),
         _ => {
             let (node, how) = cut(rest, ' ');
             of_node(alloc, tree, word, node_of(tree, node)?, how)
         }
     }
+}
+
+// The language subtags that the page's site accepts.
+fn langs(alloc: Global, tree: &Tree) -> Result<String, Trouble> {
+    let mut line = String::new(alloc);
+    for lang in tree.langs().as_slice() {
+        push_word(&mut line, lang.as_str())?;
+    }
+    Ok(line)
 }
 
 // The node of a number; `last` is the last of the page.

@@ -5,7 +5,7 @@ ghost use Rattle.links.specs.Memory.{IsUntouchedLink};
 
 use desk_run::run;
 use fixture_books::{Meeting, meeting_books};
-use keep_core::MemoryKeeper;
+use keep_core::{Keeper, MemoryKeeper};
 use links::{MemDoor, MemLink};
 use snap_tree::{List, OutOfMemory, Text};
 use std::alloc::{AllocError, Global};
@@ -78,10 +78,12 @@ fn two_books(alloc: Global) -> Result<Vec<Meeting>, OutOfMemory>
     Ok(books)
 }
 
-// The status of a run that serves the import.
-fn status_by<R: Threads + Sync>(
+// The status of a run that serves the import over this keeper. (Over any keeper, so that no part of one in memory is proved
+// here.)
+fn status_by<R: Threads + Sync, K: Keeper + Drop>(
     rt: &R,
     alloc: Global,
+    mut keeper: K,
     books: &mut Vec<Meeting>,
 ) -> Result<u8, OutOfMemory>
     requires { 0 < vec_len books.old }
@@ -89,7 +91,6 @@ fn status_by<R: Threads + Sync>(
     let words = texts(alloc, WORDS.as_slice())?;
     let mut input = MemSource::new(none(alloc), 1, none(alloc));
     let (mut out, mut err) = (sink(alloc)?, sink(alloc)?);
-    let mut keeper = MemoryKeeper::new(alloc, none(alloc));
     let mut door = door(alloc)?;
     Ok(run(
         rt,
@@ -109,7 +110,8 @@ fn status_by<R: Threads + Sync>(
 #[test]
 fn an_import_is_audited_by_two_workers_at_once(rt: HostRuntime) -> Result<(), Fail> {
     let mut books = two_books(rt.alloc())?;
-    let status = status_by(&rt, rt.alloc(), &mut books)?;
+    let keeper = MemoryKeeper::new(rt.alloc(), none(rt.alloc()));
+    let status = status_by(&rt, rt.alloc(), keeper, &mut books)?;
     assert_eq!(rt; status, 0);
     assert!(rt; books.iter().all(|book| book.has_met()));
     Ok(())

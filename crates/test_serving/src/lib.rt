@@ -7,4 +7,6 @@ mod doors;
 #[cfg(test)]
 mod memory;
 #[cfg(test)]
+mod served;
+#[cfg(test)]
 mod sockets;

@@ -1,11 +1,11 @@
 //! The desk over the sockets of the system.
 
-use desk_http::serve;
+use crate::served::is_served;
 use keep_core::MemoryKeeper;
 use links::Door;
-use rule_book::Thirty;
 use std::io::{Read, Write};
 use std::net::{Ipv4Addr, TcpStream};
+use std::process::Abort;
 use std::test::Fail;
 use tcp_door::{Patience, TcpDoor};
 use texts::List;
@@ -20,13 +20,12 @@ const SITE_IS_PUT: &[u8] =
 #[test]
 fn a_request_over_tcp_has_its_reply(rt: HostRuntime) -> Result<(), Fail> {
     let alloc = rt.alloc();
-    let mut books = [Thirty::new()];
-    let mut keeper = MemoryKeeper::new(alloc, List::from_vec(Vec::new(alloc)));
+    let keeper = MemoryKeeper::new(alloc, List::from_vec(Vec::new(alloc)));
     let mut door = TcpDoor::new(&rt, Patience::usual());
     door.listen(0, 1)?;
     let mut peer = TcpStream::connect(&rt, (Ipv4Addr::LOCALHOST, door.port()))?;
     peer.write_all(PUT_SITE)?;
-    serve(&rt, alloc, &mut door, &mut keeper, books.as_mut_slice())?;
+    assert!(rt; is_served(&rt, alloc, &mut door, keeper));
     let mut reply = Vec::new(alloc);
     peer.read_to_end(&mut reply)?;
     assert_eq!(rt; reply.as_slice(), SITE_IS_PUT);

@@ -4,10 +4,11 @@ ghost use Rattle.std.specs.Prelude.{IfOk};
 ghost use Rattle.keep_core.specs.Fits.{Fits};
 
 use fixture_sites::{Unasked, named};
-use fixture_stores::{MemStore, waiting_keeper};
+use fixture_stores::waiting_keeper;
 use keep_core::{Batch, Change, KeepFault, Keeper};
 use keep_sql::SqlKeeper;
 use snap_tree::{OutOfMemory, Text};
+use sqlite::Alter;
 use std::alloc::Global;
 use std::test::Fail;
 
@@ -44,16 +45,16 @@ fn drop_home(alloc: Global) -> Result<Change, Unasked>
 }
 
 // Whether the page can't be dropped.
-fn fails_to_drop(alloc: Global, keeper: &mut SqlKeeper<MemStore>) -> Result<bool, Fail> {
+fn fails_to_drop<K: Keeper>(alloc: Global, keeper: &mut K) -> Result<bool, Fail> {
     let change = drop_home(alloc)?;
     let dropped = keeper.apply(alloc, &Batch { change });
     Ok(has_failed(dropped))
 }
 
 // Whether those that read fail so, and dropping the page too or not.
-fn all_fail(
+fn all_fail<K: Keeper>(
     alloc: Global,
-    keeper: &mut SqlKeeper<MemStore>,
+    keeper: &mut K,
     wanted: Failing,
     drops: bool,
 ) -> Result<bool, Fail> {
@@ -61,8 +62,10 @@ fn all_fail(
 }
 
 // Whether before a store is prepared each call fails, and after it none.
-fn fails_until_prepared(alloc: Global) -> Result<bool, Fail> {
-    let mut keeper = waiting_keeper(alloc, false, &[])?;
+fn fails_until_prepared<S: Alter + Drop>(
+    alloc: Global,
+    mut keeper: SqlKeeper<S>,
+) -> Result<bool, Fail> {
     let is_waiting = all_fail(alloc, &mut keeper, ALL, true)?;
     keeper.prepare(alloc)?;
     let is_ready = all_fail(alloc, &mut keeper, NONE, false)?;
@@ -71,7 +74,8 @@ fn fails_until_prepared(alloc: Global) -> Result<bool, Fail> {
 
 #[test]
 fn each_call_fails_until_the_store_is_prepared(rt: HostRuntime) -> Result<(), Fail> {
-    match fails_until_prepared(rt.alloc())? {
+    let keeper = waiting_keeper(rt.alloc(), false, &[])?;
+    match fails_until_prepared(rt.alloc(), keeper)? {
         true => Ok(()),
         false => Err(Fail::from("a call")),
     }
