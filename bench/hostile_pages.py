@@ -126,6 +126,39 @@ def found_words():
     return listing("aria-labelledby", " ".join("a" * 32_000), count=3)
 
 
+# ---- owned elements
+
+def lists_of_one_list():
+    """Lists that own one and the same list, which stands elsewhere: just below the greatest weight."""
+    page, body = begun()
+    owned = page.element(body, "div", [("id", "a"), ("role", "group")])
+    for _ in range(9):
+        page.element(owned, "p", [("role", "treeitem")])
+    for _ in range(9_000):
+        page.element(body, "div", [("role", "tree"), ("aria-owns", "a")])
+    return page
+
+
+def own_each_other():
+    """Lists in a ring: each owns the one before it and the one behind it, and nested elements."""
+    page, body = begun()
+    for number in range(HEIGHT):
+        near = f"c{(number - 1) % HEIGHT} c{(number + 1) % HEIGHT}"
+        owner = page.element(body, "div", [("role", "list"), ("id", f"c{number}"), ("aria-owns", near)])
+        nested(page, owner, ["div"], HEIGHT // 2)
+    return page
+
+
+def owned_words(words):
+    """A list below many elements, with as many words as its aria-owns can have, and elements that they find."""
+    page, inner = begun()
+    inner = nested(page, inner, ["div"], HEIGHT)
+    page.element(inner, "div", [("role", "list"), ("aria-owns", " ".join(words))])
+    for word in dict.fromkeys(words):
+        page.element(inner, "p", [("id", word), ("role", "listitem")])
+    return page
+
+
 def below_long_roles():
     """Nested tables whose roles are long lists of unknown words, and leaves below them."""
     page, inner = begun()
@@ -345,4 +378,9 @@ PAGES = [
     (hidden, 2, "120 nested hidden elements, 9,800 buttons"),
     (options, 2, "a listbox of 120 nested groups, 9,800 options"),
     (many_headings, 2, "4,950 headings of 1,500 bytes"),
+    # owned elements
+    (lists_of_one_list, 2, "9,000 trees that own one group by aria-owns"),
+    (own_each_other, 2, "a ring of 120 lists that own each other"),
+    (lambda: owned_words(["a"] * 32_000), 2, "a list that owns one element by 32,000 words"),
+    (lambda: owned_words(ids(9_800)), 2, "a list that owns 9,800 elements by as many words"),
 ]
