@@ -28,7 +28,7 @@ module _ (book : Book) (caller : List ℕ) where
   made_fit counter [] each within = All-nil PutFits
   made_fit counter (w ∷ all) each within =
       let first = All-head FitsEntry w.entry (entries_of all) each in
-      All-cons PutFits _ _ (record { head = record { page = first.rev.named; rev = omega arith }; address = first.address })
+      All-cons PutFits _ _ (record { head = record { page = first.rev.named; rev = omega arith }; address = first.address; no_langs = refl })
       (made_fit (counter + 1) all (All-tail FitsEntry w.entry (entries_of all) each) (omega arith))
 
   made_apart_from : (name : List ℕ) (counter : ℕ) (all : List Placed) → All (λ (e : Entry). name ≡ e.page → ⊥) (entries_of all)

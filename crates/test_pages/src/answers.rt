@@ -11,14 +11,16 @@
 //! | `name N`, `named N` | the name and its source; whether there is one within the limits |
 //! | `roles N`, `stands N` | the explicit, the implicit and the computed role; exposed, included, decorative |
 //! | `owns N`, `owns N through groups` | the owned elements |
+//! | `items N`, `items N without following`, `follows N` | the owned elements with how many times one may still follow aria-owns; what is followed |
 //! | `above N` | what the ancestors say: section, list, hidden, disabled, table, label |
 //! | `row N`, `kids N`, `labels N`, `attribute N NAME` | the row, the children, the labels, a value |
 //! | `aria N`, `looked N`, `sight N ..` | the attributes `aria-`; title, alt and aria-owns; whether it is such a node |
 //! | `cells N` | where the cells of a table are placed |
 //! | `tagged TAG`, `id ".."`, `find ".."` | the nodes of a tag, of an id, of the words of a reference |
-//! | `nodes`, `address` | the number of nodes, the address |
+//! | `nodes`, `address`, `langs` | the number of nodes, the address, the language subtags that the site accepts |
 //! | `sent`, `rows`, `built`, `kept`, `written` | what is said of bytes as a snapshot, as a list of rows, as a page, as kept ones; how they are written |
 //! | `evidence`, `digest`, `reason`, `finding`, `inputs`, `merge`, `final` | what becomes of outcomes |
+//! | `langs-fault gsw haw` | the place of the first that breaks the form of a list of language subtags |
 //! | `tidy`, `word`, `number`, `web-address`, `table ..`, `made-pages SEED COUNT` | texts, numbers, addresses, ARIA's tables, made pages |
 //!
 //! N is a node's number, or `last`.
@@ -30,7 +32,7 @@ use crate::rules::{book, judge, rule, table};
 use crate::snapshots::read;
 use crate::sources::State;
 use crate::trouble::Trouble;
-use crate::values::{address, digits, first_word, made, tidied};
+use crate::values::{address, digits, faulty_lang, first_word, made, tidied};
 use crate::words::cut;
 use std::alloc::Global;
 
@@ -65,6 +67,7 @@ pub(crate) fn answer(
         }
         "made-pages" => one(alloc, made(alloc, rest)?),
         "number" => one(alloc, digits(alloc, rest)?),
+        "langs-fault" => one(alloc, faulty_lang(alloc, rest)?),
         "sent" | "rows" | "built" | "kept" | "written" => {
             one(alloc, read(alloc, state.bytes(), word)?)
         }

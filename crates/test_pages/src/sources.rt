@@ -4,6 +4,7 @@
 //! |---|---|
 //! | `page` | the page of the lines below it |
 //! | `made SEED N` | a page that is made for trials |
+//! | `accepts gsw haw` | the page, whose site accepts these language subtags in place of those before |
 //! | `edits` | the page after `set 2 class "x y"`, `drop 2 class`, `text 6 "Go"`, `facts 5 rv` or `none`, `remove 7`, `move 5 to 7 at 1`, `insert in 2 at 0` with rows below it; each list begins with the page of the case |
 //! | `json`, `hex`, `spaces N` | bytes: a text, hexadecimal digits, so many spaces |
 //! | `read` | the page that the bytes are |
@@ -15,13 +16,14 @@ use crate::lines::{Line, Step};
 use crate::shown::lines_of;
 use crate::sketch::Sketch;
 use crate::trouble::Trouble;
+use crate::values::words_of;
 use crate::words::{count, cut, number};
 use judge_core::Judgement;
 use made_pages::made_page;
 use rule_core::LastLong;
 use snap_edit::{EditFault, EditKind, apply};
 use snap_json::read_snapshot;
-use snap_tree::{BuildFault, List, Raw, Row, Text, Tree};
+use snap_tree::{BuildFault, List, Raw, Row, Text, Tree, langs_fault};
 use std::alloc::Global;
 
 /// The address of each page that is written as lines.
@@ -69,6 +71,7 @@ impl State {
                 let (seed, page) = cut(rest, ' ');
                 self.build(made_page(self.alloc, number(seed)?, number(page)?)?)?;
             }
+            "accepts" => self.accept(rest)?,
             "edits" => self.edit(step.block.as_slice())?,
             "json" => self.send(step.block.as_slice(), false)?,
             "hex" => self.send(step.block.as_slice(), true)?,
@@ -129,6 +132,20 @@ impl State {
             Err(BuildFault::Tree(fault)) => self.refused = format!(in self.alloc; "{fault}")?,
             Err(BuildFault::OutOfMemory) => return Err(Trouble::OutOfMemory),
         }
+        Ok(())
+    }
+
+    fn accept(&mut self, words: &str) -> Result<(), Trouble> {
+        let langs = words_of(self.alloc, words)?;
+        let Some(page) = &self.page else {
+            return Err(Trouble::NoPage);
+        };
+        let relisted = match langs_fault(&langs) {
+            Some(_) => return Err(Trouble::NotInForm),
+            None => page.with_langs(self.alloc, &langs)?,
+        };
+        self.page = Some(relisted);
+        self.edited = None;
         Ok(())
     }
 
