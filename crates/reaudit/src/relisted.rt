@@ -93,7 +93,7 @@ fn rows_relisted<B: RuleBook>(
 }
 
 // The rows up to some number.
-#[tactic(auto, using(crate::proofs::Relisted::front_whole, crate::proofs::Relisted::front_few))]
+#[tactic(auto, using(crate::proofs::ListChanges::front_whole, crate::proofs::ListChanges::front_few))]
 fn first_rows(rows: &[OutRow], most: usize) -> &[OutRow]
     ensures whole { length rows.now ≤ most → result.now ≡ rows.now }
     ensures few { length result.now ≤ most }

@@ -2,7 +2,7 @@ use Rattle.std.proofs.Common.{[], ◌∙◌, ap, arith}
 use Rattle.std.proofs.lemmas.List.{take_all}
 use Rattle.judge_core.proofs.Lists.{filter_map_more}
 use Rattle.reaudit.specs.Relisted.{relisted_row, relisted_rows}
-use Rattle.reaudit.proofs.Relisted.{cost_more, cost_taken}
+use Rattle.reaudit.proofs.ListChanges.{cost_more, cost_taken}
 use Rattle.reaudit.proofs.relisted.rows_relisted.Goals as goal
 
 pub loop-row-preserved : goal.loop-row-preserved
