@@ -1,4 +1,4 @@
-ghost use Rattle.std.specs.Prelude.{◌≡◌, ◌+◌, ◌≤◌, false, length, if◌then◌else◌, IfOk, IsTrue, map};
+ghost use Rattle.std.specs.Prelude.{List, ◌≡◌, ◌+◌, ◌≤◌, false, length, if◌then◌else◌, IfOk, IsTrue, map};
 ghost use Rattle.std.specs.List.{Contains};
 ghost use Rattle.rule_core.specs.Pages.{node_count};
 ghost use Rattle.rule_core.specs.Reach.{looks_at_langs};

@@ -1,4 +1,4 @@
-use Rattle.std.proofs.Common.{[], ◌∙◌, ap, arith}
+use Rattle.std.proofs.Common.{◌+◌, [], ◌∙◌, ap, arith}
 use Rattle.std.proofs.lemmas.List.{take_all}
 use Rattle.judge_core.proofs.Lists.{filter_map_more}
 use Rattle.reaudit.specs.Relisted.{relisted_row, relisted_rows}
