@@ -10,11 +10,9 @@ import time
 from dataclasses import dataclass
 from typing import TYPE_CHECKING, Callable, ContextManager
 
+from silvervole.collect.browser import Browsers
 from silvervole.collect.ends import End, Stop, write_file
-from silvervole.collect.many import Browsers
-from silvervole.collect.pages import Collected, collect_page
 from silvervole.collect.places import ended
-from silvervole.collect.shots import Shot
 from silvervole.program import Audit
 from silvervole.settings.sign_in import Signed
 from silvervole.view.files import read
@@ -28,7 +26,9 @@ from .options import Checking
 from .subjects import Subject
 
 if TYPE_CHECKING:
-    # They load slowly, and are only there where a format is asked for.
+    # They load slowly, and are only there where a page is collected, or a format asked for.
+    from silvervole.collect.pages import Collected
+    from silvervole.collect.shots import Shot
     from silvervole.formats.listing import ListedPage
 
     from .formats import Formats
@@ -119,6 +119,7 @@ class Run:
 
     def collect(self, subject: Subject) -> None:
         """Collects a page and audits what is taken of it; what the sign-in printed goes to its server, and to no file."""
+        from silvervole.collect.pages import collect_page
         options = dataclasses.replace(self.checking.options, url=subject.address, states=subject.states)
         if subject.server:
             options = dataclasses.replace(options, cookies=(*self.signed.cookies, *options.cookies), headers=(*self.signed.headers, *options.headers))

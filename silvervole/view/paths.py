@@ -1,6 +1,7 @@
 """The CSS path of a node: a selector that finds its element and no other."""
 from __future__ import annotations
 
+import functools
 import re
 
 from silvervole import check_form
@@ -55,6 +56,7 @@ def step(node: Node) -> str:
     return f"*:nth-child({node.parent.places[node.number]})"
 
 
+@functools.lru_cache(maxsize=4096)
 def escaped(name: str) -> str:
     """The name as an identifier of CSS, by the rules of CSS.escape."""
     def spelt(found: re.Match[str]) -> str:
