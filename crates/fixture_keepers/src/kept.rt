@@ -3,7 +3,7 @@
 use crate::faults::wrong_of;
 use fixture_words::Wrong;
 use judge_core::{Judgement, OutRow};
-use keep_core::{Keeper, MemberRole, PageHead, Site};
+use keep_core::{KeepFault, Keeper, MemberRole, PageHead, Site};
 use rule_core::Auto;
 use snap_json::write_snapshot;
 use snap_tree::{List, Text, Tree};
@@ -228,6 +228,10 @@ pub fn kept_lines<K: Keeper>(
     Ok(out)
 }
 
+fn has_failed<T: Drop>(answer: Result<T, KeepFault>) -> bool {
+    matches!(answer, Err(KeepFault::Failed))
+}
+
 /// Which of the five reading calls fail, made one after another.
 pub fn failing_reads<K: Keeper>(
     alloc: Global,
@@ -236,10 +240,10 @@ pub fn failing_reads<K: Keeper>(
     page: &Text,
 ) -> [bool; 5] {
     [
-        keeper.site(alloc, site).is_err(),
-        keeper.load(alloc, site, page).is_err(),
-        keeper.list(alloc, site).is_err(),
-        keeper.judgements(alloc, site, page).is_err(),
-        keeper.outcomes(alloc, site, page).is_err(),
+        has_failed(keeper.site(alloc, site)),
+        has_failed(keeper.load(alloc, site, page)),
+        has_failed(keeper.list(alloc, site)),
+        has_failed(keeper.judgements(alloc, site, page)),
+        has_failed(keeper.outcomes(alloc, site, page)),
     ]
 }

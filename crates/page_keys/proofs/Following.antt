@@ -1,6 +1,6 @@
 -- Where pages agree on the keys of a node's references and on what they find, the node follows the same nodes on both,
 -- and the same is told of each.
-use Rattle.std.proofs.Common.{◌≡◌, ◌==◌, ◌&&◌, ◌||◌, not, ℕ, List, [], ◌∷◌, ◌++◌, map, filter, Bool, true, false, if◌then◌else◌, Option, Some, None, refl, sym, ◌∙◌, ap}
+use Rattle.std.proofs.Common.{◌≡◌, ◌==◌, ◌&&◌, ◌||◌, not, List, [], ◌∷◌, map, filter, Bool, true, false, if◌then◌else◌, Option, Some, None, refl, sym, ◌∙◌, ap}
 use Rattle.std.proofs.lemmas.List.{map-append}
 use Rattle.std.specs.List.{AllByRecursion, list_any, flat_map, filter_map, cons_option}
 use Rattle.std.specs.Option.{option_map_or}
@@ -13,7 +13,7 @@ use Rattle.snap_tree.specs.Spots.{Spot, spot}
 use Rattle.snap_tree.specs.Trees.{Trees}
 use Rattle.acc_tree.specs.Following.{is_same, once, is_ancestor, are_apart, follows, followed}
 use Rattle.acc_tree.specs.References.{found, named_by, references}
-use Rattle.acc_tree.specs.Sights.{Sight, sight_of}
+use Rattle.acc_tree.specs.Sights.{sight_of}
 use Rattle.page_keys.specs.Keys.{id_key}
 use Rattle.page_keys.specs.Same.{all_same}
 use Rattle.page_keys.specs.Nodes.{self_keys, tree_keys, node_keys}

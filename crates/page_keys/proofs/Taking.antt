@@ -23,7 +23,7 @@ use Rattle.page_keys.proofs.Stands.{all_stand, stand_below, spot_number}
 use Rattle.page_keys.proofs.Agreeing.{parts, spot_sight, no_sight}
 use Rattle.page_keys.proofs.Trails.{trail, same_above}
 use Rattle.page_keys.proofs.Again.{LooksAtPages, NodeAgain, node_again}
-use Rattle.page_keys.proofs.Referring.{SameReferences, same_references}
+use Rattle.page_keys.proofs.Referring.{same_references}
 use Rattle.page_keys.proofs.Following.{sights_same}
 use Rattle.page_keys.proofs.Classes.{sub_sight, referring}
 

@@ -11,6 +11,7 @@
 //! | `name N`, `named N` | the name and its source; whether there is one within the limits |
 //! | `roles N`, `stands N` | the explicit, the implicit and the computed role; exposed, included, decorative |
 //! | `owns N`, `owns N through groups` | the owned elements |
+//! | `items N`, `items N without following`, `follows N` | the owned elements with how many times one may still follow aria-owns; what is followed |
 //! | `above N` | what the ancestors say: section, list, hidden, disabled, table, label |
 //! | `row N`, `kids N`, `labels N`, `attribute N NAME` | the row, the children, the labels, a value |
 //! | `aria N`, `looked N`, `sight N ..` | the attributes `aria-`; title, alt and aria-owns; whether it is such a node |

@@ -1,6 +1,8 @@
 //! Look-ups in a page, each also in a copy of it.
 
-use crate::names::{above, is_named, name_of, owns, owns_through, roles, standing};
+use crate::names::{
+    above, followed, is_named, items_of, name_of, owns, owns_through, roles, standing,
+};
 use crate::shown::{line_of, lines_of, number_of};
 use crate::trouble::Trouble;
 use crate::words::{cut, number, push_number, push_quoted, push_word, quoted, unquoted};
@@ -81,6 +83,9 @@ fn of_node(
         ("stands", "") => standing(alloc, tree, node),
         ("owns", "") => owns(alloc, tree, node),
         ("owns", "through groups") => owns_through(alloc, tree, node),
+        ("items", "") => items_of(alloc, tree, node, 1),
+        ("items", "without following") => items_of(alloc, tree, node, 0),
+        ("follows", "") => followed(alloc, tree, node),
         ("above", "") => all_above(alloc, tree, node),
         ("row", "") => row(alloc, tree, node),
         ("kids", "") => kids(alloc, tree, node),

@@ -58,8 +58,9 @@ pub fn accepted<R: Threads + Sync, K: Keeper>(
 
 /// What a keeper answers of the site and the page that are put, in lines.
 pub fn kept_now<K: Keeper>(alloc: Global, keeper: &mut K) -> Result<String, Wrong> {
-    let page = String::from_str(alloc, "home")?;
-    kept_lines(alloc, keeper, "acme", &[page])
+    let mut pages = Vec::new(alloc);
+    pages.push(String::from_str(alloc, "home")?)?;
+    kept_lines(alloc, keeper, "acme", pages.as_slice())
 }
 
 // What this keeper keeps before the first request, and after each.

@@ -59,13 +59,17 @@ fn kept_again(alloc: Global, disks: Disks) -> Result<String, Fail> {
     }
 }
 
-// Whether this is what was kept after so many requests or after one more.
+// Whether this is what is kept after so many requests.
+fn is_state(states: &[String], count: usize, now: &str) -> bool {
+    match states.get(count) {
+        Some(state) => state.as_str() == now,
+        None => false,
+    }
+}
+
+// Whether it is that, or what is kept after one more.
 fn is_near(states: &[String], count: usize, now: &str) -> bool {
-    states
-        .iter()
-        .skip(count)
-        .take(2)
-        .any(|state| state.as_str() == now)
+    is_state(states, count, now) || is_state(states, count.saturating_add(1), now)
 }
 
 // Whether that is what was kept after so many requests or after one more, whatever is left of what wasn't synced.

@@ -3,38 +3,22 @@
 ghost use Rattle.std.specs.Prelude.{IfOk};
 ghost use Rattle.keep_core.specs.Fits.{Fits};
 
+use fixture_keepers::failing_reads;
 use fixture_sites::{Unasked, named};
 use fixture_stores::waiting_keeper;
 use keep_core::{Batch, Change, KeepFault, Keeper};
 use keep_sql::SqlKeeper;
-use snap_tree::{OutOfMemory, Text};
+use snap_tree::Text;
 use sqlite::Alter;
 use std::alloc::Global;
 use std::test::Fail;
 
-// Which of the five calls that read fail, in the order of the trait.
+// Which of the five calls that read fail, of the site acme and its page home, in the order of the trait.
 type Failing = [bool; 5];
 
 const ALL: Failing = [true, true, true, true, true];
 
 const NONE: Failing = [false, false, false, false, false];
-
-fn has_failed<T: Drop>(answer: Result<T, KeepFault>) -> bool {
-    matches!(answer, Err(KeepFault::Failed))
-}
-
-// Which fail of the site acme and its page home.
-fn failing<K: Keeper>(alloc: Global, keeper: &mut K) -> Result<Failing, OutOfMemory> {
-    let site = Text::from_str(alloc, "acme")?;
-    let page = Text::from_str(alloc, "home")?;
-    Ok([
-        has_failed(keeper.site(alloc, &site)),
-        has_failed(keeper.load(alloc, &site, &page)),
-        has_failed(keeper.list(alloc, &site)),
-        has_failed(keeper.judgements(alloc, &site, &page)),
-        has_failed(keeper.outcomes(alloc, &site, &page)),
-    ])
-}
 
 fn drop_home(alloc: Global) -> Result<Change, Unasked>
     ensures { IfOk result Fits }
@@ -48,7 +32,7 @@ fn drop_home(alloc: Global) -> Result<Change, Unasked>
 fn fails_to_drop<K: Keeper>(alloc: Global, keeper: &mut K) -> Result<bool, Fail> {
     let change = drop_home(alloc)?;
     let dropped = keeper.apply(alloc, &Batch { change });
-    Ok(has_failed(dropped))
+    Ok(matches!(dropped, Err(KeepFault::Failed)))
 }
 
 // Whether those that read fail so, and dropping the page too or not.
@@ -58,7 +42,10 @@ fn all_fail<K: Keeper>(
     wanted: Failing,
     drops: bool,
 ) -> Result<bool, Fail> {
-    Ok(failing(alloc, keeper)? == wanted && fails_to_drop(alloc, keeper)? == drops)
+    let site = Text::from_str(alloc, "acme")?;
+    let page = Text::from_str(alloc, "home")?;
+    let fails = failing_reads(alloc, keeper, &site, &page);
+    Ok(fails == wanted && fails_to_drop(alloc, keeper)? == drops)
 }
 
 // Whether before a store is prepared each call fails, and after it none.
