@@ -1,7 +1,6 @@
 """Collects and audits the pages of a check, some beside each other; each finding is told as soon as its page is audited."""
 from __future__ import annotations
 
-import concurrent.futures
 import contextlib
 import dataclasses
 import os
@@ -85,6 +84,9 @@ class Run:
         """The worst status of collecting and auditing the pages, all of which are told then."""
         if self.checking.out:
             make_folder(self.checking.out)
+        if len(self.checking.subjects) == 1:
+            return self.one(self.checking.subjects[0])
+        import concurrent.futures  # only here, since it loads slowly
         with concurrent.futures.ThreadPoolExecutor(self.checking.jobs) as pool:
             work = [pool.submit(self.one, subject) for subject in self.checking.subjects]
             try:

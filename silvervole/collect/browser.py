@@ -9,7 +9,7 @@ import signal
 import threading
 from typing import Any, Iterator, NamedTuple, Sequence
 
-from .ends import End, Stop, first_line
+from .ends import End, Stop, first_line, quiet_libraries
 
 CHROMIUM_NAMES = ("chromium", "chromium-browser", "google-chrome", "google-chrome-stable")
 DRIVER_NAMES = ("chromedriver",)
@@ -36,7 +36,8 @@ class Tools(NamedTuple):
 
 
 def find_tools() -> Tools:
-    """The selenium package and the paths of Chromium and its driver."""
+    """The selenium package, which writes no lines of its own, and the paths of Chromium and its driver."""
+    quiet_libraries()
     try:
         from selenium import webdriver
     except ImportError:

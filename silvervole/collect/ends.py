@@ -3,7 +3,6 @@ from __future__ import annotations
 
 import enum
 import gc
-import logging
 import os
 import signal
 import sys
@@ -127,6 +126,7 @@ def remove(path: str | os.PathLike[str]) -> None:
 
 def quiet_libraries() -> None:
     """Keeps the libraries from writing lines of their own, such as of a driver that dies."""
+    import logging  # only here, since it loads slowly
     logging.disable(logging.CRITICAL)
     warnings.simplefilter("ignore")
 
@@ -143,7 +143,6 @@ def stop_on_signals() -> None:
 def run_command(program: str, work: Callable[[], int]) -> int:
     """The status of a command's work; a Stop and an interruption are a line on standard error."""
     try:
-        quiet_libraries()
         gc.set_threshold(GARBAGE_AFTER)
         stop_on_signals()
         need_output()

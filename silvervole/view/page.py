@@ -58,7 +58,8 @@ class Node:
 
     def attribute(self, name: str) -> str:
         """The value of an attribute; the empty text where there is none."""
-        names = [*map(check_form.folded, self.parts[::2])]
+        # Most nodes have none.
+        names = [*map(check_form.folded, self.parts[::2])] if self.parts else ()
         return self.parts[2 * names.index(name) + 1] if name in names else ""
 
     @cached_property
@@ -157,6 +158,11 @@ class Page:
         return found
 
     @cached_property
+    def steps(self) -> dict[int, str]:
+        """The selectors of elements among the children of their parents, as far as they were asked for."""
+        return {}
+
+    @cached_property
     def title(self) -> Quote:
         """The text of the first title element."""
         titles = (node for node in self.nodes.values() if node.folded == "title" and node.space == "html")
@@ -245,9 +251,10 @@ def shortened(text: str, most: int) -> str:
 
 def is_heading(node: Node) -> bool:
     """Whether a person who looks at the page sees a heading there."""
+    if not node.is_element or "v" not in node.letters:
+        return False
     role = node.attribute("role").strip().lower()
-    named = role == "heading" or (role == "" and node.space == "html" and HEADING.fullmatch(node.folded) is not None)
-    return node.is_element and named and "v" in node.letters
+    return role == "heading" or (role == "" and node.space == "html" and HEADING.fullmatch(node.folded) is not None)
 
 
 def text_of(node: Node) -> str:

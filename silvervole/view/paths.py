@@ -32,7 +32,9 @@ def path_in_tree(page: Page, node: Node) -> str:
         if identity and page.ids[at.tree, check_form.folded(identity)] == 1:
             steps.append(f"#{escaped(identity)}")
             break
-        steps.append(step(at))
+        if at.number not in page.steps:
+            page.steps[at.number] = step(at)
+        steps.append(page.steps[at.number])
         if at.above is None and at.tree:
             steps.append(":host")
         at = at.above
