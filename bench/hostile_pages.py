@@ -178,6 +178,27 @@ def owning_by(words, names):
     return page
 
 
+def owning_one_group():
+    """Trees that all own one group, with as many items as the greatest weight allows."""
+    page, body = begun()
+    owned = page.element(body, "div", [("id", "a"), ("role", "group")])
+    for _ in range(9):
+        page.element(owned, "p", [("role", "treeitem")])
+    for _ in range(9_000):
+        page.element(body, "div", [("role", "tree"), ("aria-owns", "a")])
+    return page
+
+
+def owning_below(words):
+    """A list below many elements, with as many words as its aria-owns can have, and elements that they find."""
+    page, inner = begun()
+    inner = nested(page, inner, ["div"], HEIGHT)
+    page.element(inner, "div", [("role", "list"), ("aria-owns", " ".join(words))])
+    for word in dict.fromkeys(words):
+        page.element(inner, "p", [("id", word), ("role", "listitem")])
+    return page
+
+
 def below_long_roles():
     """Nested tables whose roles are long lists of unknown words, and leaves below them."""
     page, inner = begun()
@@ -395,6 +416,9 @@ PAGES = [
     (lambda: owning_by(" ".join("a" * 32_000), "a"), 2, "aria-owns, 32,000 words, one element"),
     (lambda: owning_by(" ".join(ids(9_500)), ids(9_500)), 2, "aria-owns, 9,500 words, 9,500 elements"),
     (lambda: owning_by(" ".join((ids(90) * 200)[:16_500]), ids(90)), 2, "aria-owns, 16,500 words, 90 elements"),
+    (owning_one_group, 2, "9,000 trees that own one group"),
+    (lambda: owning_below(["a"] * 32_000), 2, "a list 120 elements deep that owns one by 32,000 words"),
+    (lambda: owning_below(ids(9_800)), 2, "a list 120 elements deep that owns 9,800"),
     # nesting
     (fieldsets, 2, "60 nested fieldsets with legends, 9,800 texts"),
     (labels, 2, "120 nested labels with inputs, 6 texts"),

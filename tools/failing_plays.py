@@ -46,7 +46,7 @@ def wants_memory(form):
             return end.status != 0 and b"memory" in end.err.lower()
         lines = end.out.splitlines()
         sums = SUMS.fullmatch(lines[-1])
-        return bool(sums) and int(sums[1]) == len(lines) - 1 > 0 and all(map(form.fullmatch, lines[:-1]))
+        return sums is not None and int(sums[1]) == len(lines) - 1 > 0 and all(map(form.fullmatch, lines[:-1]))
     return says
 
 

@@ -9,4 +9,4 @@ mod Along
 pub mod Marking
 mod Live
 pub mod SameRows
-pub mod Relisted
+pub mod ListChanges

@@ -1,4 +1,4 @@
-ghost use Rattle.std.specs.Prelude.{◌≡◌, ◌+◌, ◌≤◌, false, length, if◌then◌else◌, IfOk, IsTrue, map};
+ghost use Rattle.std.specs.Prelude.{List, ◌≡◌, ◌+◌, ◌≤◌, false, length, if◌then◌else◌, IfOk, IsTrue, map};
 ghost use Rattle.std.specs.List.{Contains};
 ghost use Rattle.rule_core.specs.Pages.{node_count};
 ghost use Rattle.rule_core.specs.Reach.{looks_at_langs};
@@ -93,7 +93,7 @@ fn rows_relisted<B: RuleBook>(
 }
 
 // The rows up to some number.
-#[tactic(auto, using(crate::proofs::Relisted::front_whole, crate::proofs::Relisted::front_few))]
+#[tactic(auto, using(crate::proofs::ListChanges::front_whole, crate::proofs::ListChanges::front_few))]
 fn first_rows(rows: &[OutRow], most: usize) -> &[OutRow]
     ensures whole { length rows.now ≤ most → result.now ≡ rows.now }
     ensures few { length result.now ≤ most }

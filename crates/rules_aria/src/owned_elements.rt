@@ -1,4 +1,6 @@
 ghost use Rattle.std.specs.Prelude.{◌≡◌, IfOk};
+ghost use Rattle.aria_tables.specs.Owning.{allowed_owned, looks_through};
+ghost use Rattle.acc_tree.specs.Owning.{owned_by};
 ghost use Rattle.acc_tree.specs.Seen.{seen_row, seen};
 ghost use Rattle.acc_tree.specs.Sights.{seen_sight};
 ghost use Rattle.rules_aria.specs.OwnedElements.{are_allowed, owned_finding, role_words, verdict_on, is_owner_target, owned_verdict, owns_required_elements, owns_required_elements_info};
@@ -85,6 +87,20 @@ fn is_target(above: &Above, row: &Row, role: Role) -> bool
         && included_at(above, row)
 }
 
+// What is said of an element of this role by what it owns.
+fn owning_verdict(
+    alloc: Global,
+    tree: &Tree,
+    sight: Sight<'_>,
+    role: Role,
+) -> Result<Verdict, OutOfMemory>
+    ensures { IfOk result (λ verdict. verdict ≡ verdict_on (allowed_owned role)
+        (owned_by (looks_through role) (seen tree.now.trees) 1 (seen_sight sight.entry))) }
+{
+    let elements = owned_by(alloc, tree, sight, 1, looks_through(role))?;
+    verdict_on(alloc, allowed_owned(role), elements.as_slice())
+}
+
 fn verdict(alloc: Global, tree: &Tree, sight: Sight<'_>) -> Result<Option<Verdict>, OutOfMemory>
     ensures { IfOk result (λ verdict. verdict ≡ owned_verdict (seen tree.now.trees) (seen_sight sight.entry)) }
 {
@@ -94,8 +110,7 @@ fn verdict(alloc: Global, tree: &Tree, sight: Sight<'_>) -> Result<Option<Verdic
     if !is_target(&sight.above, sight.row, role) {
         return Ok(None);
     }
-    let elements = owned_by(alloc, tree, sight, 1, looks_through(role))?;
-    Ok(Some(verdict_on(alloc, allowed_owned(role), elements.as_slice())?))
+    Ok(Some(owning_verdict(alloc, tree, sight, role)?))
 }
 
 impl Rule for OwnsRequiredElements {

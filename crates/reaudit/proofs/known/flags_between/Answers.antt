@@ -2,7 +2,7 @@ use Rattle.std.proofs.Common.{◌∙◌, ap, map}
 use Rattle.std.proofs.lemmas.Result.{IfOk-weaker}
 use Rattle.snap_tree.specs.declared.row.Row.{Row}
 use Rattle.reaudit.specs.Relisted.{agreeing}
-use Rattle.reaudit.proofs.Relisted.{agreeing_flags}
+use Rattle.reaudit.proofs.ListChanges.{agreeing_flags}
 use Rattle.reaudit.proofs.known.flags_between.Goals as goal
 
 pub returns-then-relisted : goal.returns-then-relisted

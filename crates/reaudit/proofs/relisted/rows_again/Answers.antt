@@ -3,7 +3,7 @@ use Rattle.std.proofs.lemmas.Result.{IfOk-weaker}
 use Rattle.snap_tree.specs.Trees.{Trees, rows_of}
 use Rattle.rule_core.specs.Local.{AreVersions}
 use Rattle.reaudit.specs.Relisted.{relisted_rows, relisted_cost}
-use Rattle.reaudit.proofs.Relisted.{rows_relisted, cost_relisted, cost_within, own_within}
+use Rattle.reaudit.proofs.ListChanges.{rows_relisted, cost_relisted, cost_within, own_within}
 use Rattle.reaudit.proofs.relisted.rows_again.Goals as goal
 
 pub returns-clause-rows : goal.returns-clause-rows

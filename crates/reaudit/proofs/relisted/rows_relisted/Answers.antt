@@ -1,8 +1,10 @@
-use Rattle.std.proofs.Common.{[], ◌∙◌, ap, arith}
+use Rattle.std.proofs.Common.{◌+◌, List, [], ◌++◌, ◌∙◌, ap, arith}
+use Rattle.std.specs.Option.{option_to_list}
 use Rattle.std.proofs.lemmas.List.{take_all}
+use Rattle.judge_core.specs.declared.outcomes.OutRow.{OutRow}
 use Rattle.judge_core.proofs.Lists.{filter_map_more}
 use Rattle.reaudit.specs.Relisted.{relisted_row, relisted_rows}
-use Rattle.reaudit.proofs.Relisted.{cost_more, cost_taken}
+use Rattle.reaudit.proofs.ListChanges.{cost_more, cost_taken}
 use Rattle.reaudit.proofs.relisted.rows_relisted.Goals as goal
 
 pub loop-row-preserved : goal.loop-row-preserved
@@ -12,7 +14,9 @@ loop-row-preserved g c =
     let own = c.args.own.now in
     record {
       rows = λ js has.
-          filter_map_more (relisted_row book info c.args.new.now js) own c.loop-row.row-index _ [] c.loop-row.rows.items _ (omega arith) (c.loop-row.invariant.rows js has) (c.in_ok-add_relisted.ensures.row js has);
+          let more : OutRow → List OutRow = λ row. c.loop-row.rows.items ++ option_to_list (relisted_row book info c.args.new.now js row) in
+          filter_map_more (relisted_row book info c.args.new.now js) own c.loop-row.row-index _ [] c.loop-row.rows.items _ (omega arith) (c.loop-row.invariant.rows js has)
+          (c.in_ok-add_relisted.ensures.row js has ∙ ap more c.row-item.is);
       counted = cost_more info own c.loop-row.row-index _ _ _ (omega arith) c.loop-row.invariant.counted c.add_relisted.ensures.counted;
     }
 
