@@ -69,19 +69,19 @@ fn is_vacant(rows: &Rows<Line>, name: &Text, place: usize) -> bool {
 }
 
 // Whether a row goes from its place, and comes there when it is put again.
-fn goes_and_comes(alloc: Global, rows: &mut Rows<Line>, ab: &Text) -> Result<bool, OutOfMemory> {
-    let is_there = stand(rows, STANDING.as_slice()) && is_found(rows, ab, 4, 3);
-    rows.take(ab);
-    let is_gone = stand(rows, WITHOUT_AB.as_slice()) && is_vacant(rows, ab, 3);
+fn goes_and_comes(alloc: Global, mut rows: Rows<Line>) -> Result<bool, OutOfMemory> {
+    let ab = Text::from_str(alloc, "ab")?;
+    let is_there = stand(&rows, STANDING.as_slice()) && is_found(&rows, &ab, 4, 3);
+    rows.take(&ab);
+    let is_gone = stand(&rows, WITHOUT_AB.as_slice()) && is_vacant(&rows, &ab, 3);
     rows.put(labelled(alloc, "ab", 4)?)?;
-    Ok(is_there && is_gone && stand(rows, STANDING.as_slice()))
+    Ok(is_there && is_gone && stand(&rows, STANDING.as_slice()))
 }
 
 #[test]
 fn rows_stand_in_byte_order(rt: HostRuntime) -> Result<(), Fail> {
-    let mut rows = all_put(rt.alloc())?;
-    let ab = Text::from_str(rt.alloc(), "ab")?;
-    assert!(rt; goes_and_comes(rt.alloc(), &mut rows, &ab)?);
+    let rows = all_put(rt.alloc())?;
+    assert!(rt; goes_and_comes(rt.alloc(), rows)?);
     laws_of_lookups::<Line>();
     laws_of_order::<Line>();
     laws_of_views::<Line, Line>();

@@ -12,7 +12,7 @@ use acc_tree::{
 use aria_tables::{AriaAttr, Role};
 use rule_sights::{row_of, sight_as, sight_of_html, sight_with};
 use rules_tables::{Area, cell_places};
-use snap_tree::{NodeId, Row, Text, Tree};
+use snap_tree::{NodeId, Text, Tree};
 use std::alloc::Global;
 
 /// What a step finds in a page; nothing where it finds none. The same has to be found in a copy.
@@ -264,17 +264,17 @@ pub(crate) fn cells(alloc: Global, tree: &Tree, rest: &str) -> Result<Vec<String
 pub(crate) fn page_lines(alloc: Global, tree: &Tree) -> Result<Vec<String>, Trouble> {
     let mut lines = lines_of(alloc, tree.rows())?;
     let copied = lines_of(alloc, tree.copy()?.rows())?;
-    let rows = copied_lines(alloc, tree.rows())?;
+    let rows = copied_lines(alloc, tree)?;
     if copied.as_slice() != lines.as_slice() || rows.as_slice() != lines.as_slice() {
         lines.push(String::from_str(alloc, "but a copy differs")?)?;
     }
     Ok(lines)
 }
 
-// The lines of copies of rows.
-fn copied_lines(alloc: Global, rows: &[Row]) -> Result<Vec<String>, Trouble> {
+// The lines of copies of a page's rows.
+fn copied_lines(alloc: Global, tree: &Tree) -> Result<Vec<String>, Trouble> {
     let mut lines = Vec::new(alloc);
-    for row in rows {
+    for row in tree.rows() {
         lines.push(line_of(alloc, &row.copy(alloc)?)?)?;
     }
     Ok(lines)
