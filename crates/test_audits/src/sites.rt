@@ -260,27 +260,56 @@ fn pointer(alloc: Global, pointer: &str) -> Result<String, OutOfMemory> {
     Ok(format!(in alloc; ",\"earl:pointer\":\"{pointer}\"")?)
 }
 
+// Adds who asserts how.
+fn push_front(
+    alloc: Global,
+    text: &mut String,
+    separator: &str,
+    hand: &str,
+    how: &str,
+) -> Result<(), OutOfMemory> {
+    let by = asserter(alloc, hand)?;
+    let by = by.as_str();
+    let front = format!(in alloc;
+        "{separator}{{\"@type\":\"earl:Assertion\",\"earl:assertedBy\":{by},\"earl:mode\":{{\"@id\":\"earl:{how}\"}},"
+    )?;
+    text.push_str(front.as_str())?;
+    Ok(())
+}
+
+// Adds the outcome with its info and pointer.
+fn push_result(
+    alloc: Global,
+    text: &mut String,
+    info: &str,
+    outcome: &str,
+    at: &str,
+) -> Result<(), OutOfMemory> {
+    let at = pointer(alloc, at)?;
+    let at = at.as_str();
+    let result = format!(in alloc;
+        "\"earl:result\":{{\"@type\":\"earl:TestResult\",\"earl:info\":\"{info}\",\"earl:outcome\":{{\"@id\":\"earl:{outcome}\"}}{at}}},"
+    )?;
+    text.push_str(result.as_str())?;
+    Ok(())
+}
+
+// Adds what is asserted of which rule.
+fn push_about(alloc: Global, text: &mut String, rule: &str) -> Result<(), OutOfMemory> {
+    let about = format!(in alloc;
+        "\"earl:subject\":{{\"@id\":\"https://example.org/\",\"@type\":\"earl:TestSubject\"}},\"earl:test\":{{\"@id\":\"urn:act-rule:{rule}\",\"@type\":\"earl:TestCase\"}}}}"
+    )?;
+    text.push_str(about.as_str())?;
+    Ok(())
+}
+
 fn asserted(alloc: Global) -> Result<String, OutOfMemory> {
-    let mut text = String::new(alloc);
-    text.push_str(FRONT)?;
+    let mut text = String::from_str(alloc, FRONT)?;
     let mut separator = "";
     for (hand, how, info, outcome, at, rule) in ASSERTED.as_slice() {
-        let by = asserter(alloc, hand)?;
-        let by = by.as_str();
-        let at = pointer(alloc, at)?;
-        let at = at.as_str();
-        let front = format!(in alloc;
-            "{separator}{{\"@type\":\"earl:Assertion\",\"earl:assertedBy\":{by},\"earl:mode\":{{\"@id\":\"earl:{how}\"}},"
-        )?;
-        let result = format!(in alloc;
-            "\"earl:result\":{{\"@type\":\"earl:TestResult\",\"earl:info\":\"{info}\",\"earl:outcome\":{{\"@id\":\"earl:{outcome}\"}}{at}}},"
-        )?;
-        let about = format!(in alloc;
-            "\"earl:subject\":{{\"@id\":\"https://example.org/\",\"@type\":\"earl:TestSubject\"}},\"earl:test\":{{\"@id\":\"urn:act-rule:{rule}\",\"@type\":\"earl:TestCase\"}}}}"
-        )?;
-        text.push_str(front.as_str())?;
-        text.push_str(result.as_str())?;
-        text.push_str(about.as_str())?;
+        push_front(alloc, &mut text, separator, hand, how)?;
+        push_result(alloc, &mut text, info, outcome, at)?;
+        push_about(alloc, &mut text, rule)?;
         separator = ",";
     }
     text.push_str("]}")?;
@@ -299,6 +328,24 @@ fn each_way_of_asserting_has_its_assertion(rt: HostRuntime) -> Result<(), Fail> 
 }
 
 // What the pages come to under a criterion.
+static RESULTS: [(Criterion, Result4); 6] = [
+    (Criterion::PageTitled, Result4::CantTell),
+    (Criterion::InfoAndRelationships, Result4::Failed),
+    (Criterion::HeadingsAndLabels, Result4::Failed),
+    (Criterion::LanguageOfPage, Result4::NoFailureFound),
+    (Criterion::BypassBlocks, Result4::NoFailureFound),
+    (Criterion::NonTextContent, Result4::Inapplicable),
+];
+
+fn come_to_them(pages: &[SitePage]) -> bool {
+    for (criterion, wanted) in RESULTS.as_slice() {
+        if criteria(pages, *criterion) != *wanted {
+            return false;
+        }
+    }
+    true
+}
+
 #[test]
 fn a_criterion_is_as_bad_as_its_worst_outcome(rt: HostRuntime) -> Result<(), Fail> {
     let alloc = rt.alloc();
@@ -306,15 +353,6 @@ fn a_criterion_is_as_bad_as_its_worst_outcome(rt: HostRuntime) -> Result<(), Fai
         page(alloc, "a", 1, TITLED.as_slice())?,
         page(alloc, "b", 2, RECORDED.as_slice())?,
     ];
-    for (criterion, wanted) in [
-        (Criterion::PageTitled, Result4::CantTell),
-        (Criterion::InfoAndRelationships, Result4::Failed),
-        (Criterion::HeadingsAndLabels, Result4::Failed),
-        (Criterion::LanguageOfPage, Result4::NoFailureFound),
-        (Criterion::BypassBlocks, Result4::NoFailureFound),
-        (Criterion::NonTextContent, Result4::Inapplicable),
-    ] {
-        assert!(rt; criteria(pages.as_slice(), criterion) == wanted);
-    }
+    assert!(rt; come_to_them(pages.as_slice()));
     Ok(())
 }

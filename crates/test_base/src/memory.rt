@@ -54,45 +54,86 @@ fn answer(outcome: Result<usize, Failed>) -> i8 {
     }
 }
 
+// What the next call answers, a read or a write.
+fn called(link: &mut MemLink, reads: bool) -> i8 {
+    let mut buf = [0; 4];
+    if reads {
+        answer(link.read(&mut buf))
+    } else {
+        answer(link.write(b"xy"))
+    }
+}
+
+fn answers_so(alloc: Global, fails: &[u64], answers: &[i8]) -> Result<bool, OutOfMemory> {
+    let mut link = link(alloc, b"abcde", 2, 3, 4, fails)?;
+    let mut reads = true;
+    for wanted in answers {
+        if called(&mut link, reads) != *wanted {
+            return Ok(false);
+        }
+        reads = !reads;
+    }
+    Ok(true)
+}
+
 #[test]
 fn each_call_fails_that_the_list_names(rt: HostRuntime) -> Result<(), Fail> {
-    for (fails, answers) in &CASES {
-        let mut link = link(rt.alloc(), b"abcde", 2, 3, 4, fails)?;
-        let mut reads = true;
-        for (i, wanted) in answers.iter().enumerate() {
-            let mut buf = [0; 4];
-            let got = if reads {
-                link.read(&mut buf)
-            } else {
-                link.write(b"xy")
-            };
-            assert_eq!(rt; answer(got), *wanted, "call {i} where {fails:?} fail");
-            reads = !reads;
+    for (place, (fails, answers)) in CASES.iter().enumerate() {
+        if !answers_so(rt.alloc(), fails, answers.as_slice())? {
+            return Err(Fail::from(place));
         }
     }
     Ok(())
 }
 
+// The byte that a read gives; 0 where it gives none or more.
+fn byte_in(link: &mut MemLink) -> Result<u8, Failed> {
+    let mut buf = [0; 4];
+    match link.read(&mut buf) {
+        Ok(1) => Ok(buf[0]),
+        Ok(_) => Ok(0),
+        Err(fault) => Err(fault),
+    }
+}
+
+fn counts_reads(alloc: Global) -> Result<bool, OutOfMemory> {
+    let mut link = link(alloc, b"abc", 0, 0, 3, &[])?;
+    for byte in b"abc".as_slice() {
+        if byte_in(&mut link) != Ok(*byte) {
+            return Ok(false);
+        }
+    }
+    let is_over = byte_in(&mut link).is_err();
+    let is_full = link.write(b"x").is_err();
+    Ok(is_over && is_full)
+}
+
 #[test]
 fn reads_are_counted(rt: HostRuntime) -> Result<(), Fail> {
-    let mut link = link(rt.alloc(), b"abc", 0, 0, 3, &[])?;
-    let mut buf = [0; 4];
-    for byte in *b"abc" {
-        assert_eq!(rt; link.read(&mut buf), Ok(1));
-        assert_eq!(rt; buf[0], byte);
-    }
-    assert_eq!(rt; link.read(&mut buf), Err(Failed));
-    assert_eq!(rt; link.write(b"x"), Err(Failed));
+    assert!(rt; counts_reads(rt.alloc())?);
     Ok(())
+}
+
+// The room, the calls that fail, and what is written of `abcde`.
+static ROOMS: [(usize, &[u64], &str); 3] = [(5, &[], "abcde"), (4, &[], "abcd"), (9, &[1], "")];
+
+fn writes_so(
+    alloc: Global,
+    room: usize,
+    fails: &[u64],
+    written: &str,
+) -> Result<bool, OutOfMemory> {
+    let mut link = link(alloc, b"", 1, room, 0, fails)?;
+    let is_whole = write_all(&mut link, b"abcde").is_ok();
+    Ok(is_whole == (written.len() == 5) && link.written() == written.as_bytes())
 }
 
 #[test]
 fn all_is_written_or_a_front(rt: HostRuntime) -> Result<(), Fail> {
-    for (room, fails, written) in [(5, &[][..], "abcde"), (4, &[], "abcd"), (9, &[1], "")] {
-        let mut link = link(rt.alloc(), b"", 1, room, 0, fails)?;
-        let whole = write_all(&mut link, b"abcde").is_ok();
-        assert_eq!(rt; whole, written.len() == 5);
-        assert_eq!(rt; link.written(), written.as_bytes());
+    for (room, fails, written) in ROOMS.as_slice() {
+        if !writes_so(rt.alloc(), *room, fails, written)? {
+            return Err(Fail::from(*room));
+        }
     }
     Ok(())
 }
@@ -130,24 +171,49 @@ fn serve_one(door: &mut MemDoor) -> i8 {
     }
 }
 
+// How many links are allowed, the calls that fail, what `next` says, and how many links come back.
+static DOORS: [(u64, &[u64], [i8; 4], usize); 7] = [
+    (0, &[], [0, 0, 0, 0], 0),
+    (1, &[], [1, 0, 0, 0], 1),
+    (2, &[], [1, 1, 0, 0], 2),
+    (3, &[], [1, 1, -1, -1], 2),
+    (2, &[2], [-1, 1, 1, 0], 2),
+    (2, &[3], [1, -1, 1, 0], 2),
+    (2, &[4, 5], [1, 1, -1, -1], 2),
+];
+
+fn gives_so(
+    alloc: Global,
+    count: u64,
+    fails: &[u64],
+    answers: [i8; 4],
+    logged: usize,
+) -> Result<bool, OutOfMemory> {
+    let mut door = door(alloc, fails)?;
+    let listens = door.listen(80, count).is_ok();
+    let given = served(&mut door);
+    Ok(listens && given == answers && door.log().len() == logged)
+}
+
 #[test]
 fn a_door_gives_its_links(rt: HostRuntime) -> Result<(), Fail> {
-    for (count, fails, answers, logged) in [
-        (0, &[][..], [0, 0, 0, 0], 0),
-        (1, &[], [1, 0, 0, 0], 1),
-        (2, &[], [1, 1, 0, 0], 2),
-        (3, &[], [1, 1, -1, -1], 2),
-        (2, &[2], [-1, 1, 1, 0], 2),
-        (2, &[3], [1, -1, 1, 0], 2),
-        (2, &[4, 5], [1, 1, -1, -1], 2),
-    ] {
-        let mut door = door(rt.alloc(), fails)?;
-        assert!(rt; door.listen(80, count).is_ok());
-        assert_eq!(rt; served(&mut door), answers);
-        assert_eq!(rt; door.log().len(), logged);
+    for (place, (count, fails, answers, logged)) in DOORS.iter().enumerate() {
+        if !gives_so(rt.alloc(), *count, fails, *answers, *logged)? {
+            return Err(Fail::from(place));
+        }
     }
-    let mut door = door(rt.alloc(), &[1])?;
-    assert!(rt; door.listen(80, 2).is_err());
-    assert_eq!(rt; served(&mut door), [0, 0, 0, 0]);
+    Ok(())
+}
+
+fn gives_none(alloc: Global) -> Result<bool, OutOfMemory> {
+    let mut door = door(alloc, &[1])?;
+    let fails = door.listen(80, 2).is_err();
+    let given = served(&mut door);
+    Ok(fails && given == [0, 0, 0, 0])
+}
+
+#[test]
+fn a_door_that_fails_to_listen_gives_none(rt: HostRuntime) -> Result<(), Fail> {
+    assert!(rt; gives_none(rt.alloc())?);
     Ok(())
 }

@@ -1,4 +1,4 @@
-use http_messages::{Field, Got, HeadFault, Item, ReadFault, Sent, read_item};
+use http_messages::{Field, Got, HeadFault, Item, Message, ReadFault, Sent, read_item};
 use links::MemLink;
 use std::alloc::Global;
 use std::test::Fail;
@@ -146,45 +146,56 @@ fn name_of(fault: HeadFault) -> &'static [u8] {
     }
 }
 
+fn write_body(out: &mut Vec<u8>, body: &[u8]) -> Result<(), OutOfMemory> {
+    if !body.is_empty() {
+        out.extend_from_slice(b" [")?;
+        out.extend_from_slice(body)?;
+        out.push(b']')?;
+    }
+    Ok(())
+}
+
+fn write_message(out: &mut Vec<u8>, message: &Message) -> Result<(), OutOfMemory> {
+    let head = &message.head;
+    out.extend_from_slice(head.method.as_slice())?;
+    out.push(b' ')?;
+    out.extend_from_slice(head.target.as_slice())?;
+    for field in head.fields.as_slice() {
+        write_field(out, field)?;
+    }
+    write_body(out, message.body.as_slice())
+}
+
 fn write_item(out: &mut Vec<u8>, item: &Item) -> Result<(), OutOfMemory> {
     match &item.sent {
         Sent::Refused(fault) => out.extend_from_slice(name_of(*fault))?,
-        Sent::Asked(message) => {
-            out.extend_from_slice(message.head.method.as_slice())?;
-            out.push(b' ')?;
-            out.extend_from_slice(message.head.target.as_slice())?;
-            for field in message.head.fields.as_slice() {
-                write_field(out, field)?;
-            }
-            if !message.body.is_empty() {
-                out.extend_from_slice(b" [")?;
-                out.extend_from_slice(message.body.as_slice())?;
-                out.push(b']')?;
-            }
-        }
+        Sent::Asked(message) => write_message(out, message)?,
     }
     out.extend_from_slice(b"; ")?;
     Ok(())
 }
 
-// What the bytes say that come in pieces of this size, over a link of which these calls fail.
-fn told(alloc: Global, bytes: &[u8], piece: usize, fails: &[u64]) -> Result<Vec<u8>, OutOfMemory> {
-    let bytes = list(alloc, bytes)?;
-    let fails = list(alloc, fails)?;
-    let mut link = MemLink::new(alloc, bytes, piece, 0, 100_000, fails)?;
+// Adds what came, and answers how the connection ends then; empty where it doesn't.
+fn write_got(out: &mut Vec<u8>, got: Result<Got, ReadFault>) -> Result<&'static str, OutOfMemory> {
+    match got {
+        Ok(Got::Came(item)) => {
+            write_item(out, &item)?;
+            Ok(if item.closes { "closed" } else { "" })
+        }
+        Ok(Got::Ended) => Ok("ended"),
+        Ok(Got::Cut) => Ok("cut"),
+        Err(ReadFault::Failed) => Ok("failed"),
+        Err(ReadFault::OutOfMemory) => Err(OutOfMemory),
+    }
+}
+
+// What a link says.
+fn told_over(alloc: Global, mut link: MemLink) -> Result<Vec<u8>, OutOfMemory> {
     let mut held = Vec::new(alloc);
     let mut out = Vec::new(alloc);
     for _ in 0..MOST_ITEMS {
-        let end = match read_item(alloc, &mut link, &mut held) {
-            Ok(Got::Came(item)) => {
-                write_item(&mut out, &item)?;
-                if item.closes { "closed" } else { "" }
-            }
-            Ok(Got::Ended) => "ended",
-            Ok(Got::Cut) => "cut",
-            Err(ReadFault::Failed) => "failed",
-            Err(ReadFault::OutOfMemory) => return Err(OutOfMemory),
-        };
+        let got = read_item(alloc, &mut link, &mut held);
+        let end = write_got(&mut out, got)?;
         out.extend_from_slice(end.as_bytes())?;
         if !end.is_empty() {
             break;
@@ -193,40 +204,74 @@ fn told(alloc: Global, bytes: &[u8], piece: usize, fails: &[u64]) -> Result<Vec<
     Ok(out)
 }
 
+// What the bytes say that come in pieces of this size, over a link of which these calls fail.
+fn told(alloc: Global, bytes: &[u8], piece: usize, fails: &[u64]) -> Result<Vec<u8>, OutOfMemory> {
+    let bytes = list(alloc, bytes)?;
+    let fails = list(alloc, fails)?;
+    told_over(alloc, MemLink::new(alloc, bytes, piece, 0, 100_000, fails)?)
+}
+
+fn says(alloc: Global, bytes: &[u8], piece: usize, wanted: &str) -> Result<bool, OutOfMemory> {
+    Ok(told(alloc, bytes, piece, &[])?.as_slice() == wanted.as_bytes())
+}
+
+fn all_say(alloc: Global, bytes: &str, wanted: &str) -> Result<bool, OutOfMemory> {
+    for piece in 1..20 {
+        if !says(alloc, bytes.as_bytes(), piece, wanted)? {
+            return Ok(false);
+        }
+    }
+    Ok(true)
+}
+
 #[test]
 fn pieces_of_any_size_say_the_same(rt: HostRuntime) -> Result<(), Fail> {
-    for (bytes, text) in &CASES {
-        for piece in 1..20 {
-            let got = told(rt.alloc(), bytes.as_bytes(), piece, &[])?;
-            assert_eq!(rt;
-                got.as_slice(),
-                text.as_bytes(),
-                "{bytes} in pieces of {piece}"
-            );
+    for (bytes, text) in CASES.as_slice() {
+        if !all_say(rt.alloc(), bytes, text)? {
+            return Err(Fail::from(*bytes));
         }
     }
     Ok(())
 }
 
-#[test]
-fn a_message_cut_at_each_byte(rt: HostRuntime) -> Result<(), Fail> {
-    let whole = b"PUT /a HTTP/1.1\r\ncontent-length: 3\r\n\r\nabc";
+const WHOLE: &[u8] = b"PUT /a HTTP/1.1\r\ncontent-length: 3\r\n\r\nabc";
+
+// Whether a message is cut after each of its bytes.
+fn is_cut(alloc: Global, whole: &[u8]) -> Result<bool, OutOfMemory> {
     for n in 1..whole.len() {
         let (front, _) = whole.split_at(n);
-        assert_eq!(rt;
-            told(rt.alloc(), front, 7, &[])?.as_slice(),
-            b"cut".as_slice()
-        );
+        if !says(alloc, front, 7, "cut")? {
+            return Ok(false);
+        }
     }
-    // Nine reads give the 41 bytes of the message in pieces of 5; the tenth finds the end.
-    for n in 1..12 {
-        let got = told(rt.alloc(), whole, 5, &[n])?;
-        let text: &[u8] = match n {
-            1..=9 => b"failed",
-            10 => b"PUT /a content-length=3 [abc]; failed",
-            _ => b"PUT /a content-length=3 [abc]; ended",
-        };
-        assert_eq!(rt; got.as_slice(), text, "where read {n} fails");
+    Ok(true)
+}
+
+#[test]
+fn a_message_cut_at_each_byte(rt: HostRuntime) -> Result<(), Fail> {
+    assert!(rt; is_cut(rt.alloc(), WHOLE)?);
+    Ok(())
+}
+
+// What the message says where a read fails. Nine give its 41 bytes in pieces of 5; the tenth finds the end.
+fn said_without(read: u64) -> &'static [u8] {
+    match read {
+        1..=9 => b"failed",
+        10 => b"PUT /a content-length=3 [abc]; failed",
+        _ => b"PUT /a content-length=3 [abc]; ended",
+    }
+}
+
+fn fails_so(alloc: Global, read: u64) -> Result<bool, OutOfMemory> {
+    Ok(told(alloc, WHOLE, 5, &[read])?.as_slice() == said_without(read))
+}
+
+#[test]
+fn a_read_fails_at_each_place(rt: HostRuntime) -> Result<(), Fail> {
+    for read in 1..12 {
+        if !fails_so(rt.alloc(), read)? {
+            return Err(Fail::from(read));
+        }
     }
     Ok(())
 }
@@ -251,34 +296,54 @@ fn many_fields(alloc: Global, count: usize) -> Result<Vec<u8>, OutOfMemory> {
     Ok(head)
 }
 
-#[test]
-fn heads_at_the_limits(rt: HostRuntime) -> Result<(), Fail> {
-    for (size, front) in [
-        (16_383, "GET /aa"),
-        (16_384, "GET /aa"),
-        (16_385, "431; closed"),
-    ] {
-        let head = long_head(rt.alloc(), size)?;
-        assert_eq!(rt; head.len(), size);
-        for piece in [1, 19, 5_000, 20_000] {
-            let got = told(rt.alloc(), head.as_slice(), piece, &[])?;
-            assert!(rt;
-                got.as_slice().starts_with(front.as_bytes()),
-                "{size} in pieces of {piece}"
-            );
+fn begins(alloc: Global, head: &[u8], piece: usize, front: &str) -> Result<bool, OutOfMemory> {
+    let got = told(alloc, head, piece, &[])?;
+    Ok(got.as_slice().starts_with(front.as_bytes()))
+}
+
+static PIECES: [usize; 4] = [1, 19, 5_000, 20_000];
+
+fn all_begin(alloc: Global, size: usize, front: &str) -> Result<bool, OutOfMemory> {
+    let head = long_head(alloc, size)?;
+    for piece in PIECES.as_slice() {
+        if !begins(alloc, head.as_slice(), *piece, front)? {
+            return Ok(false);
         }
     }
-    for (count, front) in [(64, "GET / a=b a=b"), (65, "400; closed")] {
-        let got = told(
-            rt.alloc(),
-            many_fields(rt.alloc(), count)?.as_slice(),
-            64,
-            &[],
-        )?;
-        assert!(rt;
-            got.as_slice().starts_with(front.as_bytes()),
-            "{count} fields"
-        );
+    Ok(head.len() == size)
+}
+
+// Heads of so many bytes, and how what they say begins.
+static SIZES: [(usize, &str); 3] = [
+    (16_383, "GET /aa"),
+    (16_384, "GET /aa"),
+    (16_385, "431; closed"),
+];
+
+#[test]
+fn heads_at_the_limits(rt: HostRuntime) -> Result<(), Fail> {
+    for (size, front) in SIZES.as_slice() {
+        if !all_begin(rt.alloc(), *size, front)? {
+            return Err(Fail::from(*size));
+        }
+    }
+    Ok(())
+}
+
+// Heads of so many fields.
+static FIELDS: [(usize, &str); 2] = [(64, "GET / a=b a=b"), (65, "400; closed")];
+
+fn fields_begin(alloc: Global, count: usize, front: &str) -> Result<bool, OutOfMemory> {
+    let head = many_fields(alloc, count)?;
+    begins(alloc, head.as_slice(), 64, front)
+}
+
+#[test]
+fn fields_at_the_limit(rt: HostRuntime) -> Result<(), Fail> {
+    for (count, front) in FIELDS.as_slice() {
+        if !fields_begin(rt.alloc(), *count, front)? {
+            return Err(Fail::from(*count));
+        }
     }
     Ok(())
 }

@@ -264,12 +264,18 @@ pub(crate) fn cells(alloc: Global, tree: &Tree, rest: &str) -> Result<Vec<String
 pub(crate) fn page_lines(alloc: Global, tree: &Tree) -> Result<Vec<String>, Trouble> {
     let mut lines = lines_of(alloc, tree.rows())?;
     let copied = lines_of(alloc, tree.copy()?.rows())?;
-    let mut rows = Vec::new(alloc);
-    for row in tree.rows() {
-        rows.push(line_of(alloc, &row.copy(alloc)?)?)?;
-    }
+    let rows = copied_lines(alloc, tree)?;
     if copied.as_slice() != lines.as_slice() || rows.as_slice() != lines.as_slice() {
         lines.push(String::from_str(alloc, "but a copy differs")?)?;
+    }
+    Ok(lines)
+}
+
+// The lines of copies of a page's rows.
+fn copied_lines(alloc: Global, tree: &Tree) -> Result<Vec<String>, Trouble> {
+    let mut lines = Vec::new(alloc);
+    for row in tree.rows() {
+        lines.push(line_of(alloc, &row.copy(alloc)?)?)?;
     }
     Ok(lines)
 }

@@ -2,6 +2,7 @@
 
 ghost use Rattle.std.specs.Prelude.{◌≤◌};
 
+use crate::aria::flags;
 use crate::trouble::Trouble;
 use crate::words::{push_number, push_quoted, push_word};
 use acc_name::name;
@@ -50,17 +51,14 @@ pub(crate) fn roles(alloc: Global, tree: &Tree, node: NodeId) -> Result<String, 
 
 /// Whether a node is exposed, included and decorative.
 pub(crate) fn standing(alloc: Global, tree: &Tree, node: NodeId) -> Result<String, Trouble> {
-    let mut line = String::new(alloc);
-    for (is_so, word) in [
-        (exposed(tree, node), "exposed"),
-        (included(tree, node), "included"),
-        (decorative(tree, node), "decorative"),
-    ] {
-        if is_so {
-            push_word(&mut line, word)?;
-        }
-    }
-    Ok(line)
+    flags(
+        alloc,
+        &[
+            (exposed(tree, node), "exposed"),
+            (included(tree, node), "included"),
+            (decorative(tree, node), "decorative"),
+        ],
+    )
 }
 
 /// The numbers of the nodes that a node owns.
@@ -120,28 +118,29 @@ pub(crate) fn owns_through(alloc: Global, tree: &Tree, node: NodeId) -> Result<S
 /// What is above a node: whether it is in a section, in a list, hidden and disabled, and the numbers of the
 /// nearest table and the nearest label.
 pub(crate) fn above(alloc: Global, tree: &Tree, node: NodeId) -> Result<String, Trouble> {
-    let mut line = String::new(alloc);
     let Some(sight) = sight_of(tree, node) else {
-        return Ok(line);
+        return Ok(String::new(alloc));
     };
     let above = sight.above;
-    for (is_so, word) in [
-        (above.is_in_section(), "section"),
-        (above.is_in_list(), "list"),
-        (above.is_hidden(), "hidden"),
-        (above.is_disabled(), "disabled"),
-    ] {
-        if is_so {
-            push_word(&mut line, word)?;
-        }
-    }
+    let mut line = flags(
+        alloc,
+        &[
+            (above.is_in_section(), "section"),
+            (above.is_in_list(), "list"),
+            (above.is_hidden(), "hidden"),
+            (above.is_disabled(), "disabled"),
+        ],
+    )?;
     if let Some(table) = above.table() {
-        push_word(&mut line, "table")?;
-        push_number(alloc, &mut line, table.node.0)?;
+        push_nearest(alloc, &mut line, "table", table.node)?;
     }
     if let Some(label) = above.label() {
-        push_word(&mut line, "label")?;
-        push_number(alloc, &mut line, label.0)?;
+        push_nearest(alloc, &mut line, "label", label)?;
     }
     Ok(line)
+}
+
+fn push_nearest(alloc: Global, line: &mut String, word: &str, node: NodeId) -> Result<(), Trouble> {
+    push_word(line, word)?;
+    push_number(alloc, line, node.0)
 }

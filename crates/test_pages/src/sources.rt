@@ -60,27 +60,39 @@ impl State {
     /// Takes what a step gives: a page, edits or bytes. No where the step asks something.
     pub(crate) fn take(&mut self, step: &Step) -> Result<bool, Trouble> {
         let (word, rest) = cut(step.words.as_str(), ' ');
-        match word {
-            "page" => {
-                let rows = rows_of(self.alloc, step.block.as_slice())?;
-                let address = Text::from_str(self.alloc, ADDRESS)?;
-                let rows = List::from_vec(rows);
-                self.build(Raw { address, rows })?;
-            }
-            "made" => {
-                let (seed, page) = cut(rest, ' ');
-                self.build(made_page(self.alloc, number(seed)?, number(page)?)?)?;
-            }
-            "accepts" => self.accept(rest)?,
-            "edits" => self.edit(step.block.as_slice())?,
-            "json" => self.send(step.block.as_slice(), false)?,
-            "hex" => self.send(step.block.as_slice(), true)?,
-            "spaces" => self.bytes = vec![in self.alloc; b' '; count(rest)?]?,
-            "read" => self.read()?,
-            "judged" => self.judge(step.block.as_slice())?,
+        let block = step.block.as_slice();
+        let taken = match word {
+            "page" => self.draw(block),
+            "made" => self.make(rest),
+            "accepts" => self.accept(rest),
+            "edits" => self.edit(block),
+            "json" => self.send(block, false),
+            "hex" => self.send(block, true),
+            "spaces" => self.send_spaces(rest),
+            "read" => self.read(),
+            "judged" => self.judge(block),
             _ => return Ok(false),
-        }
+        };
+        taken?;
         Ok(true)
+    }
+
+    fn draw(&mut self, lines: &[Line]) -> Result<(), Trouble> {
+        let rows = List::from_vec(rows_of(self.alloc, lines)?);
+        let address = Text::from_str(self.alloc, ADDRESS)?;
+        self.build(Raw { address, rows })
+    }
+
+    fn make(&mut self, words: &str) -> Result<(), Trouble> {
+        let (seed, page) = cut(words, ' ');
+        let (seed, page) = (number(seed)?, number(page)?);
+        self.build(made_page(self.alloc, seed, page)?)
+    }
+
+    fn send_spaces(&mut self, words: &str) -> Result<(), Trouble> {
+        let times = count(words)?;
+        self.bytes = vec![in self.alloc; b' '; times]?;
+        Ok(())
     }
 
     /// The lines of the page that a step expects; `None` where it expects something else.
