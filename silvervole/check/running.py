@@ -15,7 +15,7 @@ from silvervole.collect.places import ended
 from silvervole.program import Audit
 from silvervole.settings.sign_in import Signed
 from silvervole.view.files import read
-from silvervole.view.findings import Findings, bring_together
+from silvervole.view.findings import Findings, TargetMaker, bring_together
 from silvervole.view.page import Page, read_page
 from silvervole.view.pictures import picture_of
 from silvervole.view.report import OUTCOMES, Report, read_report
@@ -155,7 +155,8 @@ class Run:
         """All that is told of a page, whose snapshot stands in the file."""
         if self.formats is None:
             told = OUTCOMES if self.checking.passed else OUTCOMES[:-1]
-            return Checked(subject, taken.ending, bring_together(report, page, self.table, None, told=told))
+            makers = TargetMaker(page, None, headings=False)
+            return Checked(subject, taken.ending, bring_together(report, page, self.table, None, makers, told))
         picture = picture_of(taken.shot.picture, taken.shot.boxes, taken.data, subject.page) if taken.shot is not None else None
         listed = self.formats.listed(subject, page, report, time.monotonic() - taken.began, file, picture)
         return Checked(subject, taken.ending, self.formats.view(listed), listed)

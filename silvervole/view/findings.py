@@ -153,11 +153,12 @@ def check_page(report: Report, page: Page) -> None:
 
 
 class TargetMaker:
-    """Says of a node what people need to find it, once for each node."""
+    """Says of a node what people need to find it, once for each node; the heading before it only where that is wanted."""
 
-    def __init__(self, page: Page, picture: Picture | None) -> None:
+    def __init__(self, page: Page, picture: Picture | None, headings: bool = True) -> None:
         self.page = page
         self.picture = picture
+        self.headings = headings
         self.made: dict[int, Target] = {}
 
     def found(self, finding: Finding) -> Target:
@@ -177,7 +178,7 @@ class TargetMaker:
         node = self.page.nodes[number]
         element = node.element
         is_root = element is self.page.root
-        heading = self.page.headings_above.get(number)
+        heading = self.page.headings_above.get(number) if self.headings else None
         owners = self.page.owners.get(number, ())
         return Target(
             number, element.tag if node.is_element else f"text in {element.tag}", is_root, css_path(self.page, node),
