@@ -2,6 +2,7 @@ ghost use Rattle.std.specs.Prelude.{◌≡◌, map, IfOk};
 
 use named_rows::{Named, Place, Rows, laws_of_lookups, laws_of_order, laws_of_views};
 use std::alloc::Global;
+use std::process::Abort;
 use std::test::Fail;
 use texts::{OutOfMemory, Text};
 
@@ -40,69 +41,39 @@ fn lines(alloc: Global, rows: &[(&str, u8)]) -> Result<Vec<Line>, OutOfMemory> {
     Ok(made)
 }
 
-fn stand(rows: &Rows<Line>, wanted: &[(&str, u8)]) -> bool {
+fn assert_stand(rt: &impl Abort, rows: &Rows<Line>, wanted: &[(&str, u8)]) {
+    assert_eq!(rt; rows.as_slice().len(), wanted.len());
     for (row, (label, value)) in rows.as_slice().iter().zip(wanted) {
-        if row.label.as_str() != *label || row.value != *value {
-            return false;
-        }
+        assert_eq!(rt; row.label.as_str(), *label);
+        assert_eq!(rt; row.value, *value, "{label}");
     }
-    rows.as_slice().len() == wanted.len()
-}
-
-fn all_put(alloc: Global) -> Result<Rows<Line>, OutOfMemory> {
-    let mut rows = Rows::new(alloc);
-    rows.put_all(lines(alloc, PUT.as_slice())?)?;
-    Ok(rows)
-}
-
-// Whether the row of a name has this value, and stands here.
-fn is_found(rows: &Rows<Line>, name: &Text, value: u8, place: usize) -> bool {
-    match rows.get(name) {
-        Some(row) => row.value == value && rows.place(name) == Place::Found(place),
-        None => false,
-    }
-}
-
-// Whether there is no row of a name, which would stand here.
-fn is_vacant(rows: &Rows<Line>, name: &Text, place: usize) -> bool {
-    rows.get(name).is_none() && rows.place(name) == Place::Vacant(place)
-}
-
-// Whether a row goes from its place, and comes there when it is put again.
-fn goes_and_comes(alloc: Global, mut rows: Rows<Line>) -> Result<bool, OutOfMemory> {
-    let ab = Text::from_str(alloc, "ab")?;
-    let is_there = stand(&rows, STANDING.as_slice()) && is_found(&rows, &ab, 4, 3);
-    rows.take(&ab);
-    let is_gone = stand(&rows, WITHOUT_AB.as_slice()) && is_vacant(&rows, &ab, 3);
-    rows.put(labelled(alloc, "ab", 4)?)?;
-    Ok(is_there && is_gone && stand(&rows, STANDING.as_slice()))
 }
 
 #[test]
 fn rows_stand_in_byte_order(rt: HostRuntime) -> Result<(), Fail> {
-    let rows = all_put(rt.alloc())?;
-    assert!(rt; goes_and_comes(rt.alloc(), rows)?);
-    laws_of_lookups::<Line>();
-    laws_of_order::<Line>();
-    laws_of_views::<Line, Line>();
-    Ok(())
-}
-
-// Rows of which one has another value, made of what they were.
-fn changed(mut rows: Rows<Line>) -> Rows<Line> {
+    let alloc = rt.alloc();
+    let mut rows = Rows::new(alloc);
+    rows.put_all(lines(alloc, PUT.as_slice())?)?;
+    assert_stand(&rt, &rows, STANDING.as_slice());
+    let ab = Text::from_str(alloc, "ab")?;
+    assert_eq!(rt; rows.get(&ab).map(|row| row.value), Some(4));
+    assert_eq!(rt; rows.place(&ab), Place::Found(3));
+    rows.take(&ab);
+    assert_stand(&rt, &rows, WITHOUT_AB.as_slice());
+    assert!(rt; rows.get(&ab).is_none());
+    assert_eq!(rt; rows.place(&ab), Place::Vacant(3));
+    rows.put(labelled(alloc, "ab", 4)?)?;
+    assert_stand(&rt, &rows, STANDING.as_slice());
     if rows.as_slice().len() > 3 {
         rows.at_mut(3).value = 9;
     }
-    Rows::from_vec(rows.into_vec())
-}
-
-fn greatest(rows: &Rows<Line>) -> Option<u32> {
-    rows.as_slice().iter().map(|row| u32::from(row.value)).max()
-}
-
-#[test]
-fn a_row_may_change_but_for_its_name(rt: HostRuntime) -> Result<(), Fail> {
-    let rows = changed(all_put(rt.alloc())?);
-    assert_eq!(rt; greatest(&rows), Some(9));
+    let kept = Rows::from_vec(rows.into_vec());
+    assert_eq!(rt;
+        kept.as_slice().iter().map(|row| u32::from(row.value)).max(),
+        Some(9)
+    );
+    laws_of_lookups::<Line>();
+    laws_of_order::<Line>();
+    laws_of_views::<Line, Line>();
     Ok(())
 }
