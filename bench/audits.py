@@ -60,6 +60,6 @@ def memory(page):
         child = started(stdin, pipesize=4_096)
         select.select([child.stdout], [], [])
         with open(f"/proc/{child.pid}/status", encoding="ascii") as status:
-            held = int(re.findall(r"VmHWM:\s+(\d+) kB", status.read())[0])
+            held = re.search(r"VmHWM:\s+(\d+) kB", status.read())
         reported(child)
-        return held
+        return int(held.group(1))

@@ -53,12 +53,8 @@ def snapshot(chance: random.Random, site: str, size: int | None = None) -> Row:
 
 def below(rows: list[Row], number: int) -> list[Row]:
     """A row and all rows below it, in document order."""
-    numbers, found = {number}, []
-    for row in rows:
-        if row["n"] == number or row["p"] in numbers:
-            numbers.add(row["n"])
-            found.append(row)
-    return found
+    found = {number}
+    return [row for row in rows if row["n"] == number or row["p"] in found and not found.add(row["n"])]
 
 
 def place_in(rows: list[Row], parent: int, place: int) -> int:

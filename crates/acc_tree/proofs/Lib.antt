@@ -4,7 +4,3 @@ pub mod Sighting
 pub mod Asking
 pub mod Finding
 pub mod Tagging
-pub mod Nearest
-pub mod Ancestors
-pub mod Once
-pub mod Numbered

@@ -9,5 +9,4 @@ pub mod Frames
 pub mod Sights
 pub mod Pages
 pub mod References
-pub mod Following
 pub mod Owning

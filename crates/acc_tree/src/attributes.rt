@@ -34,7 +34,6 @@ pub enum Attribute {
     Title,
     TypeAttr,
     Value,
-    XmlLang,
     /// A state or property of WAI-ARIA, whose name begins `aria-`.
     Aria(AriaAttr),
 }
@@ -70,7 +69,6 @@ impl Attribute {
             Attribute::Title => "title",
             Attribute::TypeAttr => "type",
             Attribute::Value => "value",
-            Attribute::XmlLang => "xml:lang",
             Attribute::Aria(attr) => attr.name(),
         }
     }

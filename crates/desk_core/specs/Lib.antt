@@ -18,6 +18,5 @@ pub mod Serving
 pub mod Sheets
 pub mod Placing
 pub mod Building
-pub mod InHand
 pub mod Once
 pub mod Revisions

@@ -10,7 +10,7 @@ use snap_tree::{Attr, same_folded};
 
 const PREFIX: usize = 5;
 
-const NAMES: [&str; 25] = [
+const NAMES: [&str; 24] = [
     "alt",
     "autocomplete",
     "colspan",
@@ -35,7 +35,6 @@ const NAMES: [&str; 25] = [
     "title",
     "type",
     "value",
-    "xml:lang",
 ];
 
 fn is_aria(name: &str) -> bool

@@ -1,5 +1,4 @@
 pub mod Tests
-pub mod PageTests
 pub mod Stands
 pub mod Agreeing
 pub mod Trails
@@ -7,7 +6,5 @@ pub mod Pages
 pub mod Again
 pub mod Outer
 pub mod Referring
-pub mod Following
 pub mod Classes
-pub mod Taking
 pub mod Looking

@@ -8,5 +8,3 @@ mod Reaching
 mod Along
 pub mod Marking
 mod Live
-pub mod SameRows
-pub mod ListChanges

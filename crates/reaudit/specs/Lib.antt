@@ -5,5 +5,3 @@ pub mod Costs
 pub mod Marks
 pub mod Nodes
 pub mod Again
-pub mod SameRows
-pub mod Relisted

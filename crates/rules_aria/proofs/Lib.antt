@@ -4,5 +4,4 @@ pub mod Stopping
 pub mod Judged
 pub mod AttributesTold
 pub mod ReferencesTold
-pub mod OwnersTold
 pub mod Local

@@ -1,7 +1,5 @@
 ghost use Rattle.std.specs.Prelude.{◌≡◌, IfOk};
-ghost use Rattle.aria_tables.specs.Owning.{allowed_owned, looks_through};
-ghost use Rattle.acc_tree.specs.Owning.{owned_by};
-ghost use Rattle.acc_tree.specs.Seen.{seen_row, seen};
+ghost use Rattle.acc_tree.specs.Seen.{seen_row};
 ghost use Rattle.acc_tree.specs.Sights.{seen_sight};
 ghost use Rattle.rules_aria.specs.OwnedElements.{are_allowed, owned_finding, role_words, verdict_on, is_owner_target, owned_verdict, owns_required_elements, owns_required_elements_info};
 
@@ -18,9 +16,9 @@ use std::alloc::Global;
 /// ACT rule bc4a75, ARIA required owned elements
 /// (<https://www.w3.org/WAI/standards-guidelines/act/rules/bc4a75/>). Its target is an included element
 /// whose explicit role is asked what it owns, and whose aria-busy isn't `true`. It fails where it owns
-/// an element of a role that isn't allowed; where it owns nothing, a person has to judge. It owns what stands
-/// below it and what it follows by aria-owns. In the place of an element of a role that is looked through
-/// stands what that owns, again and again. The evidence is the roles of what it owns.
+/// an element of a role that isn't allowed; where it owns nothing, a person has to judge. In the place of
+/// an element of a role that is looked through stands what that owns, again and again. The evidence is
+/// the roles of what it owns.
 #[derive(Clone, Copy, Debug, PartialEq, Eq)]
 pub struct OwnsRequiredElements;
 
@@ -87,22 +85,8 @@ fn is_target(above: &Above, row: &Row, role: Role) -> bool
         && included_at(above, row)
 }
 
-// What is said of an element of this role by what it owns.
-fn owning_verdict(
-    alloc: Global,
-    tree: &Tree,
-    sight: Sight<'_>,
-    role: Role,
-) -> Result<Verdict, OutOfMemory>
-    ensures { IfOk result (λ verdict. verdict ≡ verdict_on (allowed_owned role)
-        (owned_by (looks_through role) (seen tree.now.trees) 1 (seen_sight sight.entry))) }
-{
-    let elements = owned_by(alloc, tree, sight, 1, looks_through(role))?;
-    verdict_on(alloc, allowed_owned(role), elements.as_slice())
-}
-
-fn verdict(alloc: Global, tree: &Tree, sight: Sight<'_>) -> Result<Option<Verdict>, OutOfMemory>
-    ensures { IfOk result (λ verdict. verdict ≡ owned_verdict (seen tree.now.trees) (seen_sight sight.entry)) }
+fn verdict(alloc: Global, sight: Sight<'_>) -> Result<Option<Verdict>, OutOfMemory>
+    ensures { IfOk result (λ verdict. verdict ≡ owned_verdict (seen_sight sight.entry)) }
 {
     let Some(role) = explicit_at(sight.row) else {
         return Ok(None);
@@ -110,7 +94,8 @@ fn verdict(alloc: Global, tree: &Tree, sight: Sight<'_>) -> Result<Option<Verdic
     if !is_target(&sight.above, sight.row, role) {
         return Ok(None);
     }
-    Ok(Some(owning_verdict(alloc, tree, sight, role)?))
+    let elements = owned_by(alloc, sight, looks_through(role))?;
+    Ok(Some(verdict_on(alloc, allowed_owned(role), elements.as_slice())?))
 }
 
 impl Rule for OwnsRequiredElements {
@@ -124,7 +109,7 @@ impl Rule for OwnsRequiredElements {
 
     fn judge(&self, alloc: Global, tree: &Tree, n: NodeId) -> Result<Option<Verdict>, OutOfMemory> {
         match sight_with(tree, n, Attribute::RoleAttr) {
-            Some(sight) => verdict(alloc, tree, sight),
+            Some(sight) => verdict(alloc, sight),
             None => Ok(None),
         }
     }

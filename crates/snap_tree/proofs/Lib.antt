@@ -14,4 +14,3 @@ pub mod Climbing
 pub mod Weights
 pub mod Naming
 pub mod Soundness
-mod LangLists

@@ -1,5 +1,4 @@
 pub mod Trees
-pub mod Langs
 pub mod Codes
 pub mod Grown
 pub mod Rows

@@ -1,4 +1,3 @@
-mod Bare
 pub mod Steps
 pub mod Each
 pub mod Counted

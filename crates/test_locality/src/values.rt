@@ -12,11 +12,9 @@ pub(crate) enum Key<'a> {
     Id(&'a str),
     LabelFor(&'a str),
     Tagged(&'a str),
-    /// The language subtags that the site accepts.
-    Langs,
 }
 
-static LOOKED_AT: [&str; 25] = [
+static LOOKED_AT: [&str; 24] = [
     "alt",
     "autocomplete",
     "colspan",
@@ -41,7 +39,6 @@ static LOOKED_AT: [&str; 25] = [
     "title",
     "type",
     "value",
-    "xml:lang",
 ];
 
 fn is_looked_at(name: &str) -> bool {
@@ -176,13 +173,6 @@ fn add_tagged(alloc: Global, text: &mut String, tree: &Tree, tag: &str) -> Resul
     Ok(())
 }
 
-fn add_langs(text: &mut String, tree: &Tree) -> Result<(), AllocError> {
-    for lang in tree.langs().as_slice() {
-        add_part(text, lang.as_str())?;
-    }
-    Ok(())
-}
-
 fn add_node(
     alloc: Global,
     text: &mut String,
@@ -214,7 +204,6 @@ pub(crate) fn value(alloc: Global, tree: &Tree, key: Key) -> Result<String, Allo
         }
         Key::LabelFor(id) => add_labels(alloc, &mut text, tree, id)?,
         Key::Tagged(tag) => add_tagged(alloc, &mut text, tree, tag)?,
-        Key::Langs => add_langs(&mut text, tree)?,
     }
     Ok(text)
 }
