@@ -60,6 +60,6 @@ def memory(page):
         child = started(stdin, pipesize=4_096)
         select.select([child.stdout], [], [])
         with open(f"/proc/{child.pid}/status", encoding="ascii") as status:
-            held = re.search(r"VmHWM:\s+(\d+) kB", status.read())
+            held = int(re.findall(r"VmHWM:\s+(\d+) kB", status.read())[0])
         reported(child)
-        return int(held.group(1))
+        return held

@@ -126,6 +126,79 @@ def found_words():
     return listing("aria-labelledby", " ".join("a" * 32_000), count=3)
 
 
+# ---- aria-owns
+
+def owning_one_text():
+    """Buttons that all own one paragraph, whose text is as long as the greatest weight allows."""
+    page, body = begun()
+    page.words(page.element(body, "p", [("id", "a")]), "a" * 639)
+    for _ in range(9_000):
+        page.element(body, "button", [("aria-owns", "a")], "rvft")
+    return page
+
+
+def owning_one_list():
+    """Lists that all own one list, with as many entries as the greatest weight allows."""
+    page, body = begun()
+    items = page.element(body, "ul", [("id", "a")])
+    for _ in range(5):
+        page.words(page.element(items, "li"), "a")
+    for _ in range(9_000):
+        page.element(body, "div", [("role", "list"), ("aria-owns", "a")])
+    return page
+
+
+def owning_each_other(tag, attrs=()):
+    """Elements of which each owns the one before it and the one after it."""
+    page, body = begun()
+    names = ids(HEIGHT)
+    for before, name, after in zip(names[-1:] + names, names, names[1:] + names):
+        node = page.element(body, tag, [*attrs, ("id", name), ("aria-owns", f"{before} {after}")], "rvft")
+        page.words(node, "a")
+    return page
+
+
+def owning_long_texts():
+    """Nested buttons, of which each owns a paragraph beside them."""
+    page, inner = begun()
+    for name in ids(HEIGHT):
+        page.words(page.element(inner, "p", [("id", name)]), "a" * 10_000)
+    for name in ids(HEIGHT):
+        inner = page.element(inner, "button", [("aria-owns", name)], "rvft")
+    return page
+
+
+def owning_by(words, names):
+    """A list and a button that own the elements of these ids, each by a list of words."""
+    page, body = begun()
+    for name in names:
+        page.element(body, "img", [("id", name), ("alt", "a")])
+    page.element(body, "div", [("role", "list"), ("aria-owns", words)])
+    page.element(body, "button", [("aria-owns", words)], "rvft")
+    return page
+
+
+def owning_one_group():
+    """Trees that all own one group, with as many items as the greatest weight allows."""
+    page, body = begun()
+    owned = page.element(body, "div", [("id", "a"), ("role", "group")])
+    for _ in range(9):
+        page.element(owned, "p", [("role", "treeitem")])
+    for _ in range(9_000):
+        page.element(body, "div", [("role", "tree"), ("aria-owns", "a")])
+    return page
+
+
+def owning_below(words):
+    """A list below many elements, with as many words as its aria-owns can have, and elements that they find."""
+    page, inner = begun()
+    inner = nested(page, inner, ["div"], HEIGHT)
+    page.element(inner, "div", [("role", "list"), ("aria-owns", " ".join(words))])
+    for word in dict.fromkeys(words):
+        page.element(inner, "p", [("id", word), ("role", "listitem")])
+    return page
+
+
 def below_long_roles():
     """Nested tables whose roles are long lists of unknown words, and leaves below them."""
     page, inner = begun()
@@ -334,6 +407,18 @@ PAGES = [
     (below_long_roles_of_parents, 2, "9,000 buttons below 110 elements with such roles"),
     (viewports, 2, "120 viewports of 4,050 keys"),
     (aria_everywhere, 2, "6,000 elements of 64 attributes"),
+    # aria-owns
+    (owning_one_text, 2, "9,000 buttons that own one text"),
+    (owning_one_list, 2, "9,000 lists that own one list"),
+    (lambda: owning_each_other("button"), 2, "a chain of 120 buttons that own each other"),
+    (lambda: owning_each_other("div", [("role", "list")]), 2, "a chain of 120 lists that own each other"),
+    (owning_long_texts, 2, "120 nested buttons, each owning a text of 10,000 bytes"),
+    (lambda: owning_by(" ".join("a" * 32_000), "a"), 2, "aria-owns, 32,000 words, one element"),
+    (lambda: owning_by(" ".join(ids(9_500)), ids(9_500)), 2, "aria-owns, 9,500 words, 9,500 elements"),
+    (lambda: owning_by(" ".join((ids(90) * 200)[:16_500]), ids(90)), 2, "aria-owns, 16,500 words, 90 elements"),
+    (owning_one_group, 2, "9,000 trees that own one group"),
+    (lambda: owning_below(["a"] * 32_000), 2, "a list 120 elements deep that owns one by 32,000 words"),
+    (lambda: owning_below(ids(9_800)), 2, "a list 120 elements deep that owns 9,800"),
     # nesting
     (fieldsets, 2, "60 nested fieldsets with legends, 9,800 texts"),
     (labels, 2, "120 nested labels with inputs, 6 texts"),

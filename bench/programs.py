@@ -30,7 +30,7 @@ def steps_in(lines):
 
 def least(told):
     """The least time of each step in what some runs told."""
-    found = {}
+    found: dict[str, int] = {}
     for run in told:
         for step, micros in run:
             found[step] = min(found.get(step, micros), micros)
@@ -115,6 +115,6 @@ class Program:
 
 
 STEPS = Program("desk_bench", "snap_tree snap_json snap_edit aria_tables acc_tree acc_name rule_core rule_sights "
-                "rules_tables rule_book judge_core audit", ["steps/*.rt.in"])
+                "rules_tables rule_book judge_core audit reaudit", ["steps/*.rt.in"])
 SERVING = Program("desk_serving", "snap_tree fixture_pages snap_json rule_core rule_book keep_core desk_core "
                   "fixture_sites", ["serving/*.rt.in", "steps/clock.rt.in"])

@@ -20,6 +20,7 @@ WHITE = re.compile("[\t-\r \x85\xa0\u1680\u2000-\u200a\u2028\u2029\u202f\u205f\u
 HALF = re.compile("[\ud800-\udfff]")
 # The attributes by which text is referred to.
 REFERRING = {"id", "for", "aria-labelledby", "aria-owns"}
+LETTERS = set("rvft")
 LABELABLE = {"button", "meter", "output", "progress", "select", "textarea"}
 
 
@@ -46,8 +47,15 @@ def are_attributes(value):
     # A page may have half a million of them: sets of what they are tell it soonest.
     if not isinstance(value, list) or not {*map(type, value)} <= {list} or not {*map(len, value)} <= {2}:
         return False
+    if not value:
+        return True
     parts = [*itertools.chain.from_iterable(value)]
     return {*map(type, parts)} <= {str} and is_text("".join(parts)) and "" not in parts[::2]
+
+
+@functools.lru_cache(maxsize=256)
+def are_letters(text):
+    return len(set(text)) == len(text) and set(text) <= LETTERS
 
 
 def is_number(value):
@@ -129,7 +137,7 @@ def read(top):
         elif not is_text(given["text"]):
             bad("text")
         letters = given.get("f", "rv")
-        if not isinstance(letters, str) or len(set(letters)) != len(letters) or not set(letters) <= set("rvft"):
+        if not isinstance(letters, str) or not are_letters(letters):
             bad("f")
         rows.append({"n": given["n"], "p": given["p"], "tag": given.get("tag"), "text": given.get("text"),
                      "ns": given.get("ns", "html"), "attrs": given.get("attrs", []) if "tag" in given else [], "f": letters, "given": given})
@@ -180,18 +188,21 @@ def check_tree(rows):
         depth[n] = 1 if place == 0 else depth[p] + 1
         if depth[n] > DEPTH:
             bad(f"depth {depth[n]}")
-        if len(row["attrs"]) > ATTRS:
-            bad(f"{len(row['attrs'])} attributes")
-        texts = [row["text"] or "", row["tag"] or "", *itertools.chain.from_iterable(row["attrs"])]
+        attrs = row["attrs"]
+        if len(attrs) > ATTRS:
+            bad(f"{len(attrs)} attributes")
+        texts = [row["text"] or row["tag"] or "", *itertools.chain.from_iterable(attrs)]
         # Their sum first, which is quicker.
         if size("".join(texts)) > TEXT:
             for text in texts:
                 if size(text) > TEXT:
                     bad(f"a text of {size(text)} bytes")
-        names = [folded(name) for name, _ in row["attrs"]]
-        if len(set(names)) != len(names):
-            bad("an attribute stands twice")
-        referring[n] = {} if REFERRING.isdisjoint(names) else {name: pair[1] for name, pair in zip(names, row["attrs"]) if name in REFERRING}
+        if attrs:
+            names = [folded(name) for name, _ in attrs]
+            if len(set(names)) != len(names):
+                bad("an attribute stands twice")
+            if not REFERRING.isdisjoint(names):
+                referring[n] = {name: pair[1] for name, pair in zip(names, attrs) if name in REFERRING}
         by_number[n] = row
         open_rows.append(n)
     weight = reference_weight(rows, by_number, referring)
@@ -202,33 +213,25 @@ def check_tree(rows):
 
 def reference_weight(rows, by_number, referring):
     """How much text the page's references reach, counted once for each reference; `referring` has the attributes of each row that refers."""
-    subtree: dict[int, int] = {}
-    for row in reversed(rows):
-        length = size(row["text"] or "") + size("".join([value for _, value in row["attrs"]]))
-        subtree[row["n"]] = subtree.get(row["n"], 0) + 1 + length // 64
-        if row["p"] is not None:
-            subtree[row["p"]] = subtree.get(row["p"], 0) + subtree[row["n"]]
+    subtree = subtree_weights(rows)
     first_with_id: dict = {}
     labels_by_for: dict = {}
-    for row in rows:
-        if row["tag"] is None:
-            continue
-        attributes = referring[row["n"]]
+    for n, attributes in referring.items():
         if attributes.get("id"):
-            first_with_id.setdefault(attributes["id"], row["n"])
-        if "for" in attributes and is_html(row, "label"):
-            labels_by_for.setdefault(attributes["for"], []).append(row["n"])
+            first_with_id.setdefault(attributes["id"], n)
+        if "for" in attributes and is_html(by_number[n], "label"):
+            labels_by_for.setdefault(attributes["for"], []).append(n)
     total = 0
-    labelled_inside = set()
-    for row in rows:
-        if row["tag"] is None:
-            continue
-        attributes = referring[row["n"]]
+    for attributes in referring.values():
         for name in ("aria-labelledby", "aria-owns"):
-            total += sum(subtree[first_with_id[token]] for token in tokens(attributes.get(name)) if token in first_with_id)
+            if name in attributes:
+                total += sum(subtree[first_with_id[token]] for token in tokens(attributes[name]) if token in first_with_id)
+    labelled_inside = set()
+    has_labels = any(row["tag"] is not None and is_html(row, "label") for row in rows)
+    for row in rows if has_labels else ():
         if not is_labelable(row):
             continue
-        identity = attributes.get("id")
+        identity = referring.get(row["n"], {}).get("id")
         if identity and first_with_id[identity] == row["n"]:
             total += sum(subtree[label] for label in labels_by_for.get(identity, ()))
         label = by_number[row["p"]] if row["p"] is not None else None
@@ -237,9 +240,21 @@ def reference_weight(rows, by_number, referring):
         if label is not None and label["n"] not in labelled_inside:
             # Rows come in document order, so this is the label's first labelable.
             labelled_inside.add(label["n"])
-            if "for" not in referring[label["n"]]:
+            if "for" not in referring.get(label["n"], {}):
                 total += subtree[label["n"]]
     return total
+
+
+def subtree_weights(rows):
+    """The weight of each row with all below it."""
+    subtree: dict[int, int] = {}
+    for row in reversed(rows):
+        n, p = row["n"], row["p"]
+        length = size(row["text"] or "") if not row["attrs"] else size("".join([value for _, value in row["attrs"]]))
+        subtree[n] = subtree.get(n, 0) + 1 + length // 64
+        if p is not None:
+            subtree[p] = subtree.get(p, 0) + subtree[n]
+    return subtree
 
 
 def is_html(row, tag):

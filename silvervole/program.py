@@ -5,7 +5,6 @@ import os
 import pathlib
 import shutil
 import subprocess
-import tempfile
 from typing import IO
 
 from silvervole.collect.ends import End, Stop
@@ -59,7 +58,7 @@ class Audit:
     def __init__(self, snapshot: bytes) -> None:
         self.snapshot = snapshot
         # A file rather than a pipe, so that nothing waits until it is read.
-        with tempfile.TemporaryFile() as file:
+        with open(os.memfd_create("snapshot"), "w+b") as file:
             file.write(snapshot)
             file.seek(0)
             self.process = start_audit(file, subprocess.PIPE)

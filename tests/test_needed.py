@@ -11,8 +11,8 @@ from typing import Iterator
 ROOT = pathlib.Path(__file__).resolve().parent.parent
 FOLDERS = ("bench", "collector", "silvervole", "tests", "tools")
 # The Debian package of each module that isn't Python's own, and what comes along with another one.
-PACKAGES = {"argcomplete": "python3-argcomplete", "attr": "python3-sarif-python-om", "jinja2": "python3-jinja2",
-            "jsonschema": "python3-jsonschema", "junitparser": "python3-junitparser", "markupsafe": "python3-jinja2",
+PACKAGES = {"argcomplete": "python3-argcomplete", "attr": "python3-sarif-python-om", "brotli": "python3-brotli",
+            "jinja2": "python3-jinja2", "jsonschema": "python3-jsonschema", "junitparser": "python3-junitparser", "markupsafe": "python3-jinja2",
             "pytest": "python3-pytest", "rdflib": "python3-rdflib", "rich": "python3-rich",
             "sarif_om": "python3-sarif-python-om", "selenium": "python3-selenium", "trio": "python3-selenium", "trio_websocket": "python3-selenium",
             "urllib3": "python3-selenium", "yaml": "python3-yaml"}

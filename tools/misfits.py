@@ -72,10 +72,11 @@ JUDGEMENTS: list[Any] = [
     *(judged(digest=digest) for digest in (..., EVIDENCE[:-1], EVIDENCE + "0", "g" * 64, None, EVIDENCE + "\n")),
     *(judged(note=note) for note in (None, 1, "a" * 2_001))]
 # Who asks what with which revision, and bodies that it hasn't.
-BODIES = [("PUT /sites/r/members/new", None, MEMBERS), ("PUT /sites/r/pages/new", 0, SNAPSHOTS), ("POST /sites/r/import", None, IMPORTS),
-          ("POST /sites/r/pages/home/edits", 1, EDITS), ("POST /sites/r/pages/home/judgements", None, JUDGEMENTS)]
+BODIES: list[tuple[str, int | None, list[Any]]] = [
+    ("PUT /sites/r/members/new", None, MEMBERS), ("PUT /sites/r/pages/new", 0, SNAPSHOTS), ("POST /sites/r/import", None, IMPORTS),
+    ("POST /sites/r/pages/home/edits", 1, EDITS), ("POST /sites/r/pages/home/judgements", None, JUDGEMENTS)]
 # What is read, though it looks odd: members that aren't named, letters in any order or case, what isn't looked at on a text.
-READ = [
+READ: list[tuple[str, int | None, list[Any]]] = [
     ("PUT /sites/r/members/new", None, [{"role": role} for role in ("owner", "editor", "judge", "reader", "none")] + [{"role": "judge", "since": 1}]),
     ("PUT /sites/r/pages/read", 0, [
         {**PAGE, "state": "open", "frame": 2},

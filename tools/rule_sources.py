@@ -15,7 +15,7 @@ INFO = re.compile(r'no: RuleNo\(([\w:]+)\),\s*id: \*b"(\w+)",\s*applies: Class::
 OWN = re.compile(r"^impl (\w+) \{\n(?:    ///.*\n)*    pub const NO: u16 = (\d+);\n.*?^    pub const INFO: RuleInfo = RuleInfo \{(.*?)^    \};",
                  re.MULTILINE | re.DOTALL)
 COMPOSITE = re.compile(r"^const (\w+): RuleInfo = RuleInfo \{(.*?)^\};", re.MULTILINE | re.DOTALL)
-TABLE = re.compile(r"static INFOS: .*?\[\n(.*?)\];", re.DOTALL)
+TABLE = re.compile(r"^macro_rules! rules \{.*?\$made!\(\$given\n(.*?)^        \)", re.MULTILINE | re.DOTALL)
 FUNCTION = re.compile(r"^( *)(?:pub(?:\(\w+\))? )?fn (\w+)(.*?)^\1\}$", re.MULTILINE | re.DOTALL)
 IMPORT = re.compile(r"^use crate::(\w+)::(?:(\w+)|\{([^}]*)\});", re.MULTILINE)
 ARM = re.compile(r"(?:(\w+)::(\w+) => )?(?:Finding::(\w+)\()?Reason::(\w+)")
@@ -74,11 +74,11 @@ def info_in(text: str, numbers: dict[str, int]) -> Info:
 def infos() -> list[Info]:
     """The rules of the book's table, in its order."""
     text = (CRATES / "rule_book" / "src" / "table.rt").read_text(encoding="utf-8")
-    known = {f"{name}::INFO": info for name, info in own_by_name().items()}
-    numbers = {f"{name}::NO": info.number for name, info in own_by_name().items()}
+    known = own_by_name()
+    numbers = {f"{name}::NO": info.number for name, info in known.items()}
     known |= {name: info_in(told, numbers) for name, told in COMPOSITE.findall(text)}
     table = TABLE.search(text)
-    return [known[name] for name in re.findall(r"([\w:]+),", table[1] if table else "")]
+    return [known[name] for name in re.findall(r"\w+", table[1] if table else "")]
 
 
 def own_by_name() -> dict[str, Info]:

@@ -1,6 +1,7 @@
 /** What is said of a node to a person who looks for it: from a page's snapshot, whose rows stand in the order of the page. */
 
 import { grouped } from './dom.js';
+import { ownersIn } from './owning.js';
 
 const MOST = 240;
 const AROUND = 160;
@@ -28,7 +29,7 @@ const isText = (row) => row.text !== undefined;
 const solid = (pieces) => pieces.filter(({ text }) => text.trim());
 const isDrawn = (row) => row.f.includes('v');
 const tagOf = (row) => row.tag.toLowerCase();
-const attribute = (row, name) => row.attrs.find(([given]) => given.toLowerCase() === name)?.[1];
+const attribute = (row, name) => row.attrs?.find(([given]) => given.toLowerCase() === name)?.[1];
 
 export class Nodes {
   constructor(snapshot) {
@@ -38,6 +39,7 @@ export class Nodes {
     this.kids = grouped(this.list, (row) => row.p);
     this.root = this.list[0].n;
     this.counts = null;
+    this.ownersOf = null;
   }
 
   /** The element of a node: itself, or the one that a text stands in. */
@@ -51,6 +53,23 @@ export class Nodes {
     const row = this.element(number);
     const attrs = row.attrs.map(([name, value]) => (value === '' ? name : `${name}="${shortened(value, 100).replaceAll('"', '&quot;')}"`));
     return `<${[row.tag, ...attrs].join(' ')}>`;
+  }
+
+  /** The value of a node's attribute; undefined where it has none. */
+  attribute(number, name) {
+    return attribute(this.rows.get(number), name);
+  }
+
+  /** The numbers of the elements that own a node by aria-owns, in the order of the page. */
+  owners(number) {
+    this.ownersOf ??= ownersIn(this);
+    return this.ownersOf.get(number) ?? [];
+  }
+
+  /** Whether a node is another one, or stands in it. */
+  holds(outer, number) {
+    const place = this.places.get(number);
+    return this.places.get(outer) <= place && place < this.end(outer);
   }
 
   /** Where in the list the row behind a node and all that is in it stands. */

@@ -44,6 +44,15 @@ function headingFact(nodes, number) {
   return fact('Heading above', heading ? [quote(heading.text), ' ', quiet(heading.tag)] : quiet('none'));
 }
 
+const MOST_OWNERS = 3;
+
+/** Each element that owns a node by aria-owns; of many the first few. */
+function ownerFacts(nodes, number) {
+  const owners = nodes.owners(number);
+  const rows = owners.slice(0, MOST_OWNERS).map((owner) => fact('Owned by', code(nodes.startTag(owner)), ' ', quiet(`node ${owner}`)));
+  return owners.length > MOST_OWNERS ? [...rows, fact('Owned by', `${owners.length - MOST_OWNERS} more`)] : rows;
+}
+
 /** The element and the evidence of an outcome. */
 export function facts(page, outcome) {
   const { nodes } = page;
@@ -52,7 +61,7 @@ export function facts(page, outcome) {
   if (isPage) return el('dl', {}, fact('Start tag', code(nodes.startTag(outcome.node))), evidenceFacts(outcome));
   return el('dl', {}, headingFact(nodes, outcome.node), fact('Start tag', code(nodes.startTag(outcome.node))),
     fact('Text', quote(nodes.text(outcome.node))), isImage ? imageFacts(page, outcome.node, 1) : [], evidenceFacts(outcome),
-    fact('CSS path', code(nodes.path(outcome.node))));
+    fact('CSS path', code(nodes.path(outcome.node))), ownerFacts(nodes, outcome.node));
 }
 
 /** What the rule rests on, and who judged it. */
@@ -85,7 +94,7 @@ export function closeFacts(page, outcome) {
   const isPage = node === nodes.root;
   return el('dl', {}, isPage ? [] : [headingFact(nodes, node), inPlace(nodes, node)],
     evidenceFacts(outcome), fact('Start tag', code(nodes.startTag(node))),
-    isPage ? [] : [...imageFacts(page, node, MOST_IMAGES), fact('CSS path', code(nodes.path(node)))], fact('Link', pageLink(page, node)));
+    isPage ? [] : [...imageFacts(page, node, MOST_IMAGES), fact('CSS path', code(nodes.path(node))), ...ownerFacts(nodes, node)], fact('Link', pageLink(page, node)));
 }
 
 /** What a reason means, and what to do. */

@@ -1,7 +1,6 @@
 """Collects and audits the pages of a check, some beside each other; each finding is told as soon as its page is audited."""
 from __future__ import annotations
 
-import concurrent.futures
 import contextlib
 import dataclasses
 import os
@@ -10,15 +9,13 @@ import time
 from dataclasses import dataclass
 from typing import TYPE_CHECKING, Callable, ContextManager
 
+from silvervole.collect.browser import Browsers
 from silvervole.collect.ends import End, Stop, write_file
-from silvervole.collect.many import Browsers
-from silvervole.collect.pages import Collected, collect_page
 from silvervole.collect.places import ended
-from silvervole.collect.shots import Shot
 from silvervole.program import Audit
 from silvervole.settings.sign_in import Signed
 from silvervole.view.files import read
-from silvervole.view.findings import Findings, bring_together
+from silvervole.view.findings import Findings, TargetMaker, bring_together
 from silvervole.view.page import Page, read_page
 from silvervole.view.pictures import picture_of
 from silvervole.view.report import OUTCOMES, Report, read_report
@@ -28,7 +25,9 @@ from .options import Checking
 from .subjects import Subject
 
 if TYPE_CHECKING:
-    # They load slowly, and are only there where a format is asked for.
+    # They load slowly, and are only there where a page is collected, or a format asked for.
+    from silvervole.collect.pages import Collected
+    from silvervole.collect.shots import Shot
     from silvervole.formats.listing import ListedPage
 
     from .formats import Formats
@@ -85,6 +84,9 @@ class Run:
         """The worst status of collecting and auditing the pages, all of which are told then."""
         if self.checking.out:
             make_folder(self.checking.out)
+        if len(self.checking.subjects) == 1:
+            return self.one(self.checking.subjects[0])
+        import concurrent.futures  # only here, since it loads slowly
         with concurrent.futures.ThreadPoolExecutor(self.checking.jobs) as pool:
             work = [pool.submit(self.one, subject) for subject in self.checking.subjects]
             try:
@@ -119,6 +121,7 @@ class Run:
 
     def collect(self, subject: Subject) -> None:
         """Collects a page and audits what is taken of it; what the sign-in printed goes to its server, and to no file."""
+        from silvervole.collect.pages import collect_page
         options = dataclasses.replace(self.checking.options, url=subject.address, states=subject.states)
         if subject.server:
             options = dataclasses.replace(options, cookies=(*self.signed.cookies, *options.cookies), headers=(*self.signed.headers, *options.headers))
@@ -152,7 +155,8 @@ class Run:
         """All that is told of a page, whose snapshot stands in the file."""
         if self.formats is None:
             told = OUTCOMES if self.checking.passed else OUTCOMES[:-1]
-            return Checked(subject, taken.ending, bring_together(report, page, self.table, None, told=told))
+            makers = TargetMaker(page, None, headings=False)
+            return Checked(subject, taken.ending, bring_together(report, page, self.table, None, makers, told))
         picture = picture_of(taken.shot.picture, taken.shot.boxes, taken.data, subject.page) if taken.shot is not None else None
         listed = self.formats.listed(subject, page, report, time.monotonic() - taken.began, file, picture)
         return Checked(subject, taken.ending, self.formats.view(listed), listed)

@@ -1,6 +1,7 @@
 """Writes lines on standard output, with colours on a terminal, and progress on standard error."""
 from __future__ import annotations
 
+import itertools
 import os
 import sys
 from typing import Any, Iterable
@@ -12,6 +13,8 @@ from .telling import Kind, Line, plain
 # How rich draws each kind of line.
 STYLES = {Kind.PAGE: "bold", Kind.FAILED: "bold red", Kind.TO_JUDGE: "bold yellow", Kind.PASSED: "bold green", Kind.ACCEPTED: "bold magenta",
           Kind.RULE: "bold", Kind.PLACE: "cyan", Kind.PLAIN: ""}
+# So many lines are written at a time: to draw them takes its time, and the first are to be read meanwhile.
+LINES_AT_ONCE = 40
 
 
 def is_terminal(stream: Any) -> bool:
@@ -70,9 +73,11 @@ class Screen:
         return there
 
     def write(self, lines: Iterable[Line]) -> None:
-        """Writes lines on standard output at once, the progress aside."""
+        """Writes lines on standard output, each as soon as may be, the progress aside."""
         there = self.pause()
-        write_out((self.drawn(lines) if self.console is not None else "".join(f"{plain(line)}\n" for line in lines)).encode("utf-8", "replace"))
+        left = iter(lines)
+        while part := list(itertools.islice(left, LINES_AT_ONCE)):
+            write_out((self.drawn(part) if self.console is not None else "".join(f"{plain(line)}\n" for line in part)).encode("utf-8", "replace"))
         if there and self.ended < self.pages:
             self.live.start()  # type: ignore[union-attr]
 

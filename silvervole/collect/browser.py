@@ -1,13 +1,15 @@
-"""Chromium and its driver: where they are, and how they are started."""
+"""Chromium and its driver: where they are, how they are started, and those that are at work."""
 from __future__ import annotations
 
+import contextlib
 import os
 import pathlib
 import shutil
 import signal
-from typing import Any, NamedTuple, Sequence
+import threading
+from typing import Any, Iterator, NamedTuple, Sequence
 
-from .ends import End, Stop, first_line
+from .ends import End, Stop, first_line, quiet_libraries
 
 CHROMIUM_NAMES = ("chromium", "chromium-browser", "google-chrome", "google-chrome-stable")
 DRIVER_NAMES = ("chromedriver",)
@@ -34,7 +36,8 @@ class Tools(NamedTuple):
 
 
 def find_tools() -> Tools:
-    """The selenium package and the paths of Chromium and its driver."""
+    """The selenium package, which writes no lines of its own, and the paths of Chromium and its driver."""
+    quiet_libraries()
     try:
         from selenium import webdriver
     except ImportError:
@@ -104,3 +107,32 @@ def kill_browser(browser: Any) -> None:
         os.kill(browser.capabilities["goog:processID"], signal.SIGKILL)
     except (KeyError, OSError):
         pass  # it has ended, or is of an age that doesn't tell; then it is asked
+
+
+class Browsers:
+    """The browsers at work, so that an interruption can close them."""
+
+    def __init__(self) -> None:
+        self.lock = threading.Lock()
+        self.open: list[Any] = []
+        self.stopped = False
+
+    @contextlib.contextmanager
+    def holding(self, browser: Any) -> Iterator[None]:
+        """Takes note of a browser for as long as it is at work."""
+        with self.lock:
+            if self.stopped:
+                raise Stop(End.INTERRUPTED, "interrupted")
+            self.open.append(browser)
+        try:
+            yield
+        finally:
+            with self.lock:
+                self.open.remove(browser)
+
+    def close(self) -> None:
+        """Closes all, and lets no page begin any more."""
+        with self.lock:
+            self.stopped = True
+            for browser in self.open:
+                kill_browser(browser)

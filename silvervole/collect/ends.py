@@ -2,7 +2,7 @@
 from __future__ import annotations
 
 import enum
-import logging
+import gc
 import os
 import signal
 import sys
@@ -10,6 +10,9 @@ import threading
 import traceback
 import warnings
 from typing import Callable
+
+# A page is many small objects that live as long as it does: to look for garbage after each 700 of them takes longer than to make them.
+GARBAGE_AFTER = 100_000
 
 
 class End(enum.IntEnum):
@@ -60,7 +63,8 @@ def one_line(text: str) -> str:
 
     What a page names, and an address too, may hold characters that steer a terminal.
     """
-    return "".join(c if c.isprintable() else f"\\u{ord(c):04x}" for c in " ".join(text.split()))
+    line = " ".join(text.split())
+    return line if line.isprintable() else "".join(c if c.isprintable() else f"\\u{ord(c):04x}" for c in line)
 
 
 def first_line(error: Exception) -> str:
@@ -122,6 +126,7 @@ def remove(path: str | os.PathLike[str]) -> None:
 
 def quiet_libraries() -> None:
     """Keeps the libraries from writing lines of their own, such as of a driver that dies."""
+    import logging  # only here, since it loads slowly
     logging.disable(logging.CRITICAL)
     warnings.simplefilter("ignore")
 
@@ -138,7 +143,7 @@ def stop_on_signals() -> None:
 def run_command(program: str, work: Callable[[], int]) -> int:
     """The status of a command's work; a Stop and an interruption are a line on standard error."""
     try:
-        quiet_libraries()
+        gc.set_threshold(GARBAGE_AFTER)
         stop_on_signals()
         need_output()
         return work()

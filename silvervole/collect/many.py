@@ -2,16 +2,14 @@
 from __future__ import annotations
 
 import concurrent.futures
-import contextlib
 import dataclasses
 import glob
 import os
 import pathlib
 import sys
-import threading
-from typing import Any, Iterator, NamedTuple
+from typing import NamedTuple
 
-from .browser import kill_browser
+from .browser import Browsers
 from .ends import End, Stop, one_line, remove, say, write_file, write_out
 from .options import Command, Options
 from .pages import Collected, collect_page
@@ -68,35 +66,6 @@ def listed(line: str, place: int) -> Listed:
         raise Stop(End.USAGE, f"line {place} of the list has more than a page and an address")
     url = check_written(words[1]) if len(words) == 2 else None
     return Listed(words[0], url, name_of(url or words[0]))
-
-
-class Browsers:
-    """The browsers at work, so that an interruption can close them."""
-
-    def __init__(self) -> None:
-        self.lock = threading.Lock()
-        self.open: list[Any] = []
-        self.stopped = False
-
-    @contextlib.contextmanager
-    def holding(self, browser: Any) -> Iterator[None]:
-        """Takes note of a browser for as long as it is at work."""
-        with self.lock:
-            if self.stopped:
-                raise Stop(End.INTERRUPTED, "interrupted")
-            self.open.append(browser)
-        try:
-            yield
-        finally:
-            with self.lock:
-                self.open.remove(browser)
-
-    def close(self) -> None:
-        """Closes all, and lets no page begin any more."""
-        with self.lock:
-            self.stopped = True
-            for browser in self.open:
-                kill_browser(browser)
 
 
 def collect_listed(page: Listed, command: Command, browsers: Browsers) -> End:

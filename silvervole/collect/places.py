@@ -1,7 +1,6 @@
 """Addresses: what is to be opened, and the name of a page's file."""
 from __future__ import annotations
 
-import hashlib
 import os
 import pathlib
 import re
@@ -83,4 +82,5 @@ def bounded(name: str, address: str) -> str:
     """The name, or where it is too long its front and a digest of the address."""
     if len(name) <= LONGEST_NAME:
         return name
+    import hashlib  # only here, since it loads slowly
     return f"{name[:LONGEST_NAME - 17]}-{hashlib.sha256(address.encode('utf-8', 'replace')).hexdigest()[:16]}"

@@ -149,7 +149,7 @@ function silvervoleSnapshot(address, options) {
   // The attributes that rules look at, besides all whose name begins with "aria-".
   const LOOKED_AT = new Set(['alt', 'autocomplete', 'colspan', 'content', 'disabled', 'for', 'headers', 'href',
     'http-equiv', 'id', 'label', 'lang', 'list', 'multiple', 'name', 'placeholder', 'role', 'rowspan', 'scope',
-    'selected', 'size', 'title', 'type', 'value']);
+    'selected', 'size', 'title', 'type', 'value', 'xml:lang']);
   const isLookedAt = (folded) => folded.startsWith('aria-') || LOOKED_AT.has(folded);
   // Elements whose text is for programs. No rule looks at it where it isn't
   // rendered, unless it stands in what names another element.

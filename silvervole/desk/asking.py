@@ -11,7 +11,7 @@ import urllib.parse
 from dataclasses import dataclass
 from typing import Any
 
-from silvervole.collect.ends import End, Stop, first_line
+from silvervole.collect.ends import End, Stop, first_line, quiet_libraries
 
 from .refusals import Refused, members_of
 
@@ -63,6 +63,7 @@ class Desk:
     """A desk that is asked over HTTP."""
 
     def __init__(self, access: Access) -> None:
+        quiet_libraries()
         import urllib3
 
         self.access = access

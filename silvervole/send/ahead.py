@@ -6,7 +6,7 @@ import dataclasses
 from collections import deque
 from typing import Iterator, Protocol, Sequence, TypeVar
 
-from silvervole.collect.many import Browsers
+from silvervole.collect.browser import Browsers
 from silvervole.collect.options import Options
 
 from .version import Version, version_of

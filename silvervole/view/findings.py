@@ -22,6 +22,18 @@ PLAIN = re.compile(r"https?://[a-z][a-z0-9.-]*/[A-Za-z0-9/?&=%_~+,;:@#!$*()-]*")
 NOTHING = Quote("", "")
 
 
+# Of many elements that own one the first few are shown.
+MOST_OWNERS = 3
+
+
+@dataclass(frozen=True)
+class Owner:
+    """An element that owns another one by aria-owns."""
+
+    number: int
+    tag: str
+
+
 @dataclass(frozen=True)
 class Target:
     """What is said of one node."""
@@ -37,6 +49,9 @@ class Target:
     crop: Crop | None
     # What the rule rests on there; None where the report doesn't say.
     evidence: Quote | None = None
+    # The first elements that own it, and how many more do.
+    owners: tuple[Owner, ...] = ()
+    more_owners: int = 0
 
 
 @dataclass(frozen=True)
@@ -138,11 +153,12 @@ def check_page(report: Report, page: Page) -> None:
 
 
 class TargetMaker:
-    """Says of a node what people need to find it, once for each node."""
+    """Says of a node what people need to find it, once for each node; the heading before it only where that is wanted."""
 
-    def __init__(self, page: Page, picture: Picture | None) -> None:
+    def __init__(self, page: Page, picture: Picture | None, headings: bool = True) -> None:
         self.page = page
         self.picture = picture
+        self.headings = headings
         self.made: dict[int, Target] = {}
 
     def found(self, finding: Finding) -> Target:
@@ -162,12 +178,15 @@ class TargetMaker:
         node = self.page.nodes[number]
         element = node.element
         is_root = element is self.page.root
-        heading = self.page.headings_above.get(number)
+        heading = self.page.headings_above.get(number) if self.headings else None
+        owners = self.page.owners.get(number, ())
         return Target(
             number, element.tag if node.is_element else f"text in {element.tag}", is_root, css_path(self.page, node),
             start_tag(element), NOTHING if is_root else self.page.quote(node),
             self.page.quote(heading) if heading else NOTHING, heading.tag if heading else "",
-            self.picture.crop(element) if self.picture else None)
+            self.picture.crop(element) if self.picture else None,
+            owners=tuple(Owner(owner, start_tag(self.page.nodes[owner])) for owner in owners[:MOST_OWNERS]),
+            more_owners=max(0, len(owners) - MOST_OWNERS))
 
 
 def parts_of(findings: tuple[Finding, ...], outcome: str, table: RuleTable, makers: TargetMaker) -> tuple[RulePart, ...]:

@@ -6,12 +6,13 @@ import re
 from collections import Counter
 from dataclasses import dataclass, field
 from functools import cached_property
-from typing import Any, Iterator, NamedTuple
+from typing import Any, Iterator, Mapping, NamedTuple
 
 from silvervole import check_form
 from silvervole.collect.ends import End, Stop
 
 from .languages import known_language
+from .owning import owners_of
 
 HEADING = re.compile(r"h[1-6]")
 # What the collector adds to ids in shadow trees, the attributes in which, and the ids that it makes.
@@ -57,7 +58,8 @@ class Node:
 
     def attribute(self, name: str) -> str:
         """The value of an attribute; the empty text where there is none."""
-        names = [*map(check_form.folded, self.parts[::2])]
+        # Most nodes have none.
+        names = [*map(check_form.folded, self.parts[::2])] if self.parts else ()
         return self.parts[2 * names.index(name) + 1] if name in names else ""
 
     @cached_property
@@ -122,13 +124,17 @@ class Quote(NamedTuple):
 
 @dataclass(frozen=True)
 class Page:
-    """An address and nodes by their numbers, in document order; the revision where the desk sent the page, and whether it stands in a frame."""
+    """An address and nodes by their numbers, in document order; the revision where the desk sent the page, and whether it stands in a frame.
+
+    `owners` has for each element that others own by aria-owns their numbers.
+    """
 
     address: str
     nodes: dict[int, Node]
     state: str = ""
     revision: int | None = None
     in_frame: bool = False
+    owners: Mapping[int, tuple[int, ...]] = field(default_factory=dict)
 
     @cached_property
     def root(self) -> Node:
@@ -150,6 +156,11 @@ class Page:
             if is_heading(node) and text_of(node):
                 last = node
         return found
+
+    @cached_property
+    def steps(self) -> dict[int, str]:
+        """The selectors of elements among the children of their parents, as far as they were asked for."""
+        return {}
 
     @cached_property
     def title(self) -> Quote:
@@ -182,6 +193,7 @@ def read_page(data: bytes, path: str) -> Page:
     except check_form.Fault as fault:
         raise Stop(End.INPUT, f"{path} is no snapshot: {fault}") from None
     state, in_frame = top.get("state"), check_form.is_number(top.get("frame"))
+    owners = owners_of(rows)
     # Each row is let go once its node is made, so that a page takes no more memory than it has to.
     del top
     rows.reverse()
@@ -194,7 +206,7 @@ def read_page(data: bytes, path: str) -> Page:
         nodes[node.number] = node
         if parent is not None:
             parent.kids.append(node)
-    return Page(address, nodes, state if isinstance(state, str) else "", revision, in_frame)
+    return Page(address, nodes, state if isinstance(state, str) else "", revision, in_frame, owners)
 
 
 def snapshot_in(top: dict[str, Any]) -> tuple[dict[str, Any], int | None]:
@@ -239,9 +251,10 @@ def shortened(text: str, most: int) -> str:
 
 def is_heading(node: Node) -> bool:
     """Whether a person who looks at the page sees a heading there."""
+    if not node.is_element or "v" not in node.letters:
+        return False
     role = node.attribute("role").strip().lower()
-    named = role == "heading" or (role == "" and node.space == "html" and HEADING.fullmatch(node.folded) is not None)
-    return node.is_element and named and "v" in node.letters
+    return role == "heading" or (role == "" and node.space == "html" and HEADING.fullmatch(node.folded) is not None)
 
 
 def text_of(node: Node) -> str:

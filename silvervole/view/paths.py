@@ -1,6 +1,7 @@
 """The CSS path of a node: a selector that finds its element and no other."""
 from __future__ import annotations
 
+import functools
 import re
 
 from silvervole import check_form
@@ -31,7 +32,9 @@ def path_in_tree(page: Page, node: Node) -> str:
         if identity and page.ids[at.tree, check_form.folded(identity)] == 1:
             steps.append(f"#{escaped(identity)}")
             break
-        steps.append(step(at))
+        if at.number not in page.steps:
+            page.steps[at.number] = step(at)
+        steps.append(page.steps[at.number])
         if at.above is None and at.tree:
             steps.append(":host")
         at = at.above
@@ -55,6 +58,7 @@ def step(node: Node) -> str:
     return f"*:nth-child({node.parent.places[node.number]})"
 
 
+@functools.lru_cache(maxsize=4096)
 def escaped(name: str) -> str:
     """The name as an identifier of CSS, by the rules of CSS.escape."""
     def spelt(found: re.Match[str]) -> str:

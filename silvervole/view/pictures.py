@@ -1,8 +1,6 @@
 """The part of a page's picture around a node."""
 from __future__ import annotations
 
-import base64
-import hashlib
 import json
 from dataclasses import dataclass
 from typing import Iterable
@@ -95,6 +93,8 @@ def read_picture(path: str, snapshot: bytes) -> Picture:
 
 def picture_of(image: bytes, boxes: bytes, snapshot: bytes, path: str) -> Picture:
     """The picture that these bytes are, of this snapshot, or a Stop; its boxes are JSON, as the collector writes it beside the picture."""
+    import base64
+    import hashlib  # only here, since it loads slowly
     try:
         told = json.loads(boxes)
         read = {int(number): read_box(box) for number, box in told["boxes"].items()}

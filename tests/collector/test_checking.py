@@ -113,4 +113,4 @@ def test_check_times() -> None:
     expect(f"what check adds to an audit, where all takes {allowed:.1f} times as long",
            len(added) == 2 and max(added) <= 0.3 * allowed, text + err)
     expect(f"when the first finding is there, where all takes {allowed:.1f} times as long",
-           len(after) == 2 and max(after) <= 1.0 * allowed, text + err)
+           len(after) == 4 and max(after) <= 1.0 * allowed, text + err)

@@ -52,10 +52,13 @@ def test_uncut(browser: Any) -> None:
             ("a paragraph's text", f"<p>{long}</p>", "the text of node 5, in node 4 (p), has 70,000 bytes"),
             ("a title attribute", f"<p title='{long}'>x", 'the attribute "title" of node 4 (p) has 70,000 bytes'),
             ("an aria- attribute", f"<p aria-made-up='{long}'>x", 'the attribute "aria-made-up" of node 4 (p)'),
+            ("a language as XML has it", f"<p xml:lang='{long}'>x", 'the attribute "xml:lang" of node 4 (p)'),
             ("a link's address", f"<a href='data:,{long}'>x</a>", 'the attribute "href" of node 4 (a)'),
             ("a field's value", f"<input value='{long}'>", 'the attribute "value" of node 4 (input)'),
             ("a script that is shown", f"<script style='display:block'>//{long}</script>", "in node 4 (script)"),
             ("a script in what names a link", f"<div id=a hidden><script>//{long}</script>Text</div><a href=#a aria-labelledby='b a'>x</a>",
+             "in node 5 (script)"),
+            ("a script in what a list owns", f"<div id=a hidden><script>//{long}</script>Text</div><div role=list aria-owns='b a'></div>",
              "in node 5 (script)"),
             ("a style in a label", f"<label hidden><style>/*{long}*/</style>Text<input></label>", "in node 5 (style)")):
         with page(body) as path:

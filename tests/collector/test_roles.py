@@ -4,6 +4,7 @@ from __future__ import annotations
 import http.client
 import json
 import pathlib
+import re
 import subprocess
 from typing import Any, Iterator
 
@@ -20,6 +21,9 @@ PAGES = ("components.html", "shadow.html", "menu.html", "dialog.html")
 NAMING = {"97a4e1", "c487ae", "23a2a8", "59796f", "e086e5", "cae760", "ffd0e9", "7d6734"}
 # The browser's words for roles that it calls otherwise than WAI-ARIA does.
 ROLES = {"image": "img", "ComboBoxSelect": "combobox", "ComboBoxMenuButton": "combobox"}
+# What the desk looks through where it judges what an element of a role owns, and the browser's nodes that are no elements.
+THROUGH = {"tree": {"group"}, "listbox": {"group"}, "menu": {"group"}, "table": {"rowgroup"}, "grid": {"rowgroup"}}
+WORDS = {"StaticText", "InlineTextBox", "ListMarker"}
 NODES = f"""(() => {{
   let nodes = [];
   ({SOURCE})({json.dumps(ADDRESS)}, {{ shadow: true, nodes: (list) => {{ nodes = list.map((row) => row.node); }} }});
@@ -32,7 +36,26 @@ DIFFERENCES = {
     ("shadow.html", "inert-frame"): ("- ", "nothing"),
     ("shadow.html", "area"): ("link x", "nothing"),
 }
-
+# How many names and how many elements that are asked what they own pages/owning.html has, and where these differ: of elements whose ids
+# differ by a last digit what each has, sorted.
+COMPARED = (23, 16)
+OWNING = {
+    "names": {
+        "holder": (["button Holds this too"], ["button Holds toothis"]),
+        "chain": (["button First"], ["button First second"]),
+        "owner": (["button Shared", "button Shared"], ["button ", "button Shared"]),
+        "lends": (["heading Lends this"], ["heading Lends"]),
+        "refers": (["button Referred"], ["button Referred and more"]),
+        "field": (["textbox Label"], ["textbox Label and more"]),
+    },
+    "owned": {
+        "lending": (["listitem listitem"], ["listitem"]),
+        "share": (["listitem", "listitem"], ["", "listitem"]),
+        "ring": (["list", "list"], ["", "list"]),
+        "box": (["listitem"], [""]),
+        "far": ([""], ["menuitem"]),
+    },
+}
 
 # A page of components, and one without shadow trees that is shown alike: the desk finds the same on both.
 ALIKE = {
@@ -74,11 +97,15 @@ class Desk:
         connection.close()
         return answer
 
-    def said(self, name: str, snapshot: str) -> dict[int, tuple[str, ...]]:
-        """The role and the name of each node of a page for which a rule gives them."""
+    def evidence(self, name: str, snapshot: str) -> list[tuple[str, int, str]]:
+        """The rule, the node and the evidence of each outcome on a page."""
         self.ask("PUT", f"/sites/roles/pages/{name}", snapshot, **{"x-rev": "0"})
         outcomes = self.ask("GET", f"/sites/roles/pages/{name}/outcomes")["outcomes"]
-        return {one["node"]: tuple(one["evidence"].split("\n", 1)) for one in outcomes if one["rule"] in NAMING}
+        return [(one["rule"], one["node"], one["evidence"]) for one in outcomes]
+
+    def said(self, name: str, snapshot: str) -> dict[int, tuple[str, ...]]:
+        """The role and the name of each node of a page for which a rule gives them."""
+        return {node: tuple(evidence.split("\n", 1)) for rule, node, evidence in self.evidence(name, snapshot) if rule in NAMING}
 
 
 @pytest.fixture
@@ -88,16 +115,48 @@ def desk() -> Iterator[Desk]:
         yield Desk(serving.port)
 
 
-def browser_says(browser: Any) -> dict[int, tuple[str, str]]:
-    """The role and the name that the browser gives each row of the page that it shows."""
+def rows_in(browser: Any) -> dict[int, int]:
+    """The number of the row of each node of the page that the browser shows, by the browser's own number."""
     browser.execute_cdp_cmd("DOM.getDocument", {"depth": 0})
     nodes = browser.execute_cdp_cmd("Runtime.evaluate", {"expression": NODES})["result"]["objectId"]
     listed = browser.execute_cdp_cmd("Runtime.getProperties", {"objectId": nodes, "ownProperties": True})["result"]
-    rows = {browser.execute_cdp_cmd("DOM.describeNode", {"objectId": one["value"]["objectId"]})["node"]["backendNodeId"]: int(one["name"]) + 1
+    return {browser.execute_cdp_cmd("DOM.describeNode", {"objectId": one["value"]["objectId"]})["node"]["backendNodeId"]: int(one["name"]) + 1
             for one in listed if one["name"].isdigit()}
-    tree = browser.execute_cdp_cmd("Accessibility.getFullAXTree", {})["nodes"]
-    return {rows[node["backendDOMNodeId"]]: (ROLES.get(node["role"]["value"], node["role"]["value"]), " ".join(node.get("name", {}).get("value", "").split()))
-            for node in tree if node.get("backendDOMNodeId") in rows and not node.get("ignored")}
+
+
+def nodes_in(browser: Any) -> list[dict[str, Any]]:
+    """The nodes of the browser's accessibility tree."""
+    return browser.execute_cdp_cmd("Accessibility.getFullAXTree", {})["nodes"]
+
+
+def role_in(node: dict[str, Any]) -> str:
+    """The role that the browser gives a node, in WAI-ARIA's words."""
+    role = node.get("role", {}).get("value", "")
+    return ROLES.get(role, role)
+
+
+def browser_says(browser: Any) -> dict[int, tuple[str, str]]:
+    """The role and the name that the browser gives each row of the page that it shows."""
+    rows = rows_in(browser)
+    return {rows[node["backendDOMNodeId"]]: (role_in(node), " ".join(node.get("name", {}).get("value", "").split()))
+            for node in nodes_in(browser) if node.get("backendDOMNodeId") in rows and not node.get("ignored")}
+
+
+def browser_owns(browser: Any) -> dict[int, str]:
+    """The roles of what each row owns in the browser's accessibility tree, through what the desk looks through."""
+    rows, nodes = rows_in(browser), {node["nodeId"]: node for node in nodes_in(browser)}
+
+    def owned(node: dict[str, Any], through: set[str]) -> list[str]:
+        found: list[str] = []
+        for kid in (nodes[one] for one in node.get("childIds", []) if one in nodes):
+            if kid.get("ignored") or role_in(kid) in {"generic", "none"} | through:
+                found += owned(kid, through)
+            elif role_in(kid) not in WORDS:
+                found.append(role_in(kid))
+        return found
+
+    return {rows[node["backendDOMNodeId"]]: " ".join(owned(node, THROUGH.get(role_in(node), set())))
+            for node in nodes.values() if node.get("backendDOMNodeId") in rows}
 
 
 def report_on(browser: Any, body: str) -> list[str]:
@@ -135,3 +194,28 @@ def test_roles_and_names(browser: Any, desk: Desk) -> None:
                 found[name, identity] = (" ".join(ours), " ".join(theirs.get(number, ("nothing",))))
     expect("roles and names were compared", compared > 40, compared)
     same("where the desk and the browser differ", found, DIFFERENCES)
+
+
+def differing(ours: dict[int, str], theirs: dict[int, str], rows: dict[int, dict[str, Any]]) -> dict[str, tuple[list[str], list[str]]]:
+    """Where the desk and the browser say other things of elements with ids, whose last digit is left aside."""
+    found: dict[str, tuple[list[str], list[str]]] = {}
+    for number, said in ours.items():
+        if identity := form.attr(rows[number], "id"):
+            desk_says, browser_says_so = found.setdefault(re.sub("-[0-9]$", "", identity), ([], []))
+            desk_says.append(said)
+            browser_says_so.append(theirs.get(number, "nothing"))
+    return {identity: (sorted(one), sorted(other)) for identity, (one, other) in found.items() if sorted(one) != sorted(other)}
+
+
+@pytest.mark.desk
+def test_owning(browser: Any, desk: Desk) -> None:
+    """Where elements own others by aria-owns, names and what is owned are the same, but for the differences that docs/use/collecting.md tells."""
+    open_file(browser, OWN_PAGES / "owning.html")
+    text = take(browser, ADDRESS, Wanted(shadow=True)).text
+    rows = {row["n"]: row for row in form.check(text.encode("utf-8"))}
+    evidence = desk.evidence("owning", text)
+    names = {node: said.replace("\n", " ") for rule, node, said in evidence if rule in NAMING}
+    owned = {node: said for rule, node, said in evidence if rule == "bc4a75"}
+    same("how many were compared", (len(names), len(owned)), COMPARED)
+    same("the names that differ", differing(names, {node: " ".join(said) for node, said in browser_says(browser).items()}, rows), OWNING["names"])
+    same("the owned elements that differ", differing(owned, browser_owns(browser), rows), OWNING["owned"])

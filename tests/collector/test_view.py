@@ -17,7 +17,7 @@ import pytest
 from silvervole.collect.taking import Wanted, take
 
 from ..axe import violations
-from ..support import DESK, DOCS, PAGES, ROOT, SITE, VIEW, collect_here, expect, note, open_file, page, run, same, well_formed
+from ..support import DESK, DOCS, PAGES, ROOT, SITE, VIEW, collect_here, expect, form, note, open_file, page, run, same, well_formed
 
 # Each kind of line that a report may have, on the search page.
 REPORT = """page https://library.example/search
@@ -245,6 +245,33 @@ def test_view_state(browser: Any, folder: str) -> None:
         snapshot.write_text(strange, encoding="utf-8")
         code, _, err = run(snapshot, "-", program=VIEW)
         expect("what else stands in these members is passed over", code == 19 and "report" in err, err)
+
+
+# Four elements own the item by its id, and the one in it doesn't; of two elements with one id the first is owned.
+OWNED = """<ul><li id=item>One<b id=in aria-owns=item></b></ul><div id=all aria-owns="item item gone all in"></div>
+<p id=one aria-owns=item></p><p id=two aria-owns="twice item"></p><p id=three aria-owns=" item"></p><p id=twice></p><p id=twice title=x></p>"""
+OWNERS = """
+return Object.fromEntries([...document.querySelectorAll('.target')].map((target) => [target.querySelector('code').innerText,
+  [...target.querySelectorAll('dl > div')].filter((one) => one.firstElementChild.innerText === 'Owned by').map((one) => one.lastElementChild.innerText)]));
+"""
+
+
+def test_view_owned(browser: Any, folder: str) -> None:
+    """The view says of a node which others own it by aria-owns; of many it names three."""
+    with page(OWNED) as path:
+        text = collect_here(browser, path, "--url", "https://view.example/").text
+    rows = [row for row in json.loads(text)["nodes"] if "tag" in row]
+    numbers = {form.attr(row, "id"): row["n"] for row in rows}
+    snapshot = pathlib.Path(folder, "page.json")
+    snapshot.write_text(text, encoding="utf-8")
+    told = "".join(f"5f99a7 node {row['n']} failed unknown-attr\n" for row in rows)
+    with opened(browser, snapshot, f"page https://view.example/\n{told}passed 0 failed {len(rows)} cantTell 0 inapplicable 0\n"):
+        owners = browser.execute_script(OWNERS)
+    owner = {identity: f"{tag} node {numbers[identity]}" for identity, tag in (
+        ("all", '<div id="all" aria-owns="item item gone all in">'), ("one", '<p id="one" aria-owns="item">'), ("two", '<p id="two" aria-owns="twice item">'))}
+    same("who owns what", {tag: owned for tag, owned in owners.items() if owned}, {
+        '<li id="item">': [*owner.values(), "1 more"], '<b id="in" aria-owns="item">': [owner["all"]], '<p id="twice">': [owner["two"]]})
+    same("each element is told of", len(owners), len(rows))
 
 
 HOSTILE = """<title>&lt;/title&gt;&lt;script&gt;hacked = 1&lt;/script&gt; {{ 7 * 7 }} {% raw %}</title>

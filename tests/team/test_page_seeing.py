@@ -24,7 +24,7 @@ SHOP = [
     row(6, 5, "h1"), row(7, 6, " Shop"), row(8, 5, "p"), row(9, 8, " Open "), row(10, 8, "b"), row(11, 10, " all"), row(12, 8, "  day."),
     row(13, 5, "h2", id="new"), row(14, 13, " New"), row(15, 5, "p"), row(16, 15, " Lamp of brass"),
     row(17, 5, "a", href="/lamp"), row(18, 17, "img", src="lamp.jpg", alt="Lamp"),
-    row(19, 5, "div"), row(20, 19, "h2"), row(21, 20, "img", src="new.png", alt="New things"),
+    row(19, 5, "div", aria_owns="new gone"), row(20, 19, "h2"), row(21, 20, "img", src="new.png", alt="New things"),
     row(22, 5, "img", src="javascript:alert(1)", alt="")]
 FACTS = """
 return Object.fromEntries([...document.querySelectorAll('.facts dl > div')].map((one) => [one.firstElementChild.innerText,
@@ -68,7 +68,7 @@ def sees_its_place(reader: Reader) -> None:
     """The heading above, what stands around, the path, images with alternative text and address, and a link to the page."""
     same("a heading", look_at(reader, 13), {
         "Heading above": "Shop h1", "In its place": "Shop\nOpen all day.\nNew\nLamp of brass\nLamp\nNew things", "Evidence": "heading\nNew",
-        "Start tag": '<h2 id="new">', "CSS path": "#new", "Link": "The page, near this place (#new) <https://shop.example/#new>"})
+        "Start tag": '<h2 id="new">', "CSS path": "#new", "Owned by": '<div aria-owns="new gone"> node 19', "Link": "The page, near this place (#new) <https://shop.example/#new>"})
     same("it is marked among them", reader.text("mark"), "New")
     same("a heading of an image", look_at(reader, 20), {
         "Heading above": "New h2", "In its place": "Shop\nOpen all day.\nNew\nLamp of brass\nLamp\nNew things", "Evidence": "heading\nNew things", "Start tag": "<h2>",

@@ -2,6 +2,7 @@
 from __future__ import annotations
 
 import copy
+import functools
 import json
 import random
 from collections import Counter
@@ -145,8 +146,9 @@ class Client:
 
     def judge(self) -> None:
         """Judges an outcome that the rule leaves open, as another one than who sent the page."""
-        name = self.page()
-        reply = self.way.ask(f"GET {self.site.path(name, '/outcomes')}") if name else None
+        if (name := self.page()) is None:
+            return
+        reply = self.way.ask(f"GET {self.site.path(name, '/outcomes')}")
         if reply is None or reply[0] != 200:
             return
         rows = [row for row in json.loads(reply[1])["outcomes"] if row["automatic"] == "cantTell" and row["rule"] != COMPOSITE]
@@ -164,7 +166,7 @@ class Client:
         """A page as it is known."""
         if (name := self.page()) is not None:
             self.counts["look at a page"] += 1
-            self.check(lambda: page_differs(self.way, self.site, name))
+            self.check(functools.partial(page_differs, self.way, self.site, name))
 
     def look_around(self) -> None:
         """The whole site, and its reports, in which nothing of another stands."""

@@ -78,8 +78,10 @@ def page_differs(way: Direct | Proxied, site: Site, name: str) -> str:
     """How a page differs from what is known of it: its revision, its snapshot and its outcomes; nothing where it doesn't."""
     page = site.pages[name]
     said, told = (answer(way, f"GET {site.path(name, end)}") for end in ("", "/outcomes"))
-    if isinstance(said, str) or isinstance(told, str):
-        return f"{name}: {said if isinstance(said, str) else told}"
+    if isinstance(said, str):
+        return f"{name}: {said}"
+    if isinstance(told, str):
+        return f"{name}: {told}"
     if json.loads(said) != {"rev": page.rev, "snapshot": page.snapshot}:
         return f"{name}: not revision {page.rev} as it was sent: {said[:200]!r}"
     rows = json.loads(told)
@@ -109,8 +111,10 @@ def site_differs(way: Direct | Proxied, site: Site) -> str:
 def shows_others(way: Direct | Proxied, site: Site) -> str:
     """Whether a report of a site shows anything that isn't its own."""
     told, linked = (answer(way, f"GET {site.path(end=end)}") for end in ("/csv", "/earl"))
-    if isinstance(told, str) or isinstance(linked, str):
-        return f"{site.name}: {told if isinstance(told, str) else linked}"
+    if isinstance(told, str):
+        return f"{site.name}: {told}"
+    if isinstance(linked, str):
+        return f"{site.name}: {linked}"
     rows = list(csv.DictReader(io.StringIO(told.decode())))
     subjects = {one["earl:subject"]["@id"] for one in json.loads(linked)["@graph"]}
     strange = [row for row in rows if row["site"] != site.name or row["page"] not in site.pages]

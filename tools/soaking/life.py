@@ -65,4 +65,9 @@ class Life:
         """The most memory in kilobytes and the most descriptors, in the first and in the second half of the soak."""
         half = max(1, len(self.samples) // 2)
         first, second = self.samples[:half], self.samples[half:] or self.samples[:half]
-        return tuple((max(memory for memory, _ in part), max(files for _, files in part)) for part in (first, second))
+        return most_of(first), most_of(second)
+
+
+def most_of(samples: list[tuple[int, int]]) -> tuple[int, int]:
+    """The most memory and the most descriptors in some samples."""
+    return max(memory for memory, _ in samples), max(files for _, files in samples)

@@ -53,8 +53,12 @@ def snapshot(chance: random.Random, site: str, size: int | None = None) -> Row:
 
 def below(rows: list[Row], number: int) -> list[Row]:
     """A row and all rows below it, in document order."""
-    found = {number}
-    return [row for row in rows if row["n"] == number or row["p"] in found and not found.add(row["n"])]
+    numbers, found = {number}, []
+    for row in rows:
+        if row["n"] == number or row["p"] in numbers:
+            numbers.add(row["n"])
+            found.append(row)
+    return found
 
 
 def place_in(rows: list[Row], parent: int, place: int) -> int:

@@ -7,9 +7,9 @@ import ssl
 import time
 
 from serving import Serving, reply_in, request, told
-from team.asking import ask as ask_proxy
-from team.asking import basic, raw
-from team.proxies import Proxy
+from tests.team.asking import ask as ask_proxy
+from tests.team.asking import basic, raw
+from tests.team.proxies import Proxy
 
 AWAY = (503, b'{"refused":"DeskAway"}')
 LOST = (OSError, ssl.SSLError, http.client.HTTPException)

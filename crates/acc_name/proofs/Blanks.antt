@@ -15,7 +15,7 @@ use Rattle.acc_name.specs.Names.{stands_apart, placed}
 pub blank_nothing : blank [] ≡ true
 blank_nothing = ap (list_all is_whitespace) chars-nil
 
-blank_both : (a b : List ℕ) → IsUtf8 a → blank (a ++ b) ≡ (blank a && blank b)
+pub blank_both : (a b : List ℕ) → IsUtf8 a → blank (a ++ b) ≡ (blank a && blank b)
 blank_both a b is = ap (list_all is_whitespace) (chars-append a b is) ∙ list_all-append is_whitespace (chars a) (chars b)
 
 space_is_ascii : IsAscii (32 ∷ [])

@@ -1,6 +1,6 @@
 -- Each clause of names in the standard's own shape.
 use Rattle.std.proofs.Common.{◌≡◌, ℕ, List, [], ◌∷◌, ◌++◌, map, filter, Bool, true, false, Option, Some, None, option_map, unwrap_or, refl, sym, ◌∙◌, ap}
-use Rattle.std.proofs.lemmas.List.{map-append}
+use Rattle.std.proofs.lemmas.List.{append-nil, map-append}
 use Rattle.std.proofs.lemmas.Str.{chars-nil}
 use Rattle.std.specs.List.{find, flat_map, list_all}
 use Rattle.std.specs.Char.{is_whitespace}
@@ -23,7 +23,7 @@ use Rattle.acc_name.specs.declared.named.How.{How}
 use Rattle.acc_name.specs.declared.named.How.TheVariants as how
 use Rattle.acc_name.specs.Hosts.{caption_of, is_captioning}
 use Rattle.acc_name.specs.Names.{Asked, Heard, untold, first_said, joined, placed, is_chosen, heard, value_of, by_body, by_clauses, is_select, is_input}
-use Rattle.acc_name.specs.NameLaws.{roots_seen, nodes_seen, within, chosen_texts, clauses, is_words, FirstDecides, FollowsOnce, TextSaysItself, ChildrenInOrder, ValuesWithin}
+use Rattle.acc_name.specs.NameLaws.{roots_seen, nodes_seen, within, chosen_texts, children_texts, clauses, is_words, FirstDecides, FollowsOnce, TextSaysItself, ChildrenInOrder, ValuesWithin}
 use Rattle.acc_name.proofs.Hearing.{joined-assoc, all_joined, spaced_joined}
 
 -- ---- what trees say is what each of their nodes says
@@ -118,7 +118,8 @@ blank-nil = ap (list_all is_whitespace) chars-nil
 
 pub follows_once : (node : NodeId) (hidden : Bool) (h : How) (s : Sight) → FollowsOnce node hidden h s
 follows_once node hidden h s element speaks =
-    first_decides (record { node = node; hidden = hidden; told = untold }) h s element speaks ∙ rw blank-nil refl
+    let asked : Asked = record { node = node; hidden = hidden; told = untold } in
+    first_decides asked h s element speaks ∙ rw (blank-nil, append-nil (children_texts asked s)) refl
 
 pub text_says_itself : (asked : Asked) (h : How) (s : Sight) → TextSaysItself asked h s
 text_says_itself asked h s text is speaks = rw (speaks, is) refl

@@ -55,17 +55,17 @@ said_caption host.Group row text later others e none = let no = none refl in cc
 said_caption (host.Captioned kind) row text later others e none = rw e refl
 said_caption host.Nothing row text later others e none = let no = none refl in cc
 
-kind_kept : (how : How) (role : Option Role) (row : Row) (content : List ℕ) (chosen captioned : Option (List ℕ)) → (caption_in (host_of row) ≡ None → captioned ≡ None)
-    → first_said (from_kind how role row (shown (kept_of captioned content) chosen (caption_kept (weighed captioned) (kept_of captioned content))))
-    ≡ first_said (from_kind how role row (shown content chosen captioned))
-kind_kept how role row content chosen None none = refl
-kind_kept how role row content chosen (Some text) none = by_test (blank text) refl
+kind_kept : (how : How) (role : Option Role) (row : Row) (owned content : List ℕ) (chosen captioned : Option (List ℕ)) → (caption_in (host_of row) ≡ None → captioned ≡ None)
+    → first_said (from_kind how role row owned (shown (kept_of captioned content) chosen (caption_kept (weighed captioned) (kept_of captioned content))))
+    ≡ first_said (from_kind how role row owned (shown content chosen captioned))
+kind_kept how role row owned content chosen None none = refl
+kind_kept how role row owned content chosen (Some text) none = by_test (blank text) refl
   where
     by_test : (b : Bool) → blank text ≡ b
-        → first_said (from_kind how role row (shown (if b then content else text) chosen (caption_kept (if b then caption.Blank else caption.Said) (if b then content else text))))
-        ≡ first_said (from_kind how role row (shown content chosen (Some text)))
-    by_test true e = blank_caption (host_of row) row text (from_content how role row content) e
-    by_test false e = said_caption (host_of row) row text (from_content how role row text) (from_content how role row content) e none
+        → first_said (from_kind how role row owned (shown (if b then content else text) chosen (caption_kept (if b then caption.Blank else caption.Said) (if b then content else text))))
+        ≡ first_said (from_kind how role row owned (shown content chosen (Some text)))
+    by_test true e = blank_caption (host_of row) row text (from_content how role row (content ++ owned)) e
+    by_test false e = said_caption (host_of row) row text (from_content how role row (text ++ owned)) (from_content how role row (content ++ owned)) e none
 
 -- an element says the same of what is kept of those below it
 pub clauses_kept : (told : Told) (how : How) (role : Option Role) (row : Row) (content : List ℕ) (chosen captioned : Option (List ℕ)) → (caption_in (host_of row) ≡ None → captioned ≡ None)
@@ -78,8 +78,8 @@ clauses_kept told how role row content chosen captioned none =
     ∷ says source.AriaLabel (text_at (attribute.Aria aria.Label) row)
     ∷ says source.HostLabel told.labels
     ∷ [] in
-    first_alike names (from_kind how role row (shown (kept_of captioned content) chosen (caption_kept (weighed captioned) (kept_of captioned content))))
-    (from_kind how role row (shown content chosen captioned)) (kind_kept how role row content chosen captioned none)
+    first_alike names (from_kind how role row told.owned (shown (kept_of captioned content) chosen (caption_kept (weighed captioned) (kept_of captioned content))))
+    (from_kind how role row told.owned (shown content chosen captioned)) (kind_kept how role row told.owned content chosen captioned none)
 
 -- a caption that stands in the place of the content decides
 pub captioned_decides : (h : Host) (c : Caption) (row : Row) (text : List ℕ) (later : List Name)

@@ -13,6 +13,7 @@ use Rattle.snap_tree.specs.Trees.{Trees, empty, tree}
 use Rattle.texts.specs.Words.{spaced, tidy}
 use Rattle.acc_tree.specs.declared.above.Above.{Above}
 use Rattle.acc_tree.specs.declared.attributes.Attribute.TheVariants as attribute
+use Rattle.acc_tree.specs.Following.{followed}
 use Rattle.acc_tree.specs.Frames.{under}
 use Rattle.acc_tree.specs.Inclusion.{exposed}
 use Rattle.acc_tree.specs.References.{found, named_by}
@@ -77,7 +78,7 @@ clauses asked how s =
     ∷ says source.AriaLabel (text_at (attribute.Aria aria.Label) s.row)
     ∷ says source.HostLabel (asked.told s).labels
     ∷ says source.HostText (host_text (host_of s.row) s.row (caption_text asked s))
-    ∷ says source.Content (content_of how (role_at s.above s.row) (children_texts asked s))
+    ∷ says source.Content (content_of how (role_at s.above s.row) (children_texts asked s ++ (asked.told s).owned))
     ∷ says source.Title (text_at attribute.Title s.row)
     ∷ says source.Placeholder (placeholder_of s.row)
     ∷ []
@@ -111,10 +112,17 @@ abbrev pub referred_text : NodeId → Sight → List ℕ
 referred_text node s =
     tidy (spoken (record { node = node; hidden = not (exposed s.above s.row); told = untold }) how.Referred s).text
 
--- steps 2B and 2E: each element that is found says its text, in order, with a space between
-pub record ReferencesTell (trees : Trees) (node : NodeId) (s : Sight) : Type 0 where
-  pub labelled_by : (told_by trees node s).labelled_by ≡ spaced (map (referred trees node) (found trees (named_by aria.Labelledby s.row)))
-  pub labels : (told_by trees node s).labels ≡ spaced (map (referred trees node) (labels_for trees s.row.id))
+-- what an element says that another follows by aria-owns: as a child within the name, with no reference followed from
+-- there on
+abbrev pub owned_text : NodeId → Bool → Sight → List ℕ
+owned_text node hidden s = placed s.row (within (record { node = node; hidden = hidden; told = untold }) s)
+
+-- steps 2B and 2E: each element that is found says its text, in order, with a space between; step 2H: each that is
+-- followed by aria-owns says its text, in order, with nothing between
+pub record ReferencesTell (trees : Trees) (node : NodeId) (hidden : Bool) (s : Sight) : Type 0 where
+  pub labelled_by : (told_by trees node hidden s).labelled_by ≡ spaced (map (referred trees node) (found trees (named_by aria.Labelledby s.row)))
+  pub labels : (told_by trees node hidden s).labels ≡ spaced (map (referred trees node) (labels_for trees s.row.id))
+  pub owned : (told_by trees node hidden s).owned ≡ flat_map (owned_text node hidden) (followed trees s.row)
 
 abbrev pub ReferredSays : Trees → NodeId → NodeId → Type 0
 ReferredSays trees node m = (s : Sight) → sight_of trees m ≡ Some s → referred trees node m ≡ referred_text node s
@@ -165,7 +173,7 @@ ChildrenInOrder asked s = (heard asked (under s.above s.row) (caption_of s.row) 
 abbrev pub NameIsOwn : Trees → NodeId → Type 0
 NameIsOwn trees n =
     (s : Sight) → sight_of trees n ≡ Some s →
-    let own : Name = spoken (record { node = n; hidden = false; told = told_by trees n }) how.Own s in
+    let own : Name = spoken (record { node = n; hidden = false; told = told_by trees n false }) how.Own s in
     name_of trees n ≡ named own.source (tidy own.text)
 
 abbrev pub StrangerHasNone : Trees → NodeId → Type 0

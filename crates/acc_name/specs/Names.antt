@@ -2,6 +2,7 @@
 -- "Computation steps"). The first clause that gives a text which isn't blank decides. The clauses of an
 -- element stand in by_clauses, in their order.
 use Rattle.std.specs.Prelude.{◌&&◌, ◌||◌, not, ℕ, List, [], ◌∷◌, ◌++◌, map, Bool, true, false, if◌then◌else◌, Option, Some, None, unwrap_or}
+use Rattle.std.specs.List.{flat_map}
 use Rattle.std.specs.Option.{option_map_or, option_or}
 use Rattle.aria_tables.specs.declared.attr.AriaAttr.TheVariants as aria
 use Rattle.aria_tables.specs.declared.role.Role.{Role}
@@ -19,6 +20,7 @@ use Rattle.acc_tree.specs.declared.above.Above.{Above}
 use Rattle.acc_tree.specs.declared.attributes.Attribute.TheVariants as attribute
 use Rattle.acc_tree.specs.declared.tags.Tag.{Tag}
 use Rattle.acc_tree.specs.declared.tags.Tag.TheVariants as tag
+use Rattle.acc_tree.specs.Following.{followed}
 use Rattle.acc_tree.specs.Frames.{under}
 use Rattle.acc_tree.specs.Inclusion.{is_hidden, exposed}
 use Rattle.acc_tree.specs.References.{found, named_by}
@@ -39,7 +41,7 @@ use Rattle.acc_name.specs.Hosts.{host_of, host_text, caption_of, is_captioning}
 
 -- within a reference no other is followed
 abbrev pub untold : Sight → Told
-untold s = record { labelled_by = []; labels = [] }
+untold s = record { labelled_by = []; labels = []; owned = [] }
 
 -- the node whose name is asked, whether hidden nodes count, and what references say
 pub record Asked : Type 0 where
@@ -191,8 +193,8 @@ by_clauses told how role row inner = first_said (
     -- clause 5, step 2E: the labels, and then the text of the element's kind
     ∷ says source.HostLabel told.labels
     ∷ says source.HostText (host_text (host_of row) row inner.caption)
-    -- clauses 6 and 8, steps 2F and 2H
-    ∷ says source.Content (content_of how role inner.content)
+    -- clauses 6 and 8, steps 2F and 2H: the children's texts, and then those of the elements that it owns besides
+    ∷ says source.Content (content_of how role (inner.content ++ told.owned))
     -- clause 9, step 2I
     ∷ says source.Title (text_at attribute.Title row)
     ∷ says source.Placeholder (placeholder_of row)
@@ -265,22 +267,40 @@ referred trees node m =
 abbrev pub all_referred : Trees → NodeId → List NodeId → List ℕ
 all_referred trees node ms = spaced (map (referred trees node) ms)
 
--- clauses 2 and 5, steps 2B and 2E: what the elements say that aria-labelledby finds, and what the labels say
-abbrev pub told_of : Trees → NodeId → Row → Told
-told_of trees node row = record {
+-- what an element says that another follows by aria-owns, placed as a child's text is
+abbrev pub followed_text : NodeId → Bool → Sight → List ℕ
+followed_text node hidden s = placed s.row (spoken (record { node = node; hidden = hidden; told = untold }) how.Inner s).text
+
+abbrev pub all_followed : Trees → NodeId → Bool → Row → List ℕ
+all_followed trees node hidden row = flat_map (followed_text node hidden) (followed trees row)
+
+-- clauses 2, 5 and 8, steps 2B, 2E and 2H: what the elements say that aria-labelledby finds, what the labels say, and
+-- what the elements say that it follows by aria-owns
+abbrev pub told_of : Trees → NodeId → Bool → Row → Told
+told_of trees node hidden row = record {
   labelled_by = all_referred trees node (found trees (named_by aria.Labelledby row));
   labels = all_referred trees node (labels_for trees row.id);
+  owned = all_followed trees node hidden row;
 }
 
-abbrev pub told_by : Trees → NodeId → Sight → Told
-told_by trees node s = told_of trees node s.row
+abbrev pub told_by : Trees → NodeId → Bool → Sight → Told
+told_by trees node hidden s = told_of trees node hidden s.row
 
 -- ---- the name
 
--- what a node says for its own name; a stranger says nothing
+-- where references are open they say what they find, and else nothing
+abbrev pub told_on : Trees → NodeId → Bool → Bool → Sight → Told
+told_on trees node is_open hidden = if is_open then told_by trees node hidden else untold
+
+-- what a node says in the name of another, by whether references are open, how it is come to, and whether hidden
+-- nodes count; a stranger says nothing
+abbrev pub says_in : Trees → NodeId → NodeId → Bool → How → Bool → Name
+says_in trees node n is_open how hidden =
+    option_map_or (spoken (record { node = node; hidden = hidden; told = told_on trees node is_open hidden }) how) (sight_of trees n) no_name
+
+-- what a node says for its own name
 abbrev pub own_text : Trees → NodeId → Name
-own_text trees n =
-    option_map_or (spoken (record { node = n; hidden = false; told = told_by trees n }) how.Own) (sight_of trees n) no_name
+own_text trees n = says_in trees n n true how.Own false
 
 -- nothing gave a text that isn't empty
 abbrev pub named : NameSource → List ℕ → Name

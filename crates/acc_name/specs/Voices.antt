@@ -1,9 +1,10 @@
 -- What is held of names in the making.
-use Rattle.std.specs.Prelude.{ℕ, List, [], ◌∷◌, Bool, if◌then◌else◌, ◌||◌, Option, Some, None, option_map, String}
+use Rattle.std.specs.Prelude.{ℕ, List, [], ◌∷◌, ◌++◌, Bool, false, if◌then◌else◌, ◌||◌, Option, Some, None, option_map, String}
 use Rattle.std.specs.String.{string_bytes}
 use Rattle.std.specs.declared.alloc.Global.{Global}
 use Rattle.aria_tables.specs.declared.role.Role.{Role}
 use Rattle.snap_tree.specs.Trees.{Trees}
+use Rattle.snap_tree.specs.declared.row.NodeId.{NodeId}
 use Rattle.snap_tree.specs.declared.row.Row.{Row}
 use Rattle.texts.specs.Words.{blank}
 use Rattle.acc_tree.specs.declared.above.Above.{Above}
@@ -23,7 +24,7 @@ use Rattle.acc_name.specs.declared.named.How.{How}
 use Rattle.acc_name.specs.declared.named.NameSource.TheVariants as source
 use Rattle.acc_name.specs.Captions.{caption_kept}
 use Rattle.acc_name.specs.Hosts.{host_of, host_text, caption_of}
-use Rattle.acc_name.specs.Names.{Asked, Heard, says, is_select, content_of, placeholder_of, said}
+use Rattle.acc_name.specs.Names.{Asked, Heard, says, is_select, content_of, placeholder_of, said, told_of}
 
 -- the bytes of a string that may be there
 abbrev pub text_in : Option (String Global) → Option (List ℕ)
@@ -57,6 +58,10 @@ seen_at row below above = record { row = seen_row row; below = seen below; above
 abbrev pub told_within : Inner → List ℕ → Heard
 told_within inner text = shown text (text_in inner.chosen.now) (caption_kept inner.caption text)
 
+-- what references say of a node that isn't asked for its content
+abbrev pub labelled_of : Trees → NodeId → Row → Told
+labelled_of trees node row = record (told_of trees node false row) { owned = [] }
+
 -- which clause gave a name, and whether it is blank
 abbrev pub said_by : Name → Said
 said_by name = record { source = name.source; is_blank = blank name.text }
@@ -66,7 +71,7 @@ abbrev pub says_within : Scope → Told → Option Role → Row → Aside → Li
 says_within scope told role row inner text =
     (said scope.node scope.hidden told how.Inner role row (shown text (text_in inner.chosen) (caption_kept inner.caption text))).text
 
--- an element's clauses from the children's texts on
+-- an element's clauses from the children's texts on, with what the elements say that it owns besides
 abbrev pub from_content : How → Option Role → Row → List ℕ → List Name
 from_content how role row content =
     says source.Content (content_of how role content)
@@ -74,7 +79,7 @@ from_content how role row content =
     ∷ says source.Placeholder (placeholder_of row)
     ∷ []
 
--- an element's clauses from the text of its kind on
-abbrev pub from_kind : How → Option Role → Row → Heard → List Name
-from_kind how role row inner =
-    says source.HostText (host_text (host_of row) row inner.caption) ∷ from_content how role row inner.content
+-- an element's clauses from the text of its kind on, where the elements that it owns besides say this
+abbrev pub from_kind : How → Option Role → Row → List ℕ → Heard → List Name
+from_kind how role row owned inner =
+    says source.HostText (host_text (host_of row) row inner.caption) ∷ from_content how role row (inner.content ++ owned)

@@ -85,23 +85,20 @@ fn by_label(alloc: Global, labels: Text, row: &Row) -> Result<Option<Name>, OutO
 // The clauses that come before the text of the element's kind.
 fn before_kind(
     alloc: Global,
-    told: Told,
+    labelled_by: Text,
+    labels: Text,
     how: How,
     role: Option<Role>,
     row: &Row,
     chosen: &Option<String>,
 ) -> Result<Option<Name>, OutOfMemory>
     ensures { IfOk result (λ name. name ≡ first_of (
-        says source.LabelledBy told.labelled_by
+        says source.LabelledBy labelled_by
         ∷ says source.HostText (value_of how role (seen_row row.now) (text_in chosen.now))
         ∷ says source.AriaLabel (text_at (attribute.Aria aria.Label) (seen_row row.now))
-        ∷ says source.HostLabel told.labels
+        ∷ says source.HostLabel labels
         ∷ [])) }
 {
-    let Told {
-        labelled_by,
-        labels,
-    } = told;
     if !blank(&labelled_by) {
         return Ok(Some(Name {
             text: labelled_by,
@@ -150,26 +147,28 @@ fn replaced_by(content: &mut String, mark: usize, name: Option<Name>) -> Result<
     }
 }
 
-// The children's texts, and then the title and the placeholder.
+// The children's texts with those of the elements that it owns besides, and then the title and the placeholder.
 fn by_content(
     alloc: Global,
     how: How,
     role: Option<Role>,
     row: &Row,
+    owned: Text,
     is_blank: bool,
     mark: usize,
     content: &mut String,
 ) -> Result<Said, OutOfMemory>
     requires boundary { IsCharBoundary (string_bytes content.old) mark }
     requires blank { is_blank ≡ blank (drop mark (string_bytes content.old)) }
-    ensures text { OnOk result (string_bytes content.new ≡ take mark (string_bytes content.old) ++ (first_said (from_content how role (seen_row row.now) (drop mark (string_bytes content.old)))).text) }
-    ensures decides { IfOk result (λ s. s ≡ said_by (first_said (from_content how role (seen_row row.now) (drop mark (string_bytes content.old))))) }
+    ensures text { OnOk result (string_bytes content.new ≡ take mark (string_bytes content.old) ++ (first_said (from_content how role (seen_row row.now) (drop mark (string_bytes content.old) ++ owned))).text) }
+    ensures decides { IfOk result (λ s. s ≡ said_by (first_said (from_content how role (seen_row row.now) (drop mark (string_bytes content.old) ++ owned)))) }
 {
-    let counts = asks_content(how, role) & !is_blank;
+    let counts = asks_content(how, role) & !(is_blank & blank(&owned));
     if counts {
+        content.push_str(owned.as_str())?;
         return Ok(Said {
             source: NameSource::Content,
-            is_blank,
+            is_blank: false,
         });
     }
     let hint = by_hints(alloc, row)?;
@@ -182,14 +181,15 @@ fn by_kind(
     how: How,
     role: Option<Role>,
     row: &Row,
+    owned: Text,
     inner: Inner<'_>,
     mark: usize,
     content: &mut String,
 ) -> Result<Said, OutOfMemory>
     requires boundary { IsCharBoundary (string_bytes content.old) mark }
     requires blank { inner.is_blank ≡ blank (drop mark (string_bytes content.old)) }
-    ensures text { OnOk result (string_bytes content.new ≡ take mark (string_bytes content.old) ++ (first_said (from_kind how role (seen_row row.now) (told_within inner.entry (drop mark (string_bytes content.old))))).text) }
-    ensures decides { IfOk result (λ s. s ≡ said_by (first_said (from_kind how role (seen_row row.now) (told_within inner.entry (drop mark (string_bytes content.old)))))) }
+    ensures text { OnOk result (string_bytes content.new ≡ take mark (string_bytes content.old) ++ (first_said (from_kind how role (seen_row row.now) owned (told_within inner.entry (drop mark (string_bytes content.old))))).text) }
+    ensures decides { IfOk result (λ s. s ≡ said_by (first_said (from_kind how role (seen_row row.now) owned (told_within inner.entry (drop mark (string_bytes content.old)))))) }
 {
     let Inner {
         caption,
@@ -208,7 +208,7 @@ fn by_kind(
     if native.is_some() {
         return replaced_by(content, mark, native);
     }
-    by_content(alloc, how, role, row, is_blank, mark, content)
+    by_content(alloc, how, role, row, owned, is_blank, mark, content)
 }
 
 fn by_clauses(
@@ -226,11 +226,16 @@ fn by_clauses(
     ensures text { OnOk result (string_bytes content.new ≡ take mark (string_bytes content.old) ++ (by_clauses told how role (seen_row row.now) (told_within inner.entry (drop mark (string_bytes content.old)))).text) }
     ensures decides { IfOk result (λ s. s ≡ said_by (by_clauses told how role (seen_row row.now) (told_within inner.entry (drop mark (string_bytes content.old))))) }
 {
-    let earlier = before_kind(alloc, told, how, role, row, inner.chosen)?;
+    let Told {
+        labelled_by,
+        labels,
+        owned,
+    } = told;
+    let earlier = before_kind(alloc, labelled_by, labels, how, role, row, inner.chosen)?;
     if earlier.is_some() {
         return replaced_by(content, mark, earlier);
     }
-    by_kind(alloc, how, role, row, inner, mark, content)
+    by_kind(alloc, how, role, row, owned, inner, mark, content)
 }
 
 fn is_inner(how: How) -> bool

@@ -5,9 +5,10 @@ ghost use Rattle.texts.specs.Words.{words};
 ghost use Rattle.acc_tree.specs.References.{found, named_by};
 ghost use Rattle.acc_tree.specs.Seen.{seen_row, seen};
 ghost use Rattle.acc_name.specs.Names.{joined, referred, all_referred, told_of, told_by};
-ghost use Rattle.acc_name.specs.Voices.{text_in};
+ghost use Rattle.acc_name.specs.Voices.{text_in, labelled_of};
 
 use crate::named::How;
+use crate::owning::all_followed;
 use crate::references::{References, Untold};
 use crate::room::Room;
 use crate::telling::spoken;
@@ -140,15 +141,15 @@ fn labels(
     Ok(text_of(alloc, so_far))
 }
 
-/// What references say of a row, in the name of a node.
-pub(crate) fn told_of(
+/// What references say of a row that isn't asked for its content, in the name of a node.
+pub(crate) fn labelled_of(
     alloc: Global,
     room: &mut Room,
     tree: &Tree,
     node: NodeId,
     row: &Row,
 ) -> Result<Told, OutOfMemory>
-    ensures { IfOk result (λ told. told ≡ told_of (seen tree.now.trees) node (seen_row row.now)) }
+    ensures { IfOk result (λ told. told ≡ labelled_of (seen tree.now.trees) node (seen_row row.now)) }
 {
     let labelled_by = labelled_by(alloc, room, tree, node, row)?;
     let held = labelled_by.len();
@@ -158,6 +159,34 @@ pub(crate) fn told_of(
     Ok(Told {
         labelled_by,
         labels,
+        owned: Text::new(alloc),
+    })
+}
+
+// What references say of a row, in the name of a node.
+fn told_of(
+    alloc: Global,
+    room: &mut Room,
+    tree: &Tree,
+    scope: Scope,
+    row: &Row,
+) -> Result<Told, OutOfMemory>
+    ensures { IfOk result (λ told. told ≡ told_of (seen tree.now.trees) scope.node scope.hidden (seen_row row.now)) }
+{
+    let labelled = labelled_of(alloc, room, tree, scope.node, row)?;
+    let held = labelled.len();
+    room.hold(held)?;
+    let owned = all_followed(alloc, room, tree, scope, row)?;
+    room.release(held);
+    let Told {
+        labelled_by,
+        labels,
+        ..
+    } = labelled;
+    Ok(Told {
+        labelled_by,
+        labels,
+        owned,
     })
 }
 
@@ -165,11 +194,11 @@ pub(crate) fn told_of(
 #[derive(Drop)]
 pub(crate) struct OnPage<'a> {
     pub(crate) tree: &'a Tree,
-    pub(crate) node: NodeId,
+    pub(crate) scope: Scope,
 }
 
 impl References for OnPage<'_> {
-    ghost tells = { λ page s. told_by (seen page.tree.now.trees) page.node s };
+    ghost tells = { λ page s. told_by (seen page.tree.now.trees) page.scope.node page.scope.hidden s };
 
     fn told(
         &self,
@@ -179,6 +208,6 @@ impl References for OnPage<'_> {
         _below: &Branches<'_>,
         _above: &Above<'_>,
     ) -> Result<Told, OutOfMemory> {
-        told_of(alloc, room, self.tree, self.node, row)
+        told_of(alloc, room, self.tree, self.scope, row)
     }
 }

@@ -13,13 +13,14 @@ ghost use Rattle.acc_name.specs.NameLaws.{ValuesWithin, ContentNames, TextSaysIt
 ///
 /// The node asked for says nothing within its own name, nor does a hidden one. The first of an element's
 /// clauses that isn't blank decides, where the children say their texts in order, each by itself. What
-/// references find says its text as one that is referred to, and no reference is followed there.
+/// references find says its text as one that is referred to, and what aria-owns finds as a child does; no
+/// reference is followed there.
 #[tactic(auto, using(crate::proofs::Deciding::first_decides, crate::proofs::Deciding::follows_once, crate::proofs::Deciding::text_says_itself, crate::proofs::Deciding::children_in_order, crate::proofs::Deciding::values_within, crate::proofs::Alone::stranger))]
 pub fn laws_of_names()
     ensures own_node { (asked : Asked) (s : Sight) → OwnNodeIsSilent asked s }
     ensures hidden { (asked : Asked) (how : How) (s : Sight) → HiddenIsSilent asked how s }
     ensures decides { (asked : Asked) (how : How) (s : Sight) → FirstDecides asked how s }
-    ensures references { (t : Trees) (n : NodeId) (s : Sight) → ReferencesTell t n s }
+    ensures references { (t : Trees) (n : NodeId) (hidden : Bool) (s : Sight) → ReferencesTell t n hidden s }
     ensures referred { (t : Trees) (n m : NodeId) → ReferredSays t n m }
     ensures once { (n : NodeId) (hidden : Bool) (how : How) (s : Sight) → FollowsOnce n hidden how s }
     ensures values { (asked : Asked) (s : Sight) → ValuesWithin asked s }

@@ -1,8 +1,8 @@
 //! The accessible name of each node of a page, and which clause gave it (Accessible Name and Description
 //! Computation 1.2).
 //!
-//! Start with [`name`]. The nine clauses stand in `specs/Names.antt`, and in `docs/names.md` with the
-//! standard's step beside each; [`laws_of_names`] says each clause in the standard's own shape.
+//! Start with [`name`]. The nine clauses stand in `specs/Names.antt`, and in `docs/use/names.md` with
+//! the standard's step beside each; [`laws_of_names`] says each clause in the standard's own shape.
 #![tactic(auto)]
 
 mod captions;
@@ -14,6 +14,7 @@ mod laws;
 mod local;
 mod named;
 mod naming;
+mod owning;
 mod placing;
 mod references;
 mod room;

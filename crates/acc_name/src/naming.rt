@@ -3,11 +3,12 @@ ghost use Rattle.std.specs.Option.{is_some};
 ghost use Rattle.acc_tree.specs.Seen.{seen_row, seen};
 ghost use Rattle.acc_name.specs.declared.named.How.TheVariants as how;
 ghost use Rattle.acc_name.specs.Hosts.{caption_of};
-ghost use Rattle.acc_name.specs.Names.{asks_content, nothing_heard, said, told_of, own_text, named, name_of};
+ghost use Rattle.acc_name.specs.Names.{asks_content, nothing_heard, said, own_text, named, name_of};
+ghost use Rattle.acc_name.specs.Voices.{labelled_of};
 
 use crate::captions::Caption;
 use crate::clauses::{no_name, say};
-use crate::following::{OnPage, told_of};
+use crate::following::{OnPage, labelled_of};
 use crate::heard::Inner;
 use crate::hosts::{caption_in, host_of};
 use crate::named::{How, Name, NameSource};
@@ -44,7 +45,7 @@ fn asking(alloc: Global, tree: &Tree, n: NodeId) -> Result<Name, OutOfMemory>
     };
     spoken(
         alloc,
-        &OnPage { tree, node: n },
+        &OnPage { tree, scope },
         scope,
         &mut Room::whole(),
         How::Own,
@@ -52,7 +53,7 @@ fn asking(alloc: Global, tree: &Tree, n: NodeId) -> Result<Name, OutOfMemory>
     )
 }
 
-// What a node says for its own name that asks nobody below it.
+// What a node says for its own name that asks nobody below it, nor anybody that it owns besides.
 fn alone(
     alloc: Global,
     tree: &Tree,
@@ -60,13 +61,13 @@ fn alone(
     row: &Row,
     role: Option<Role>,
 ) -> Result<Name, OutOfMemory>
-    ensures { IfOk result (λ name. name ≡ said node false (told_of (seen tree.now.trees) node (seen_row row.now)) how.Own role (seen_row row.now) nothing_heard) }
+    ensures { IfOk result (λ name. name ≡ said node false (labelled_of (seen tree.now.trees) node (seen_row row.now)) how.Own role (seen_row row.now) nothing_heard) }
 {
     let scope = Scope {
         node,
         hidden: false,
     };
-    let told = told_of(alloc, &mut Room::whole(), tree, node, row)?;
+    let told = labelled_of(alloc, &mut Room::whole(), tree, node, row)?;
     let mut content = String::new(alloc);
     let nothing = Inner {
         chosen: &None,

@@ -85,6 +85,15 @@ pub(crate) fn part_before(
     }
 }
 
+/// Writes a text behind others, with the spaces on both sides of it where it stands apart.
+pub(crate) fn push_placed(content: &mut String, row: &Row, text: &str) -> Result<(), OutOfMemory>
+    ensures { OnOk result (string_bytes content.new ≡ string_bytes content.old ++ placed (seen_row row.now) text.now) }
+{
+    part(content, row)?;
+    content.push_str(text)?;
+    part(content, row)
+}
+
 // Writes the spaces on both sides of a text.
 fn part_around(content: &mut String, mark: usize, row: &Row) -> Result<(), OutOfMemory>
     requires { IsCharBoundary (string_bytes content.old) mark }

@@ -46,6 +46,7 @@ impl References for Untold {
         Ok(Told {
             labelled_by: Text::new(alloc),
             labels: Text::new(alloc),
+            owned: Text::new(alloc),
         })
     }
 }

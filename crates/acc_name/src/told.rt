@@ -14,12 +14,15 @@ pub(crate) struct Told {
     pub(crate) labelled_by: Text,
     /// Its labels, with a space between.
     pub(crate) labels: Text,
+    /// The elements that it follows by aria-owns, each placed as a child's text is.
+    pub(crate) owned: Text,
 }
 
 impl Told {
     /// How many bytes of text it holds.
     pub(crate) fn len(&self) -> usize {
-        self.labelled_by.len().saturating_add(self.labels.len())
+        let labelled = self.labelled_by.len().saturating_add(self.labels.len());
+        labelled.saturating_add(self.owned.len())
     }
 }
 

@@ -4,3 +4,7 @@ pub mod Sighting
 pub mod Asking
 pub mod Finding
 pub mod Tagging
+pub mod Nearest
+pub mod Ancestors
+pub mod Once
+pub mod Numbered

@@ -107,6 +107,7 @@ name_among attribute.Size = refl
 name_among attribute.Title = refl
 name_among attribute.TypeAttr = refl
 name_among attribute.Value = refl
+name_among attribute.XmlLang = refl
 name_among (attribute.Aria a) = aria_among a
 
 -- an attribute that is asked for by name is looked at

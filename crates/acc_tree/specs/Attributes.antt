@@ -33,6 +33,7 @@ attribute_name attribute.Size = codes "size"
 attribute_name attribute.Title = codes "title"
 attribute_name attribute.TypeAttr = codes "type"
 attribute_name attribute.Value = codes "value"
+attribute_name attribute.XmlLang = codes "xml:lang"
 attribute_name (attribute.Aria a) = name_of a
 
 -- the looked-at attributes whose names don't begin `aria-`
@@ -42,7 +43,7 @@ looked_at_names =
     codes "for" ∷ codes "headers" ∷ codes "href" ∷ codes "http-equiv" ∷ codes "id" ∷
     codes "label" ∷ codes "lang" ∷ codes "list" ∷ codes "multiple" ∷ codes "name" ∷
     codes "placeholder" ∷ codes "role" ∷ codes "rowspan" ∷ codes "scope" ∷ codes "selected" ∷
-    codes "size" ∷ codes "title" ∷ codes "type" ∷ codes "value" ∷ []
+    codes "size" ∷ codes "title" ∷ codes "type" ∷ codes "value" ∷ codes "xml:lang" ∷ []
 
 -- a folded name begins `aria-`
 abbrev pub begins_aria : List ℕ → Bool

@@ -9,4 +9,5 @@ pub mod Frames
 pub mod Sights
 pub mod Pages
 pub mod References
+pub mod Following
 pub mod Owning

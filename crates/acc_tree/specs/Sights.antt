@@ -1,5 +1,6 @@
 -- A node in its tree, with what is above it summed up.
 use Rattle.std.specs.Prelude.{◌≡◌, List, [], ◌∷◌, ◌++◌, map, if◌then◌else◌, Option, Some, None, option_map}
+use Rattle.std.specs.List.{find}
 use Rattle.std.specs.Option.{option_or, option_map_or}
 use Rattle.snap_tree.specs.declared.row.NodeId.{NodeId}
 use Rattle.snap_tree.specs.declared.row.Row.{Row}
@@ -8,9 +9,11 @@ use Rattle.snap_tree.specs.SpotLaws.{NamesFirstAbove, ClimbsAbove}
 use Rattle.snap_tree.specs.Spots.{Spot, spot}
 use Rattle.snap_tree.specs.Trees.{Trees, empty, tree}
 use Rattle.acc_tree.specs.declared.above.Above.{Above}
+use Rattle.acc_tree.specs.declared.above.TableAbove.{TableAbove}
 use Rattle.acc_tree.specs.declared.sights.Sight.{Sight as LentSight}
 use Rattle.acc_tree.specs.Seen.{seen_row, seen}
-use Rattle.acc_tree.specs.Frames.{nothing_above, under, above_of}
+use Rattle.acc_tree.specs.Frames.{nothing_above, under, above_of, is_table, is_label, table_at}
+use Rattle.acc_tree.specs.Tags.{html_tag}
 
 -- a node's row, the trees below it, and what is above it
 pub record Sight : Type 0 where
@@ -67,6 +70,21 @@ SightIsSpot trees n = sight_of trees n ≡ option_map summed (spot trees n)
 -- what is seen of a number's spot is its spot among what is seen of the trees
 abbrev pub SeenSpot : Trees → NodeId → Type 0
 SeenSpot trees n = spot (seen trees) n ≡ option_map seen_spot (spot trees n)
+
+-- ---- what is nearest above a node
+
+-- the first HTML `table` of these nodes, with its role
+abbrev pub first_table : List Row → Option TableAbove
+first_table rows = option_map table_at (find (λ row. is_table (html_tag row)) rows)
+
+-- the first HTML `label` of these nodes
+abbrev pub first_label : List Row → Option NodeId
+first_label rows = option_map (λ row. row.id) (find (λ row. is_label (html_tag row)) rows)
+
+-- a sight tells of the table and the label that are the nearest among the node's ancestors
+pub record TellsNearest (t : Trees) (n : NodeId) : Type 0 where
+  pub table : option_map (λ s. s.above.table) (sight_of t n) ≡ option_map (λ s. first_table s.above) (spot t n)
+  pub label : option_map (λ s. s.above.label) (sight_of t n) ≡ option_map (λ s. first_label s.above) (spot t n)
 
 -- in these trees each node names the first of those above it, and that one stands below the others
 pub record IsClimbed (t : Trees) : Type 0 where

@@ -34,6 +34,7 @@ pub enum Attribute {
     Title,
     TypeAttr,
     Value,
+    XmlLang,
     /// A state or property of WAI-ARIA, whose name begins `aria-`.
     Aria(AriaAttr),
 }
@@ -69,6 +70,7 @@ impl Attribute {
             Attribute::Title => "title",
             Attribute::TypeAttr => "type",
             Attribute::Value => "value",
+            Attribute::XmlLang => "xml:lang",
             Attribute::Aria(attr) => attr.name(),
         }
     }

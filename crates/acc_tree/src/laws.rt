@@ -10,7 +10,7 @@ ghost use Rattle.snap_tree.specs.Lookups.{tagged};
 ghost use Rattle.acc_tree.specs.declared.attributes.Attribute.{Attribute};
 ghost use Rattle.acc_tree.specs.Attributes.{attribute_name, is_aria, is_looked_at};
 ghost use Rattle.acc_tree.specs.Seen.{seen, seen_row, attr, aria_attrs};
-ghost use Rattle.acc_tree.specs.Sights.{SightIsSpot, SeenSpot};
+ghost use Rattle.acc_tree.specs.Sights.{SightIsSpot, SeenSpot, TellsNearest};
 
 /// Laws of sights, and of what is seen. It does nothing: the clauses are what it is for.
 ///
@@ -23,6 +23,14 @@ pub fn laws_of_sights()
     ensures ids { (t : Trees) (id : List ℕ) → first_with_id (seen t) id ≡ first_with_id t id }
     ensures tags { (t : Trees) (tag : List ℕ) → tagged (seen t) tag ≡ tagged t tag }
     ensures labels { (t : Trees) (n : NodeId) → labels_for (seen t) n ≡ labels_for t n }
+{}
+
+/// The law of what is above a node. It does nothing: the clause is what it is for.
+///
+/// The nearest HTML `table` and the nearest HTML `label` that a sight tells of are the first ones among the node's
+/// ancestors, of which the parent comes first; it tells of none exactly where no ancestor is one.
+pub fn laws_of_above()
+    ensures { (t : Trees) (n : NodeId) → TellsNearest t n }
 {}
 
 /// Laws of what is seen of attributes: it is the row's own.

@@ -1,5 +1,5 @@
 -- What is decided fits, where the request and the rows that are kept do.
-use Rattle.std.proofs.Common.{◌≡◌, ℕ, zero, suc, ◌+◌, ◌≤◌, List, [], ◌∷◌, length, true, Option, Some, None, IsTrue, IfSome, arith}
+use Rattle.std.proofs.Common.{◌≡◌, ℕ, zero, suc, ◌+◌, ◌≤◌, List, [], ◌∷◌, length, true, Option, Some, None, IsTrue, IfSome, refl, arith}
 use Rattle.std.specs.List.{All, AllPairs}
 use Rattle.std.proofs.lemmas.Bool.Decides.{nat_tests}
 use Rattle.std.proofs.lemmas.List.Elements.{All-nil, All-cons, All-head, All-tail}
@@ -83,8 +83,8 @@ pub has_revisions_le : (counter more : ℕ) → has_revisions counter more ≡ t
 has_revisions_le counter more has = grind (arith, nat_tests)
 
 page_fits : (book : Book) (page : List ℕ) (rev : ℕ) (hand : List ℕ) (tree : Document) (js : List Judgement) → IsTrue (is_name page) → rev ≤ MOST_REVISION
-    → IsWebAddress tree.address → FitsPage (page_put book page rev hand tree js).page
-page_fits book page rev hand tree js named within address = record { head = record { page = named; rev = within }; address = address }
+    → IsWebAddress tree.address → tree.langs ≡ [] → FitsPage (page_put book page rev hand tree js).page
+page_fits book page rev hand tree js named within address no_langs = record { head = record { page = named; rev = within }; address = address; no_langs = no_langs }
 
 abbrev pub PutFits : PagePut → Type 0
 PutFits p = FitsPage p.page
@@ -105,14 +105,14 @@ pub put_page_fits : (book : Book) (site caller page : List ℕ) (rev : ℕ) (raw
 put_page_fits book site caller page rev raw s there js pages named page_named address =
     put_page_brings IfAnyFits book site caller page rev raw s there js pages (λ room more same well.
     let within = has_revisions_le s.counter 1 more in
-    one_fits site (s.counter + 1) _ named within (page_fits book page (s.counter + 1) caller (page_of raw) js page_named within address))
+    one_fits site (s.counter + 1) _ named within (page_fits book page (s.counter + 1) caller (page_of raw) js page_named within address refl))
 
 pub edit_page_fits : (book : Book) (site caller page : List ℕ) (rev : ℕ) (edits : List Edit) (s : Site) (kept : PageState)
     → IsTrue (is_name site) → IsTrue (is_name page) → FitsPage kept.page → Brings IfAnyFits (edit_page book site caller page rev edits s kept)
 edit_page_fits book site caller page rev edits s kept named page_named fits =
     edit_page_brings IfAnyFits book site caller page rev edits s kept (λ more same t is.
     let within = has_revisions_le s.counter 1 more in
-    one_fits site (s.counter + 1) _ named within (page_fits book page (s.counter + 1) caller (with_trees kept.page.tree t) kept.judgements page_named within fits.address))
+    one_fits site (s.counter + 1) _ named within (page_fits book page (s.counter + 1) caller (with_trees kept.page.tree t) kept.judgements page_named within fits.address fits.no_langs))
 
 pub drop_page_fits : (site page : List ℕ) (rev : ℕ) (kept : Page) → IsTrue (is_name site) → IsTrue (is_name page) → Brings IfAnyFits (drop_page site page rev kept)
 drop_page_fits site page rev kept named page_named = drop_page_brings IfAnyFits site page rev kept (λ _. (named, page_named))
@@ -129,7 +129,7 @@ puts_fit : (book : Book) (caller : List ℕ) (pages : List PageState) (counter :
 puts_fit book caller pages counter [] each within = All-nil PutFits
 puts_fit book caller pages counter (e ∷ entries) each within =
     let first = All-head FitsEntry e entries each in
-    All-cons PutFits _ _ (page_fits book e.page (counter + 1) caller (page_of e.raw) (judged (page_at e.page pages)) first.rev.named (omega arith) first.address)
+    All-cons PutFits _ _ (page_fits book e.page (counter + 1) caller (page_of e.raw) (judged (page_at e.page pages)) first.rev.named (omega arith) first.address refl)
     (puts_fit book caller pages (counter + 1) entries (All-tail FitsEntry e entries each) (omega arith))
 
 abbrev ApartFrom : List ℕ → Entry → Type 0

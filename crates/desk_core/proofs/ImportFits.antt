@@ -1,5 +1,5 @@
 -- What an import decides fits, where the request does.
-use Rattle.std.proofs.Common.{◌≡◌, ℕ, ◌+◌, ◌≤◌, List, [], ◌∷◌, length, map, IsTrue, arith}
+use Rattle.std.proofs.Common.{◌≡◌, ℕ, ◌+◌, ◌≤◌, List, [], ◌∷◌, length, map, IsTrue, refl, arith}
 use Rattle.std.specs.List.{All, AllPairs}
 use Rattle.std.proofs.lemmas.List.Elements.{All-nil, All-cons, All-head, All-tail}
 use Rattle.std.proofs.lemmas.List.Kept.{AllPairs-cons}
@@ -28,7 +28,7 @@ module _ (book : Book) (caller : List ℕ) where
   made_fit counter [] each within = All-nil PutFits
   made_fit counter (w ∷ all) each within =
       let first = All-head FitsEntry w.entry (entries_of all) each in
-      All-cons PutFits _ _ (record { head = record { page = first.rev.named; rev = omega arith }; address = first.address })
+      All-cons PutFits _ _ (record { head = record { page = first.rev.named; rev = omega arith }; address = first.address; no_langs = refl })
       (made_fit (counter + 1) all (All-tail FitsEntry w.entry (entries_of all) each) (omega arith))
 
   made_apart_from : (name : List ℕ) (counter : ℕ) (all : List Placed) → All (λ (e : Entry). name ≡ e.page → ⊥) (entries_of all)

@@ -22,7 +22,7 @@ use Rattle.desk_core.specs.Refusals.{Decision}
 use Rattle.desk_core.specs.Steps.{Request}
 use Rattle.desk_core.specs.Judging.{judged_row, judge, added, AddsTo}
 use Rattle.desk_core.specs.Told.{Told}
-use Rattle.desk_core.specs.Serving.{Stands, Agrees, Accepts, Judges, IsFirm, Decides, FindsKept, IsTrueTo}
+use Rattle.desk_core.specs.Serving.{Stands, Agrees, Judges, JudgesOn, IsFirm, Decides, FindsKept, IsTrueTo}
 use Rattle.desk_core.proofs.Ways.{followed}
 use Rattle.desk_core.proofs.Onward.{untold, not_fault, agrees_with, only_read, read_as}
 use Rattle.desk_core.proofs.ReadLaws.{found_is_true}
@@ -87,29 +87,34 @@ module _ (book : Book) (site caller page : List ℕ) (rule : RuleNo) (node : Nod
       ∙ (found add ∙ ap (λ (k : Judgement). added book site page k (page_state kept)) (sym same))
 
   -- and a refusal of that row is no fault of the keeper's
-  pub no_fault_on : (kept : KeptPage) (result : Result Decided Refusal) (r : Refusal) → IsErrAnd result (λ s. s ≡ r)
-      → ((next : OutRow → Decision) → Stands ⊥ r (judged_row kept.outcomes.rows kept.page.head.hand caller rule node seen next)) → IsErrOf result refusal.KeeperFault → ⊥
-  no_fault_on kept result r same refused =
-      err_no_fault result r (judged_row kept.outcomes.rows kept.page.head.hand caller rule node seen (λ _. Err r)) same (refused (λ _. Err r))
+  pub refused_on : (kept : KeptPage) (result : Result Decided Refusal) (r : Refusal) → IsErrAnd result (λ s. s ≡ r)
+      → ((next : OutRow → Decision) → Stands ⊥ r (judged_row kept.outcomes.rows kept.page.head.hand caller rule node seen next)) → JudgesOn site page result
+  refused_on kept (Ok d) r same refused = absurd same
+  refused_on kept (Err s) r same refused = record {
+    no_fault = err_no_fault (let e : Result Decided Refusal = Err s in e) r (judged_row kept.outcomes.rows kept.page.head.hand caller rule node seen (λ _. Err r)) same (refused (λ _. Err r));
+    adds = tt;
+    accepted = tt;
+    judged = tt;
+  }
 
   pub decides_judge : (old new : Told) (kept : KeptPage) (result : Result Decided Refusal)
       → IsTrue (is_name site) → IsTrue (is_name page)
       → FindsKept needed.Judge caller site page old new (Ok kept)
       → (IsTrueTo book kept → Agrees ⊥ result (judge book site caller page rule node verdict seen note (page_state kept)))
-      → (IsErrOf result refusal.KeeperFault → ⊥) → IfOk result (λ d. IfSome d.change (AddsTo site page)) → Accepts result → Judges result
+      → JudgesOn site page result
       → Decides book (record { caller = caller; command = command.Judge site page rule node verdict seen note }) old new result
-  decides_judge old new kept result named page_named finds agrees no_fault adds accepted judges = record {
-    reads = only_read old new (let r : Result KeptPage Refusal = Ok kept in r) result (λ e. absurd (no_fault e)) finds.reads;
+  decides_judge old new kept result named page_named finds agrees judges = record {
+    reads = only_read old new (let r : Result KeptPage Refusal = Ok kept in r) result (λ e. absurd (judges.no_fault e)) finds.reads;
     agrees =
         λ t told sound.
         let f = finds.found t told in
         agrees_with result (judge book site caller page rule node verdict seen note (page_state kept)) _
         (followed needed.Judge caller site page t f.0 (Some (page_state kept)) (λ _ p. judge book site caller page rule node verdict seen note p) _ f.1 f.2 (λ k has same. refl))
         (agrees (found_is_true book t sound site page kept f.2 f.3));
-    fits = all_fit site page named page_named result adds;
-    there = all_there site page new.tables (λ t told. there_in (kept_page site page t) (page_state kept) (finds.found t told).2) result adds;
-    accepted = accepted;
-    firm = judged_firm book (record { caller = caller; command = command.Judge site page rule node verdict seen note }) new.tables result judges;
+    fits = all_fit site page named page_named result judges.adds;
+    there = all_there site page new.tables (λ t told. there_in (kept_page site page t) (page_state kept) (finds.found t told).2) result judges.adds;
+    accepted = judges.accepted;
+    firm = judged_firm book (record { caller = caller; command = command.Judge site page rule node verdict seen note }) new.tables result judges.judged;
   }
 
   pub decides_no_judge : (old new : Told) (r : Refusal) → FindsKept needed.Judge caller site page old new (Err r)

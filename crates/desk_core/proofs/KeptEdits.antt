@@ -34,11 +34,11 @@ use Rattle.desk_core.proofs.ReadLaws.{found_is_true}
 
 -- ---- a page that is put
 
-pub edited_fits : (page hand : List ℕ) (rev : ℕ) (tree : Document) (kept p : Page) → IsTrue (is_name page) → rev ≤ MOST_REVISION → kept.tree.address ≡ tree.address → FitsPage kept
+pub edited_fits : (page hand : List ℕ) (rev : ℕ) (tree : Document) (kept p : Page) → IsTrue (is_name page) → rev ≤ MOST_REVISION → kept.tree.address ≡ tree.address → kept.tree.langs ≡ tree.langs → FitsPage kept
     → p ≡ record { head = record { page = page; rev = rev; hand = hand }; tree = tree } → FitsPage p
-edited_fits page hand rev tree kept p named within address fits is =
+edited_fits page hand rev tree kept p named within address langs fits is =
     let web = subst IsWebAddress address fits.address in
-    subst FitsPage (sym is) (record { head = record { page = named; rev = within }; address = web })
+    subst FitsPage (sym is) (record { head = record { page = named; rev = within }; address = web; no_langs = sym langs ∙ fits.no_langs })
 
 pub edits_by : (book : Book) (site page : List ℕ) (put : PagePut) (result : Result Decided Refusal) → IsTrue (is_name site) → FitsPage put.page → put.page.head.page ≡ page
     → Agrees ⊥ result (storing book site put.page.head.rev put) → Edits site page result

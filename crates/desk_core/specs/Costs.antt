@@ -77,6 +77,21 @@ pub record Costs (book : Book) (command : Command) (old new : Option Tables) (fr
   pub most : (s t : Tables) → old ≡ Some s → new ≡ Some t → to ≤ from + most_judgings book command (site_at (site_of command) (state_of s))
   pub untold : (IsEdit command → ⊥) → to ≤ from + command_judgings book command None
 
+-- books judge so often at the most
+abbrev pub JudgeAtMost : {B : Type 0} → (B → ℕ) → ℕ → List B → List B → Type 0
+JudgeAtMost calls most old new = sum_by calls new ≤ sum_by calls old + most
+
+-- the first book judges so often at the most, and the others stay as they were
+pub record FirstJudges {B : Type 0} (calls : B → ℕ) (most : ℕ) (old new : List B) : Type 0 where
+  pub counted : sum_by calls new ≤ sum_by calls old + most
+  pub others : drop 1 new ≡ drop 1 old
+
+-- the first book judges less often where something holds, and in any case so often at the most; and the others stay as they were
+pub record FirstJudgesLess {B : Type 0} (calls : B → ℕ) (Holds : Type 0) (fewer most : ℕ) (old new : List B) : Type 0 where
+  pub counted : Holds → sum_by calls new ≤ sum_by calls old + fewer
+  pub at_most : sum_by calls new ≤ sum_by calls old + most
+  pub others : drop 1 new ≡ drop 1 old
+
 -- every command but an import uses the first book alone: the others stay as they were
 abbrev pub UsesFirst : {B : Type 0} → Command → List B → List B → Type 0
 UsesFirst command old new = (IsImport command → ⊥) → drop 1 new ≡ drop 1 old

@@ -13,6 +13,11 @@ use Rattle.desk_core.specs.declared.command.Entry.{Entry}
 use Rattle.desk_core.specs.declared.limits.TheConstants.{MOST_NOTE, MOST_ENTRIES}
 use Rattle.desk_core.specs.Steps.{Request, site_of}
 
+-- the names of a site and of a page
+pub record AreNames (s p : List ℕ) : Type 0 where
+  pub site : IsTrue (is_name s)
+  pub page : IsTrue (is_name p)
+
 -- a page and the revision that the sender saw of it
 pub record FitsRev (page : List ℕ) (rev : ℕ) : Type 0 where
   pub named : IsTrue (is_name page)

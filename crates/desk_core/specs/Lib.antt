@@ -18,5 +18,6 @@ pub mod Serving
 pub mod Sheets
 pub mod Placing
 pub mod Building
+pub mod InHand
 pub mod Once
 pub mod Revisions

@@ -27,7 +27,8 @@ use Rattle.desk_core.specs.Refusals.{Decision}
 use Rattle.desk_core.specs.State.{PageState, SiteState, page_state, state_of, site_at}
 use Rattle.desk_core.specs.Rights.{may, role_of, entering, on_page}
 use Rattle.desk_core.specs.Steps as steps
-use Rattle.desk_core.specs.Steps.{Request, read_page, decided}
+use Rattle.desk_core.specs.Steps.{Request, asked_by, read_page, decided}
+use Rattle.desk_core.specs.Judging.{AddsTo}
 use Rattle.desk_core.specs.Pages.{revision_in, judged}
 use Rattle.desk_core.specs.Reading.{answered, site_page}
 use Rattle.desk_core.specs.Soundness as soundness
@@ -87,6 +88,14 @@ PutsInto site other = ⊥
 abbrev pub Edits : List ℕ → List ℕ → Result Decided Refusal → Type 0
 Edits site page (Ok d) = IfSome d.change (λ change. Fits change × PutsInto site change) × IsStored page d.reply
 Edits site page (Err refusal) = refusal ≡ KeeperFault → ⊥
+
+-- a judgement of a page is answered, whatever outcomes are kept: by no fault of the keeper's, with a change that adds to this page, and
+-- with the reply to a judgement
+pub record JudgesOn (site page : List ℕ) (result : Result Decided Refusal) : Type 0 where
+  pub no_fault : IsErrOf result KeeperFault → ⊥
+  pub adds : IfOk result (λ d. IfSome d.change (AddsTo site page))
+  pub accepted : Accepts result
+  pub judged : Judges result
 
 -- What is decided of tables, sound or not: no change, or a judgement or an edit, or what the definition decides of them.
 abbrev pub IsFirm : Book → Request → Option Tables → Decided → Type 0
@@ -223,6 +232,10 @@ pub record Decides (book : Book) (request : Request) (old new : Told) (result : 
   pub there : IfOk result (λ d. IfSome d.change (λ change. IfSome new.tables (IsThere change)))
   pub accepted : Accepts result
   pub firm : IfOk result (IsFirm book request new.tables)
+
+-- a command that is decided the same by any book
+abbrev pub DecidesByAny : List ℕ → Command → Told → Told → Result Decided Refusal → Type 0
+DecidesByAny caller command old new result = (book : Book) → Decides book (asked_by caller command) old new result
 
 -- the rows of all sites but one stay
 abbrev pub OthersStay : List ℕ → Tables → Tables → Type 0

@@ -21,6 +21,9 @@ pub record Request : Type 0 where
   pub caller : List ℕ
   pub command : Command
 
+abbrev pub asked_by : List ℕ → Command → Request
+asked_by caller command = record { caller = caller; command = command }
+
 -- the site of a command
 abbrev pub site_of : Command → List ℕ
 site_of (command.PutSite site) = site

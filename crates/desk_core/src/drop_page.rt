@@ -1,10 +1,8 @@
-ghost use Rattle.std.specs.Prelude.{IsTrue};
-ghost use Rattle.desk_core.specs.declared.command.Command.TheVariants.{DropPage};
+ghost use Rattle.desk_core.specs.Fitting.{AreNames};
+ghost use Rattle.desk_core.specs.InHand.{dropping};
 ghost use Rattle.desk_core.specs.Pages.{drop_page};
-ghost use Rattle.keep_core.specs.Names.{is_name};
-ghost use Rattle.desk_core.specs.Serving.{Agrees, Decides};
+ghost use Rattle.desk_core.specs.Serving.{Agrees, DecidesByAny};
 ghost use Rattle.desk_core.specs.Told.{told_of};
-ghost use Rattle.rule_core.specs.Books.{Book};
 
 use crate::decided::Decided;
 use crate::look::find_page;
@@ -22,10 +20,8 @@ pub fn drop_page<K: Keeper>(
     caller: &Text,
     sent: SentPage,
 ) -> Result<Decided, Refusal>
-    requires site { IsTrue (is_name sent.site) }
-    requires page { IsTrue (is_name sent.page) }
-    ensures { (book : Book) → Decides book (record { caller = caller.now; command = DropPage sent.site sent.page sent.rev })
-        (told_of K.Keeper keeper.old) (told_of K.Keeper keeper.new) result }
+    requires { AreNames sent.site sent.page }
+    ensures { DecidesByAny caller.now (dropping sent) (told_of K.Keeper keeper.old) (told_of K.Keeper keeper.new) result }
 {
     let found = find_page(
         alloc,

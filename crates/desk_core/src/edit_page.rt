@@ -1,17 +1,16 @@
-ghost use Rattle.std.specs.Prelude.{◌≡◌, ◌+◌, ◌<◌, ◌≤◌, drop, length, sum_by, true, Some, Ok, IsTrue, IfOk, IfErr};
+ghost use Rattle.std.specs.Prelude.{◌≡◌, ◌<◌, drop, length, sum_by, true, Ok, IfOk, IfErr};
 ghost use Rattle.snap_tree.specs.Trees.{Document, with_trees};
 ghost use Rattle.snap_edit.specs.Edits.{edited_all};
-ghost use Rattle.keep_core.specs.Names.{is_name};
-ghost use Rattle.desk_core.specs.declared.command.Command.TheVariants.{EditPage};
+ghost use Rattle.keep_core.specs.Fits.{FitsPage};
 ghost use Rattle.desk_core.specs.Refusals.{Decision};
-ghost use Rattle.desk_core.specs.Pages.{has_revisions, edited, edit_page};
-ghost use Rattle.desk_core.specs.Costs.{edit_judgings, edit_pairs, command_judgings, most_judgings};
-ghost use Rattle.desk_core.specs.State.{state_of, site_at, page_state};
+ghost use Rattle.desk_core.specs.Pages.{has_revisions, edited};
+ghost use Rattle.desk_core.specs.Costs.{edit_judgings, edit_pairs, Costs, FirstJudgesLess};
+ghost use Rattle.desk_core.specs.State.{page_state};
+ghost use Rattle.desk_core.specs.Steps.{asked_by};
+ghost use Rattle.desk_core.specs.Fitting.{AreNames};
+ghost use Rattle.desk_core.specs.InHand.{editing, edit_kept};
 ghost use Rattle.desk_core.specs.Serving.{Agrees, Decides, Edits, IsTrueTo, Stands};
 ghost use Rattle.desk_core.specs.Told.{told_of};
-ghost use Rattle.desk_core.specs.Soundness.{IsSound};
-ghost use Rattle.keep_core.specs.Fits.{FitsPage};
-ghost use Rattle.keep_core.specs.Tables.{Tables};
 
 use crate::decided::Decided;
 use crate::look::find_whole;
@@ -52,17 +51,12 @@ fn edit_there<B: RuleBook>(
     requires some { 0 < length books.old }
     requires revision { has_revisions site.now.counter 1 ≡ true }
     requires current { sent.rev ≡ kept.now.page.head.rev }
-    requires site { IsTrue (is_name sent.site) }
-    requires page { IsTrue (is_name sent.page) }
+    requires names { AreNames sent.site sent.page }
     requires fits { FitsPage kept.now.page }
-    ensures decided { IsTrueTo B.book kept.now → Agrees ⊥ result (edit_page B.book sent.site caller.now
-        sent.page sent.rev edits.now site.now (page_state kept.now)) }
+    ensures decided { IsTrueTo B.book kept.now → Agrees ⊥ result (edit_kept B.book caller.now sent edits.now site.now kept.now) }
     ensures edits { Edits sent.site sent.page result }
-    ensures counted { IsTrueTo B.book kept.now → sum_by B.calls books.new ≤ sum_by B.calls books.old
-        + edit_pairs B.book edits.now (page_state kept.now) }
-    ensures most { sum_by B.calls books.new ≤ sum_by B.calls books.old
-        + edit_judgings B.book edits.now (page_state kept.now) }
-    ensures others { drop 1 books.new ≡ drop 1 books.old }
+    ensures costs { FirstJudgesLess B.calls (IsTrueTo B.book kept.now)
+        (edit_pairs B.book edits.now (page_state kept.now)) (edit_judgings B.book edits.now (page_state kept.now)) books.old books.new }
 {
     let tree = edit_tree(alloc, &kept.page.tree, edits)?;
     edited(alloc, books, caller, sent, site.counter, kept, tree)
@@ -79,17 +73,12 @@ fn decide<B: RuleBook>(
     kept: &KeptPage,
 ) -> Result<Decided, Refusal>
     requires some { 0 < length books.old }
-    requires site { IsTrue (is_name sent.site) }
-    requires page { IsTrue (is_name sent.page) }
+    requires names { AreNames sent.site sent.page }
     requires fits { FitsPage kept.now.page }
-    ensures decided { IsTrueTo B.book kept.now → Agrees ⊥ result (edit_page B.book sent.site caller.now
-        sent.page sent.rev edits.now site.now (page_state kept.now)) }
+    ensures decided { IsTrueTo B.book kept.now → Agrees ⊥ result (edit_kept B.book caller.now sent edits.now site.now kept.now) }
     ensures edits { Edits sent.site sent.page result }
-    ensures counted { IsTrueTo B.book kept.now → sum_by B.calls books.new ≤ sum_by B.calls books.old
-        + edit_pairs B.book edits.now (page_state kept.now) }
-    ensures most { sum_by B.calls books.new ≤ sum_by B.calls books.old
-        + edit_judgings B.book edits.now (page_state kept.now) }
-    ensures others { drop 1 books.new ≡ drop 1 books.old }
+    ensures costs { FirstJudgesLess B.calls (IsTrueTo B.book kept.now)
+        (edit_pairs B.book edits.now (page_state kept.now)) (edit_judgings B.book edits.now (page_state kept.now)) books.old books.new }
 {
     if !has_revision(site.counter) {
         return Err(Refusal::PageLimit {
@@ -116,18 +105,10 @@ pub fn edit_page<K: Keeper, B: RuleBook>(
     edits: List<Edit>,
 ) -> Result<Decided, Refusal>
     requires some { 0 < length books.old }
-    requires site { IsTrue (is_name sent.site) }
-    requires page { IsTrue (is_name sent.page) }
-    ensures decides { Decides B.book
-        (record { caller = caller.now; command = EditPage sent.site sent.page sent.rev edits })
+    requires names { AreNames sent.site sent.page }
+    ensures decides { Decides B.book (asked_by caller.now (editing sent edits))
         (told_of K.Keeper keeper.old) (told_of K.Keeper keeper.new) result }
-    ensures counted { (t : Tables) → K.tables keeper.new ≡ Some t → IsSound B.book t
-        → sum_by B.calls books.new ≤ sum_by B.calls books.old
-        + command_judgings B.book (EditPage sent.site sent.page sent.rev edits)
-        (site_at sent.site (state_of t)) }
-    ensures most { (t : Tables) → K.tables keeper.new ≡ Some t → sum_by B.calls books.new ≤ sum_by B.calls books.old
-        + most_judgings B.book (EditPage sent.site sent.page sent.rev edits)
-        (site_at sent.site (state_of t)) }
+    ensures costs { Costs B.book (editing sent edits) (K.tables keeper.old) (K.tables keeper.new) (sum_by B.calls books.old) (sum_by B.calls books.new) }
     ensures others { drop 1 books.new ≡ drop 1 books.old }
 {
     let found = find_whole(

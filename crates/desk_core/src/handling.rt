@@ -2,6 +2,7 @@ ghost use Rattle.std.specs.Prelude.{◌<◌, length, sum_by};
 ghost use Rattle.desk_core.specs.Costs.{Costs, UsesFirst};
 ghost use Rattle.desk_core.specs.Fitting.{FitsRequest};
 ghost use Rattle.desk_core.specs.Serving.{Decides, Serves};
+ghost use Rattle.desk_core.specs.Steps.{asked_by};
 ghost use Rattle.desk_core.specs.Told.{told_of};
 
 use crate::command::Command;
@@ -49,11 +50,10 @@ pub fn handle<R: Threads + Sync, K: Keeper, B: RuleBook + Send>(
     command: Command,
 ) -> Reply
     requires some { 0 < length books.old }
-    requires fits { FitsRequest B.book (record { caller = caller.now; command = command }) }
-    ensures served { Serves B.book (record { caller = caller.now; command = command })
+    requires fits { FitsRequest B.book (asked_by caller.now command) }
+    ensures served { Serves B.book (asked_by caller.now command)
         (told_of K.Keeper keeper.old) (told_of K.Keeper keeper.new) result }
-    ensures counted { Costs B.book command
-        (K.tables keeper.old) (K.tables keeper.new) (sum_by B.calls books.old) (sum_by B.calls books.new) }
+    ensures counted { Costs B.book command (K.tables keeper.old) (K.tables keeper.new) (sum_by B.calls books.old) (sum_by B.calls books.new) }
     ensures others { UsesFirst command books.old books.new }
 {
     match decide(rt, alloc, books, keeper, caller, command) {
@@ -73,11 +73,10 @@ fn decide<R: Threads + Sync, K: Keeper, B: RuleBook + Send>(
     command: Command,
 ) -> Result<Decided, Refusal>
     requires some { 0 < length books.old }
-    requires fits { FitsRequest B.book (record { caller = caller.now; command = command }) }
-    ensures decided { Decides B.book (record { caller = caller.now; command = command })
+    requires fits { FitsRequest B.book (asked_by caller.now command) }
+    ensures decided { Decides B.book (asked_by caller.now command)
         (told_of K.Keeper keeper.old) (told_of K.Keeper keeper.new) result }
-    ensures counted { Costs B.book command
-        (K.tables keeper.old) (K.tables keeper.new) (sum_by B.calls books.old) (sum_by B.calls books.new) }
+    ensures counted { Costs B.book command (K.tables keeper.old) (K.tables keeper.new) (sum_by B.calls books.old) (sum_by B.calls books.new) }
     ensures others { UsesFirst command books.old books.new }
 {
     match command {

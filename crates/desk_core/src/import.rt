@@ -1,4 +1,4 @@
-ghost use Rattle.std.specs.Prelude.{◌≡◌, ◌+◌, ◌<◌, ◌≤◌, length, sum_by, true, None, is_none, IsTrue, IfOk, IfErr, OnOk};
+ghost use Rattle.std.specs.Prelude.{◌≡◌, ◌<◌, length, true, None, is_none, IsTrue, IfErr, OnOk};
 ghost use Rattle.audit.specs.Pages.{pages_judgings};
 ghost use Rattle.keep_core.specs.Names.{is_name};
 ghost use Rattle.desk_core.specs.declared.command.Command.TheVariants.{Import};
@@ -7,8 +7,10 @@ ghost use Rattle.desk_core.specs.Pages.{has_room_for, has_revisions};
 ghost use Rattle.std.specs.Option.{option_copied};
 ghost use Rattle.std.specs.List.{find};
 ghost use Rattle.desk_core.specs.Fitting.{FitsEntries};
-ghost use Rattle.desk_core.specs.Costs.{import_judgings};
-ghost use Rattle.desk_core.specs.Placing.{entries_of, new_among, current_of, is_stale, stale_among, puts_by, storing_all, import_placed};
+ghost use Rattle.desk_core.specs.Steps.{asked_by};
+ghost use Rattle.desk_core.specs.Costs.{import_judgings, JudgeAtMost};
+ghost use Rattle.desk_core.specs.InHand.{import_arrived};
+ghost use Rattle.desk_core.specs.Placing.{entries_of, new_among, current_of, is_stale, stale_among, puts_by, storing_all};
 ghost use Rattle.desk_core.specs.Serving.{Agrees, Decides, Stands};
 ghost use Rattle.desk_core.specs.Told.{told_of};
 
@@ -44,9 +46,9 @@ pub fn import<R: Threads + Sync, K: Keeper, B: RuleBook + Send>(
     requires some { 0 < length books.old }
     requires site { IsTrue (is_name site) }
     requires entries { FitsEntries entries }
-    ensures decides { Decides B.book (record { caller = caller.now; command = Import site entries })
+    ensures decides { Decides B.book (asked_by caller.now (Import site entries))
         (told_of K.Keeper keeper.old) (told_of K.Keeper keeper.new) result }
-    ensures counted { sum_by B.calls books.new ≤ sum_by B.calls books.old + import_judgings B.book entries }
+    ensures counted { JudgeAtMost B.calls (import_judgings B.book entries) books.old books.new }
 {
     let arrival = arrive(alloc, keeper, caller, &site, entries)?;
     decide(rt, alloc, books, caller, site, arrival)
@@ -63,10 +65,8 @@ fn decide<R: Threads + Sync, B: RuleBook + Send>(
     arrival: Arrival,
 ) -> Result<Decided, Refusal>
     requires { 0 < length books.old }
-    ensures decided { Agrees ⊥ result (import_placed B.book site caller.now
-        arrival.counter arrival.pages arrival.placed) }
-    ensures counted { sum_by B.calls books.new ≤ sum_by B.calls books.old
-        + import_judgings B.book (entries_of arrival.placed) }
+    ensures decided { Agrees ⊥ result (import_arrived B.book site caller.now arrival) }
+    ensures counted { JudgeAtMost B.calls (import_judgings B.book (entries_of arrival.placed)) books.old books.new }
 {
     if !has_room_for(new_among(arrival.placed.as_slice()), arrival.pages) {
         return Err(Refusal::PageLimit {
@@ -112,8 +112,7 @@ fn first_stale(placed: &[Placed]) -> Option<&Placed>
 // Refuses where some entry's revision isn't its page's.
 fn check_current(alloc: Global, placed: &List<Placed>) -> Result<(), Refusal>
     ensures fresh { OnOk result (stale_among placed.now ≡ None) }
-    ensures refused { IfErr result
-        (λ r. (next : Decision) → Stands ⊥ r (unless_refused (stale_among placed.now) next)) }
+    ensures refused { IfErr result (λ r. (next : Decision) → Stands ⊥ r (unless_refused (stale_among placed.now) next)) }
 {
     match first_stale(placed.as_slice()) {
         Some(stale) => {
@@ -141,10 +140,8 @@ fn import_there<R: Threads + Sync, B: RuleBook + Send>(
     requires room { has_room_for (new_among arrival.placed) arrival.pages ≡ true }
     requires revisions { has_revisions arrival.counter (length arrival.placed) ≡ true }
     requires fresh { stale_among arrival.placed ≡ None }
-    ensures decided { Agrees ⊥ result (import_placed B.book site caller.now
-        arrival.counter arrival.pages arrival.placed) }
-    ensures counted { sum_by B.calls books.new ≤ sum_by B.calls books.old
-        + import_judgings B.book (entries_of arrival.placed) }
+    ensures decided { Agrees ⊥ result (import_arrived B.book site caller.now arrival) }
+    ensures counted { JudgeAtMost B.calls (import_judgings B.book (entries_of arrival.placed)) books.old books.new }
 {
     let counter = arrival.counter + arrival.placed.len() as u64;
     let heads = heads_from(alloc, caller, arrival.counter, arrival.placed.as_slice())?;
@@ -165,10 +162,8 @@ fn store_all<R: Threads + Sync, B: RuleBook + Send>(
     built: Built,
 ) -> Result<Decided, Refusal>
     requires { 0 < length books.old }
-    ensures decided { Agrees ⊥ result (storing_all B.book site counter
-        (puts_by B.book built.heads built.works)) }
-    ensures counted { sum_by B.calls books.new ≤ sum_by B.calls books.old
-        + pages_judgings B.book built.works }
+    ensures decided { Agrees ⊥ result (storing_all B.book site counter (puts_by B.book built.heads built.works)) }
+    ensures counted { JudgeAtMost B.calls (pages_judgings B.book built.works) books.old books.new }
 {
     let outcomes = audit_pages(rt, alloc, books, built.works.as_slice())?;
     let pages = put_all(alloc, built, outcomes)?;

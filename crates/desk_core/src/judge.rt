@@ -1,4 +1,4 @@
-ghost use Rattle.std.specs.Prelude.{◌≡◌, [], ◌∷◌, ◌++◌, reverse, IsTrue, IfOk, IfErr, IfSome, IsErrOf};
+ghost use Rattle.std.specs.Prelude.{◌≡◌, [], ◌∷◌, ◌++◌, reverse, IfOk, IfErr};
 ghost use Rattle.std.specs.List.{find};
 ghost use Rattle.std.specs.Option.{option_copied};
 ghost use Rattle.snap_tree.specs.Trees.{Document};
@@ -6,13 +6,13 @@ ghost use Rattle.judge_core.specs.declared.outcomes.OutRow.{OutRow};
 ghost use Rattle.judge_core.specs.Composites.{is_open};
 ghost use Rattle.judge_core.specs.Judgements.{is_on};
 ghost use Rattle.judge_core.specs.Outcomes.{outcomes};
-ghost use Rattle.keep_core.specs.Names.{is_name};
-ghost use Rattle.desk_core.specs.declared.command.Command.TheVariants.{Judge};
-ghost use Rattle.desk_core.specs.declared.refusal.Refusal.TheVariants.{KeeperFault};
 ghost use Rattle.desk_core.specs.Refusals.{Decision};
-ghost use Rattle.desk_core.specs.Judging.{is_latest, added, judged_row, judge, AddsTo};
-ghost use Rattle.desk_core.specs.State.{PageState, page_state};
-ghost use Rattle.desk_core.specs.Serving.{Accepts, Agrees, Decides, IsTrueTo, Judges, Stands};
+ghost use Rattle.desk_core.specs.Judging.{is_latest, added};
+ghost use Rattle.desk_core.specs.State.{PageState};
+ghost use Rattle.desk_core.specs.Steps.{asked_by};
+ghost use Rattle.desk_core.specs.Fitting.{AreNames};
+ghost use Rattle.desk_core.specs.InHand.{judging, judge_kept, said_of_row, judgement_of};
+ghost use Rattle.desk_core.specs.Serving.{Agrees, Decides, IsTrueTo, JudgesOn, Stands};
 ghost use Rattle.desk_core.specs.Told.{told_of};
 
 use crate::decided::Decided;
@@ -47,10 +47,8 @@ pub fn judge<K: Keeper, B: RuleBook>(
     page: Text,
     said: Said,
 ) -> Result<Decided, Refusal>
-    requires site { IsTrue (is_name site) }
-    requires page { IsTrue (is_name page) }
-    ensures { Decides B.book
-        (record { caller = caller.now; command = Judge site page said.rule said.node said.verdict said.digest said.note })
+    requires { AreNames site page }
+    ensures { Decides B.book (asked_by caller.now (judging site page said))
         (told_of K.Keeper keeper.old) (told_of K.Keeper keeper.new) result }
 {
     let kept = find_kept(alloc, keeper, Needed::Judge, caller, &site, &page)?;
@@ -67,12 +65,8 @@ fn decide<B: RuleBook>(
     said: Said,
     kept: KeptPage,
 ) -> Result<Decided, Refusal>
-    ensures agrees { IsTrueTo B.book kept → Agrees ⊥ result (judge B.book site caller.now page
-        said.rule said.node said.verdict said.digest said.note (page_state kept)) }
-    ensures no_fault { IsErrOf result KeeperFault → ⊥ }
-    ensures adds { IfOk result (λ d. IfSome d.change (AddsTo site page)) }
-    ensures accepted { Accepts result }
-    ensures judges { Judges result }
+    ensures agrees { IsTrueTo B.book kept → Agrees ⊥ result (judge_kept B.book site caller.now page said kept) }
+    ensures judges { JudgesOn site page result }
 {
     let row = judged_row(&kept.outcomes, &said, caller, &kept.page.head.hand)?;
     let judgement = judgement_of(alloc, caller, said, row)?;
@@ -91,11 +85,8 @@ fn judged_row<'a>(
     caller: &Text,
     hand: &Text,
 ) -> Result<&'a OutRow, Refusal>
-    ensures row { IfOk result (λ row. (next : OutRow → Decision)
-        → judged_row outcomes.now.rows hand.now caller.now said.now.rule said.now.node said.now.digest next
-        ≡ next row.now) }
-    ensures refused { IfErr result (λ r. (next : OutRow → Decision) → Stands ⊥ r
-        (judged_row outcomes.now.rows hand.now caller.now said.now.rule said.now.node said.now.digest next)) }
+    ensures row { IfOk result (λ row. (next : OutRow → Decision) → said_of_row outcomes.now hand.now caller.now said.now next ≡ next row.now) }
+    ensures refused { IfErr result (λ r. (next : OutRow → Decision) → Stands ⊥ r (said_of_row outcomes.now hand.now caller.now said.now next)) }
 {
     let Some(row) = outcomes.row(said.rule, said.node) else {
         return Err(Refusal::NoTarget);
@@ -129,14 +120,7 @@ fn judgement_of(
     said: Said,
     row: &OutRow,
 ) -> Result<Judgement, OutOfMemory>
-    ensures { IfOk result (λ j. j ≡ record {
-      rule = said.rule;
-      node = said.node;
-      verdict = said.verdict;
-      hand = caller.now;
-      note = said.note;
-      evidence = row.now.evidence;
-    }) }
+    ensures { IfOk result (λ j. j ≡ judgement_of caller.now said row.now) }
 {
     let hand = caller.copy(alloc)?;
     let evidence = row.evidence.copy(alloc)?;
@@ -160,13 +144,9 @@ fn added<B: RuleBook>(
     js: List<Judgement>,
     found: &Outcomes,
 ) -> Result<Decided, Refusal>
-    ensures agrees { (kept : PageState) → js ≡ kept.judgements
-        → found.now.rows ≡ outcomes B.book kept.page.tree js
+    ensures agrees { (kept : PageState) → js ≡ kept.judgements → found.now.rows ≡ outcomes B.book kept.page.tree js
         → Agrees ⊥ result (added B.book site page judgement kept) }
-    ensures no_fault { IsErrOf result KeeperFault → ⊥ }
-    ensures adds { IfOk result (λ d. IfSome d.change (AddsTo site page)) }
-    ensures accepted { Accepts result }
-    ensures judges { Judges result }
+    ensures judges { JudgesOn site page result }
 {
     let reply = Reply::Judged {
         rule: judgement.rule,
@@ -215,8 +195,8 @@ fn outcomes_with<B: RuleBook>(
     js: List<Judgement>,
     found: &Outcomes,
 ) -> Result<Outcomes, OutOfMemory>
-    ensures { (tree : Document) → found.now.rows ≡ outcomes B.book tree js → IfOk result (λ o. o.rows
-        ≡ outcomes B.book tree (js ++ judgement.now ∷ [])) }
+    ensures { (tree : Document) → found.now.rows ≡ outcomes B.book tree js
+        → IfOk result (λ o. o.rows ≡ outcomes B.book tree (js ++ judgement.now ∷ [])) }
 {
     let mut js = js.into_vec();
     js.push(judgement.copy(alloc)?)?;

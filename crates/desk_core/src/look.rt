@@ -51,8 +51,7 @@ pub fn find<K: Keeper>(
     site: &Text,
     page: &Text,
 ) -> Result<(Site, PageState), Refusal>
-    ensures { Finds needed caller.now site.now page.now
-        (told_of K.Keeper keeper.old) (told_of K.Keeper keeper.new) result }
+    ensures { Finds needed caller.now site.now page.now (told_of K.Keeper keeper.old) (told_of K.Keeper keeper.new) result }
 {
     let kept = enter(alloc, keeper, needed, caller, site)?;
     match look(alloc, keeper, site, page)? {
@@ -70,8 +69,7 @@ pub fn find_page<K: Keeper>(
     site: &Text,
     page: &Text,
 ) -> Result<Page, Refusal>
-    ensures { FindsPage needed caller.now site.now page.now
-        (told_of K.Keeper keeper.old) (told_of K.Keeper keeper.new) result }
+    ensures { FindsPage needed caller.now site.now page.now (told_of K.Keeper keeper.old) (told_of K.Keeper keeper.new) result }
 {
     enter(alloc, keeper, needed, caller, site)?;
     match keeper.load(alloc, site, page)? {
@@ -89,8 +87,7 @@ pub fn find_shown<K: Keeper>(
     site: &Text,
     page: &Text,
 ) -> Result<(Page, Outcomes), Refusal>
-    ensures { FindsShown needed caller.now site.now page.now
-        (told_of K.Keeper keeper.old) (told_of K.Keeper keeper.new) result }
+    ensures { FindsShown needed caller.now site.now page.now (told_of K.Keeper keeper.old) (told_of K.Keeper keeper.new) result }
 {
     let found = find_page(alloc, keeper, needed, caller, site, page)?;
     let outcomes = keeper.outcomes(alloc, site, page)?;
@@ -106,8 +103,7 @@ pub fn find_whole<K: Keeper>(
     site: &Text,
     page: &Text,
 ) -> Result<(Site, KeptPage), Refusal>
-    ensures { FindsWhole needed caller.now site.now page.now
-        (told_of K.Keeper keeper.old) (told_of K.Keeper keeper.new) result }
+    ensures { FindsWhole needed caller.now site.now page.now (told_of K.Keeper keeper.old) (told_of K.Keeper keeper.new) result }
 {
     let found = find(alloc, keeper, needed, caller, site, page)?;
     let outcomes = keeper.outcomes(alloc, site, page)?;
@@ -128,8 +124,7 @@ pub fn find_kept<K: Keeper>(
     site: &Text,
     page: &Text,
 ) -> Result<KeptPage, Refusal>
-    ensures { FindsKept needed caller.now site.now page.now
-        (told_of K.Keeper keeper.old) (told_of K.Keeper keeper.new) result }
+    ensures { FindsKept needed caller.now site.now page.now (told_of K.Keeper keeper.old) (told_of K.Keeper keeper.new) result }
 {
     let found = find_whole(alloc, keeper, needed, caller, site, page)?;
     Ok(found.1)

@@ -1,11 +1,10 @@
 ghost use Rattle.std.specs.Prelude.{◌≡◌, None, IsTrue, IfOk};
-ghost use Rattle.rule_core.specs.Books.{Book};
 ghost use Rattle.named_rows.specs.ByName.{IsInOrder};
 ghost use Rattle.keep_core.specs.Names.{is_name};
 ghost use Rattle.keep_core.specs.Fits.{FitsSite};
 ghost use Rattle.desk_core.specs.declared.command.Command.TheVariants.{PutSite, PutMember};
 ghost use Rattle.desk_core.specs.Members.{user_of, members_with, put_site, put_member};
-ghost use Rattle.desk_core.specs.Serving.{Agrees, Decides};
+ghost use Rattle.desk_core.specs.Serving.{Agrees, DecidesByAny};
 ghost use Rattle.desk_core.specs.Told.{told_of};
 
 use crate::decided::Decided;
@@ -26,8 +25,7 @@ pub fn put_site<K: Keeper>(
 ) -> Result<Decided, Refusal>
     requires site { IsTrue (is_name name) }
     requires caller { IsTrue (is_name caller.now) }
-    ensures { (book : Book) → Decides book (record { caller = caller.now; command = PutSite name })
-        (told_of K.Keeper keeper.old) (told_of K.Keeper keeper.new) result }
+    ensures { DecidesByAny caller.now (PutSite name) (told_of K.Keeper keeper.old) (told_of K.Keeper keeper.new) result }
 {
     match keeper.site(alloc, &name)? {
         Some(_) => Err(Refusal::SiteExists),
@@ -69,7 +67,7 @@ pub fn put_member<K: Keeper>(
 ) -> Result<Decided, Refusal>
     requires site { IsTrue (is_name name) }
     requires user { IsTrue (is_name user) }
-    ensures { (book : Book) → Decides book (record { caller = caller.now; command = PutMember name user role })
+    ensures { DecidesByAny caller.now (PutMember name user role)
         (told_of K.Keeper keeper.old) (told_of K.Keeper keeper.new) result }
 {
     let site = enter(alloc, keeper, Needed::Owner, caller, &name)?;

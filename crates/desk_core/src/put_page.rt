@@ -1,14 +1,15 @@
-ghost use Rattle.std.specs.Prelude.{◌≡◌, ◌+◌, ◌<◌, ◌≤◌, drop, length, sum_by, true, None, IsTrue, IfOk, IfErr};
+ghost use Rattle.std.specs.Prelude.{◌≡◌, ◌<◌, length, true, None, IfOk, IfErr};
 ghost use Rattle.snap_tree.specs.Trees.{Document};
 ghost use Rattle.snap_tree.specs.Grown.{page_of};
 ghost use Rattle.snap_tree.specs.Faults.{tree_fault};
 ghost use Rattle.desk_core.specs.Refusals.{Decision};
-ghost use Rattle.desk_core.specs.Pages.{due, has_room, has_revisions, built, put_page};
-ghost use Rattle.desk_core.specs.Costs.{put_judgings};
+ghost use Rattle.desk_core.specs.Pages.{due, has_room, has_revisions, built};
+ghost use Rattle.desk_core.specs.Steps.{asked_by};
+ghost use Rattle.desk_core.specs.Fitting.{AreNames};
+ghost use Rattle.desk_core.specs.InHand.{putting, put_into};
+ghost use Rattle.desk_core.specs.Costs.{put_judgings, FirstJudges};
 ghost use Rattle.desk_core.specs.Serving.{Agrees, Decides, Stands};
 ghost use Rattle.desk_core.specs.Told.{told_of};
-ghost use Rattle.desk_core.specs.declared.command.Command.TheVariants.{PutPage};
-ghost use Rattle.keep_core.specs.Names.{is_name};
 ghost use Rattle.web_address.specs.Address.{IsWebAddress};
 
 use crate::decided::Decided;
@@ -47,10 +48,8 @@ fn put_there<B: RuleBook>(
     requires room { has_room survey.now.current survey.now.pages ≡ true }
     requires revision { has_revisions survey.now.site.counter 1 ≡ true }
     requires current { sent.rev ≡ due survey.now.current }
-    ensures decided { Agrees ⊥ result (put_page B.book sent.site caller.now sent.page sent.rev raw
-        survey.now.site survey.now.current survey.now.judgements survey.now.pages) }
-    ensures counted { sum_by B.calls books.new ≤ sum_by B.calls books.old + put_judgings B.book raw }
-    ensures others { drop 1 books.new ≡ drop 1 books.old }
+    ensures decided { Agrees ⊥ result (put_into B.book caller.now sent raw survey.now) }
+    ensures costs { FirstJudges B.calls (put_judgings B.book raw) books.old books.new }
 {
     let tree = build(alloc, None, raw)?;
     let js = survey.judgements.as_slice();
@@ -67,10 +66,8 @@ fn decide<B: RuleBook>(
     survey: &Survey,
 ) -> Result<Decided, Refusal>
     requires { 0 < length books.old }
-    ensures decided { Agrees ⊥ result (put_page B.book sent.site caller.now sent.page sent.rev raw
-        survey.now.site survey.now.current survey.now.judgements survey.now.pages) }
-    ensures counted { sum_by B.calls books.new ≤ sum_by B.calls books.old + put_judgings B.book raw }
-    ensures others { drop 1 books.new ≡ drop 1 books.old }
+    ensures decided { Agrees ⊥ result (put_into B.book caller.now sent raw survey.now) }
+    ensures costs { FirstJudges B.calls (put_judgings B.book raw) books.old books.new }
 {
     if !has_room(survey.current, survey.pages) {
         return Err(Refusal::PageLimit {
@@ -102,14 +99,11 @@ pub fn put_page<K: Keeper, B: RuleBook>(
     raw: Raw,
 ) -> Result<Decided, Refusal>
     requires some { 0 < length books.old }
-    requires site { IsTrue (is_name sent.site) }
-    requires page { IsTrue (is_name sent.page) }
+    requires names { AreNames sent.site sent.page }
     requires address { IsWebAddress raw.address }
-    ensures decides { Decides B.book
-        (record { caller = caller.now; command = PutPage sent.site sent.page sent.rev raw })
+    ensures decides { Decides B.book (asked_by caller.now (putting sent raw))
         (told_of K.Keeper keeper.old) (told_of K.Keeper keeper.new) result }
-    ensures counted { sum_by B.calls books.new ≤ sum_by B.calls books.old + put_judgings B.book raw }
-    ensures others { drop 1 books.new ≡ drop 1 books.old }
+    ensures costs { FirstJudges B.calls (put_judgings B.book raw) books.old books.new }
 {
     let survey = survey_site(alloc, keeper, caller, &sent.site, &sent.page)?;
     decide(alloc, books, caller, sent, raw, &survey)

@@ -3,7 +3,7 @@ ghost use Rattle.rule_core.specs.Books.{Book};
 ghost use Rattle.desk_core.specs.declared.command.Command.TheVariants.{GetPage, GetNames};
 ghost use Rattle.desk_core.specs.declared.reply.Reply.TheVariants as reply;
 ghost use Rattle.desk_core.specs.Reading.{shown_as, asked_as};
-ghost use Rattle.desk_core.specs.Serving.{Decides, ReadsPage};
+ghost use Rattle.desk_core.specs.Serving.{DecidesByAny, ReadsPage};
 ghost use Rattle.desk_core.specs.Told.{told_of};
 
 use crate::decided::Decided;
@@ -38,7 +38,7 @@ pub fn get_page<K: Keeper>(
     site: &Text,
     page: &Text,
 ) -> Result<Decided, Refusal>
-    ensures { (book : Book) → Decides book (record { caller = caller.now; command = GetPage site.now page.now })
+    ensures { DecidesByAny caller.now (GetPage site.now page.now)
         (told_of K.Keeper keeper.old) (told_of K.Keeper keeper.new) result }
 {
     let found = find_page(alloc, keeper, Needed::Reader, caller, site, page)?;
@@ -53,7 +53,7 @@ pub fn get_names<K: Keeper>(
     site: &Text,
     page: &Text,
 ) -> Result<Decided, Refusal>
-    ensures { (book : Book) → Decides book (record { caller = caller.now; command = GetNames site.now page.now })
+    ensures { DecidesByAny caller.now (GetNames site.now page.now)
         (told_of K.Keeper keeper.old) (told_of K.Keeper keeper.new) result }
 {
     let found = find_page(alloc, keeper, Needed::Reader, caller, site, page)?;
@@ -105,7 +105,7 @@ pub fn get_shown<K: Keeper>(
     page: &Text,
     showing: PageForm,
 ) -> Result<Decided, Refusal>
-    ensures { (book : Book) → Decides book (record { caller = caller.now; command = asked_as showing site.now page.now })
+    ensures { DecidesByAny caller.now (asked_as showing site.now page.now)
         (told_of K.Keeper keeper.old) (told_of K.Keeper keeper.new) result }
 {
     let shown = read_page(alloc, keeper, caller, site, page)?;

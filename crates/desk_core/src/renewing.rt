@@ -1,8 +1,9 @@
-ghost use Rattle.std.specs.Prelude.{◌≡◌, ◌+◌, ◌<◌, ◌≤◌, drop, length, sum_by, IsTrue};
+ghost use Rattle.std.specs.Prelude.{◌≡◌, ◌<◌, length};
 ghost use Rattle.rule_core.specs.Reach.{affected};
 ghost use Rattle.judge_core.specs.Outcomes.{judgings};
 ghost use Rattle.keep_core.specs.Fits.{FitsPage};
-ghost use Rattle.keep_core.specs.Names.{is_name};
+ghost use Rattle.desk_core.specs.Costs.{FirstJudges, FirstJudgesLess};
+ghost use Rattle.desk_core.specs.Fitting.{AreNames};
 ghost use Rattle.desk_core.specs.Pages.{renewed, storing};
 ghost use Rattle.desk_core.specs.Serving.{Agrees, Edits, IsTrueTo};
 
@@ -53,8 +54,7 @@ pub fn renewed<B: RuleBook>(
     requires some { 0 < length books.old }
     requires room { counter < MOST_REVISION }
     ensures decided { Agrees ⊥ result (renewed B.book sent.site caller.now sent.page counter js.now tree) }
-    ensures counted { sum_by B.calls books.new ≤ sum_by B.calls books.old + judgings B.book tree }
-    ensures others { drop 1 books.new ≡ drop 1 books.old }
+    ensures costs { FirstJudges B.calls (judgings B.book tree) books.old books.new }
 {
     let put = page_put(alloc, books, sent.page, counter + 1, caller, tree, js)?;
     storing(alloc, &books[0], sent.site, put)
@@ -74,16 +74,14 @@ pub fn edited<B: RuleBook>(
     requires some { 0 < length books.old }
     requires room { counter < MOST_REVISION }
     requires address { kept.now.page.tree.address ≡ tree.address }
-    requires site { IsTrue (is_name sent.site) }
-    requires page { IsTrue (is_name sent.page) }
+    requires langs { kept.now.page.tree.langs ≡ tree.langs }
+    requires names { AreNames sent.site sent.page }
     requires fits { FitsPage kept.now.page }
     ensures decided { IsTrueTo B.book kept.now → Agrees ⊥ result
         (renewed B.book sent.site caller.now sent.page counter kept.now.judgements tree) }
     ensures edits { Edits sent.site sent.page result }
-    ensures counted { IsTrueTo B.book kept.now → sum_by B.calls books.new
-        ≤ sum_by B.calls books.old + length (affected B.book kept.now.page.tree tree) }
-    ensures most { sum_by B.calls books.new ≤ sum_by B.calls books.old + judgings B.book tree }
-    ensures others { drop 1 books.new ≡ drop 1 books.old }
+    ensures costs { FirstJudgesLess B.calls (IsTrueTo B.book kept.now)
+        (length (affected B.book kept.now.page.tree tree)) (judgings B.book tree) books.old books.new }
 {
     let put = page_edited(alloc, books, sent.page, counter + 1, caller, kept, tree)?;
     storing(alloc, &books[0], sent.site, put)

@@ -1,6 +1,6 @@
 ghost use Rattle.std.specs.Prelude.{◌≡◌, None};
 ghost use Rattle.rule_core.specs.Books.{Book};
-ghost use Rattle.desk_core.specs.Serving.{Decides};
+ghost use Rattle.desk_core.specs.Serving.{DecidesByAny};
 ghost use Rattle.desk_core.specs.Told.{told_of};
 ghost use Rattle.desk_core.specs.Sheets.{sheet_asked, sheet_reply, ReadsSheet};
 
@@ -57,8 +57,7 @@ pub fn get_sheet<K: Keeper>(
     site: Text,
     form: SheetForm,
 ) -> Result<Decided, Refusal>
-    ensures { (book : Book) → Decides book (record { caller = caller.now; command = sheet_asked form site })
-        (told_of K.Keeper keeper.old) (told_of K.Keeper keeper.new) result }
+    ensures { DecidesByAny caller.now (sheet_asked form site) (told_of K.Keeper keeper.old) (told_of K.Keeper keeper.new) result }
 {
     let sheet = read_sheet(alloc, keeper, caller, site)?;
     Ok(sheet_reply(form, sheet))

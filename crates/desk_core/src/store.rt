@@ -1,6 +1,8 @@
-ghost use Rattle.std.specs.Prelude.{◌≡◌, ◌+◌, ◌<◌, ◌≤◌, drop, length, map, sum_by, IfOk};
+ghost use Rattle.std.specs.Prelude.{◌≡◌, ◌<◌, length, map, IfOk};
 ghost use Rattle.judge_core.specs.Outcomes.{outcomes, judgings};
 ghost use Rattle.rule_core.specs.Reach.{affected};
+ghost use Rattle.desk_core.specs.Costs.{FirstJudges, FirstJudgesLess};
+ghost use Rattle.desk_core.specs.InHand.{new_page};
 ghost use Rattle.desk_core.specs.Pages.{page_put, stored, stored_by};
 ghost use Rattle.desk_core.specs.Serving.{IsTrueTo};
 
@@ -23,31 +25,33 @@ pub fn audit_by_first<B: RuleBook>(
 ) -> Result<Outcomes, OutOfMemory>
     requires { 0 < length books.old }
     ensures rows { IfOk result (λ o. o.rows ≡ outcomes B.book tree.now js.now) }
-    ensures counted { sum_by B.calls books.new ≤ sum_by B.calls books.old + judgings B.book tree.now }
-    ensures others { drop 1 books.new ≡ drop 1 books.old }
+    ensures costs { FirstJudges B.calls (judgings B.book tree.now) books.old books.new }
 {
     audit_page(alloc, &mut books[0], tree, js)
 }
 
-/// The outcomes of an edited page by the first of some books, by the outcomes of the page before.
+/// The outcomes of an edited page by the first of some books, by those that are kept of it.
 pub fn reaudit_by_first<B: RuleBook>(
     alloc: Global,
     books: &mut [B],
-    old: &Tree,
-    new: &Tree,
-    rows: &Outcomes,
-    js: &[Judgement],
+    kept: &KeptPage,
+    tree: &Tree,
 ) -> Result<Outcomes, OutOfMemory>
     requires some { 0 < length books.old }
-    requires address { old.now.address ≡ new.now.address }
-    ensures rows { rows.now.rows ≡ outcomes B.book old.now js.now
-        → IfOk result (λ o. o.rows ≡ outcomes B.book new.now js.now) }
-    ensures counted { rows.now.rows ≡ outcomes B.book old.now js.now
-        → sum_by B.calls books.new ≤ sum_by B.calls books.old + length (affected B.book old.now new.now) }
-    ensures most { sum_by B.calls books.new ≤ sum_by B.calls books.old + judgings B.book new.now }
-    ensures others { drop 1 books.new ≡ drop 1 books.old }
+    requires address { kept.now.page.tree.address ≡ tree.now.address }
+    ensures rows { IsTrueTo B.book kept.now → IfOk result (λ o. o.rows ≡ outcomes B.book tree.now kept.now.judgements) }
+    ensures costs { FirstJudgesLess B.calls (IsTrueTo B.book kept.now)
+        (length (affected B.book kept.now.page.tree tree.now)) (judgings B.book tree.now) books.old books.new }
 {
-    reaudit(alloc, &mut books[0], old, rows, new, js)
+    let js = kept.judgements.as_slice();
+    reaudit(
+        alloc,
+        &mut books[0],
+        &kept.page.tree,
+        &kept.outcomes,
+        tree,
+        js,
+    )
 }
 
 /// A page as it is put where its tree was edited: its outcomes come of those that are kept.
@@ -62,17 +66,12 @@ pub fn page_edited<B: RuleBook>(
 ) -> Result<PagePut, OutOfMemory>
     requires some { 0 < length books.old }
     requires address { kept.now.page.tree.address ≡ tree.address }
-    ensures page { IfOk result (λ put. put.page
-        ≡ record { head = record { page = page; rev = rev; hand = hand.now }; tree = tree }) }
-    ensures put { IsTrueTo B.book kept.now → IfOk result (λ put. put
-        ≡ page_put B.book page rev hand.now tree kept.now.judgements) }
-    ensures counted { IsTrueTo B.book kept.now → sum_by B.calls books.new
-        ≤ sum_by B.calls books.old + length (affected B.book kept.now.page.tree tree) }
-    ensures most { sum_by B.calls books.new ≤ sum_by B.calls books.old + judgings B.book tree }
-    ensures others { drop 1 books.new ≡ drop 1 books.old }
+    ensures page { IfOk result (λ put. put.page ≡ new_page page rev hand.now tree) }
+    ensures put { IsTrueTo B.book kept.now → IfOk result (λ put. put ≡ page_put B.book page rev hand.now tree kept.now.judgements) }
+    ensures costs { FirstJudgesLess B.calls (IsTrueTo B.book kept.now)
+        (length (affected B.book kept.now.page.tree tree)) (judgings B.book tree) books.old books.new }
 {
-    let js = kept.judgements.as_slice();
-    let outcomes = reaudit_by_first(alloc, books, &kept.page.tree, &tree, &kept.outcomes, js)?;
+    let outcomes = reaudit_by_first(alloc, books, kept, &tree)?;
     let hand = hand.copy(alloc)?;
     let head = PageHead { page, rev, hand };
     Ok(PagePut {
@@ -93,8 +92,7 @@ pub fn page_put<B: RuleBook>(
 ) -> Result<PagePut, OutOfMemory>
     requires { 0 < length books.old }
     ensures put { IfOk result (λ put. put ≡ page_put B.book page rev hand.now tree js.now) }
-    ensures counted { sum_by B.calls books.new ≤ sum_by B.calls books.old + judgings B.book tree }
-    ensures others { drop 1 books.new ≡ drop 1 books.old }
+    ensures costs { FirstJudges B.calls (judgings B.book tree) books.old books.new }
 {
     let outcomes = audit_by_first(alloc, books, &tree, js)?;
     let hand = hand.copy(alloc)?;

@@ -2,7 +2,7 @@ ghost use Rattle.std.specs.Prelude.{◌≡◌, false, None, IfOk, IsSome};
 
 use keep_core::KeepFault;
 use keep_sql::{Prepared, SqlKeeper};
-use sqlite::{Connection, Error, ErrorCode, FileStore, Files, Options};
+use sqlite::{Alter, Connection, Error, ErrorCode, FileStore, Files, Options};
 use sqlite_disk::Memory;
 use std::alloc::Global;
 use store_statements::make_tables;
@@ -26,7 +26,7 @@ fn empty_store(alloc: Global) -> Result<Connection<MemStore>, Error>
 }
 
 // Makes the six tables.
-fn make_six(conn: &mut Connection<MemStore>) -> Result<(), Error>
+fn make_six<S: Alter>(conn: &mut Connection<S>) -> Result<(), Error>
     requires idle { conn.old.in_transaction ≡ false }
 {
     let _idle = conn.is_autocommit();
@@ -37,10 +37,10 @@ fn make_six(conn: &mut Connection<MemStore>) -> Result<(), Error>
 }
 
 // Runs statements, after which no transaction may be open.
-fn run_all(
-    mut conn: Connection<MemStore>,
+fn run_all<S: Alter + Drop>(
+    mut conn: Connection<S>,
     statements: &[&str],
-) -> Result<Connection<MemStore>, Error>
+) -> Result<Connection<S>, Error>
     ensures { IfOk result (λ conn. conn.in_transaction ≡ false) }
 {
     for sql in statements {
@@ -50,6 +50,37 @@ fn run_all(
         Ok(conn)
     } else {
         Err(Error::SqliteFailure(ErrorCode::TransactionState))
+    }
+}
+
+// A keeper over a store, with tables where it is to have them, after these statements. (What stands over any store is proved
+// once: of a store in memory each part that may go at an error would be proved too.)
+fn keeper_over<S: Alter + Drop>(
+    mut conn: Connection<S>,
+    has_tables: bool,
+    statements: &[&str],
+) -> Result<SqlKeeper<S>, StoreFault>
+    requires idle { conn.in_transaction ≡ false }
+    ensures { IfOk result (λ keeper. keeper.ready ≡ None) }
+{
+    if has_tables {
+        make_six(&mut conn)?;
+    }
+    let conn = run_all(conn, statements)?;
+    Ok(SqlKeeper::new(conn))
+}
+
+// The keeper, once it is ready.
+fn prepared<S: Alter + Drop>(
+    alloc: Global,
+    mut keeper: SqlKeeper<S>,
+) -> Result<SqlKeeper<S>, StoreFault>
+    ensures { IfOk result (λ keeper. IsSome keeper.ready) }
+{
+    match keeper.prepare(alloc) {
+        Ok(Prepared::Ready) => Ok(keeper),
+        Err(KeepFault::OutOfMemory) => Err(StoreFault::OutOfMemory),
+        _ => Err(StoreFault::Failed),
     }
 }
 
@@ -66,12 +97,8 @@ pub fn waiting_keeper(
 ) -> Result<SqlKeeper<MemStore>, StoreFault>
     ensures { IfOk result (λ keeper. keeper.ready ≡ None) }
 {
-    let mut conn = empty_store(alloc)?;
-    if has_tables {
-        make_six(&mut conn)?;
-    }
-    let conn = run_all(conn, statements)?;
-    Ok(SqlKeeper::new(conn))
+    let conn = empty_store(alloc)?;
+    keeper_over(conn, has_tables, statements)
 }
 
 /// A keeper that is ready and keeps nothing.
@@ -82,10 +109,6 @@ pub fn waiting_keeper(
 pub fn ready_keeper(alloc: Global) -> Result<SqlKeeper<MemStore>, StoreFault>
     ensures { IfOk result (λ keeper. IsSome keeper.ready) }
 {
-    let mut keeper = waiting_keeper(alloc, false, &[])?;
-    match keeper.prepare(alloc) {
-        Ok(Prepared::Ready) => Ok(keeper),
-        Err(KeepFault::OutOfMemory) => Err(StoreFault::OutOfMemory),
-        _ => Err(StoreFault::Failed),
-    }
+    let keeper = waiting_keeper(alloc, false, &[])?;
+    prepared(alloc, keeper)
 }

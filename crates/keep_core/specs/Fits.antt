@@ -1,5 +1,5 @@
 -- What fits: rows that may be put, and rows that are answered.
-use Rattle.std.specs.Prelude.{◌≡◌, ℕ, ◌≤◌, List, IsTrue, IsSome}
+use Rattle.std.specs.Prelude.{◌≡◌, ℕ, ◌≤◌, List, [], IsTrue, IsSome}
 use Rattle.std.specs.List.{All, AllPairs}
 use Rattle.web_address.specs.Address.{IsWebAddress}
 use Rattle.named_rows.specs.ByName.{IsInOrder}
@@ -29,9 +29,11 @@ pub record FitsHead (head : PageHead) : Type 0 where
   pub page : IsTrue (is_name head.page)
   pub rev : head.rev ≤ MOST_REVISION
 
+-- a tree is kept without language subtags
 pub record FitsPage (page : Page) : Type 0 where
   pub head : FitsHead page.head
   pub address : IsWebAddress page.tree.address
+  pub no_langs : page.tree.langs ≡ []
 
 -- heads in byte order of their pages, which are distinct
 pub record FitsHeads (heads : List PageHead) : Type 0 where

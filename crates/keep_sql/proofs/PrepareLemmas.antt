@@ -19,7 +19,7 @@ use Rattle.store_statements.specs.Opening.{OpensAgain}
 use Rattle.store_tables.specs.Editions.{edition_shown}
 use Rattle.store_tables.specs.Told.{tables_in}
 use Rattle.keep_sql.specs.Reading.{rows_in, edition_in}
-use Rattle.keep_sql.specs.Preparing.{IsSound, IsBare, HasNone, HasSix, IsPrepared, Prepares, Notes, NotesFirst}
+use Rattle.keep_sql.specs.Preparing.{IsSound, IsBare, HasNone, HasSix, IsPrepared, Prepares, Notes, NotesOurs}
 use Rattle.keep_sql.specs.declared.keeper.Prepared.TheVariants.{Ready, OtherEdition}
 use Rattle.keep_sql.specs.Keeper.{Keeper, first_of, held, told, LeftBy, LeftShut, Leaves, LeavesPrepared, MadeOf, Across, Between, IsToldOf, FoundEdition, StaysStored}
 use Rattle.keep_sql.proofs.KeepLemmas.{told_rows}
@@ -41,26 +41,26 @@ six_of s h = subst (λ (k : Schema). IsDatabase (record { schema = k; trees = s.
 
 module _ (old new : State) (sound : HasCleanDisk old → IsSound old) where
   -- of a store without tables
-  pub left_of_none : old.now.schema ≡ schema_of [] → Survives old new (λ db. IsBare old → AddsEdition (pos 1) nothing (stored db)) → Survives old new (IsPrepared old.now.trees)
-  left_of_none bare h = survives_weaker old new (λ db. IsBare old → AddsEdition (pos 1) nothing (stored db)) (IsPrepared old.now.trees) (λ clean db made. by (sound (omega (arith, clean, h.clean))) db made) h
+  pub left_of_none : old.now.schema ≡ schema_of [] → Survives old new (λ db. IsBare old → AddsEdition (pos 2) nothing (stored db)) → Survives old new (IsPrepared old.now.trees)
+  left_of_none bare h = survives_weaker old new (λ db. IsBare old → AddsEdition (pos 2) nothing (stored db)) (IsPrepared old.now.trees) (λ clean db made. by (sound (omega (arith, clean, h.clean))) db made) h
     where
-      by : IsSound old → (db : Trees) → (IsBare old → AddsEdition (pos 1) nothing (stored db)) → IsPrepared old.now.trees db
+      by : IsSound old → (db : Trees) → (IsBare old → AddsEdition (pos 2) nothing (stored db)) → IsPrepared old.now.trees db
       by s db made = let b : IsBare old = record { schema_is = bare; database = s.database } in inl (none_of old b, made b)
 
   -- and of one with the six
-  pub left_of_six : old.now.schema ≡ the_schema → Survives old new (λ db. IsStore old → NotesFirst old db) → Survives old new (IsPrepared old.now.trees)
-  left_of_six ours h = survives_weaker old new (λ db. IsStore old → NotesFirst old db) (IsPrepared old.now.trees) (λ clean db made. by (sound (omega (arith, clean, h.clean))) db made) h
+  pub left_of_six : old.now.schema ≡ the_schema → Survives old new (λ db. IsStore old → NotesOurs old db) → Survives old new (IsPrepared old.now.trees)
+  left_of_six ours h = survives_weaker old new (λ db. IsStore old → NotesOurs old db) (IsPrepared old.now.trees) (λ clean db made. by (sound (omega (arith, clean, h.clean))) db made) h
     where
-      by : IsSound old → (db : Trees) → (IsStore old → NotesFirst old db) → IsPrepared old.now.trees db
+      by : IsSound old → (db : Trees) → (IsStore old → NotesOurs old db) → IsPrepared old.now.trees db
       by s db made = let mine = store_of old s ours in let first = made mine in inr (six_of old mine, first.0, first.1)
 
-pub prepares_none : (old new : State) → IsBare old → AddsEdition (pos 1) nothing (rows_in new) → Prepares 1 old.now.trees new.now.trees
+pub prepares_none : (old new : State) → IsBare old → AddsEdition (pos 2) nothing (rows_in new) → Prepares 2 old.now.trees new.now.trees
 prepares_none old new bare made = inl (refl, inl (none_of old bare, made))
 
 prepares_six : (old new : State) (number : ℕ) → IsStore old → Notes old new number → Prepares number old.now.trees new.now.trees
 prepares_six old new number mine h = by h.made
   where
-    by : (new.now ≡ old.now) ⊎ ((number ≡ 1) × NotesFirst old new.now.trees) → Prepares number old.now.trees new.now.trees
+    by : (new.now ≡ old.now) ⊎ ((number ≡ 2) × NotesOurs old new.now.trees) → Prepares number old.now.trees new.now.trees
     by (inl same) = inr (six_of old mine, ap (λ (d : Database). d.trees) same)
     by (inr first) = inl (first.0, inr (six_of old mine, first.1.0, first.1.1))
 
@@ -76,7 +76,7 @@ prepared_made old new (Err e) mine h = tt
 -- ---- what is told
 
 -- an edition that is noted changes nothing that is told
-pub edition_told : (old new : Stored) → AddsEdition (pos 1) old new → tables_in new ≡ tables_in old
+pub edition_told : (old new : Stored) → AddsEdition (pos 2) old new → tables_in new ≡ tables_in old
 edition_told old new adds = ap tables_in adds.0
 
 -- what is told of a store that was opened again and prepared
@@ -87,27 +87,27 @@ module _ (old mid new : State) (again : OpensAgain old mid) (rows : HasCleanDisk
   from_old : (number : ℕ) → (HasCleanDisk new → IsTrue new.is_open → Prepares number mid.now.trees new.now.trees) → HasCleanDisk new → IsTrue new.is_open → Prepares number old.now.trees new.now.trees
   from_old number made clean is_open = subst (λ (t : Trees). Prepares number t new.now.trees) (rows (clean_mid clean)) (made clean is_open)
 
-  pub told_prepared : (HasCleanDisk new → IsTrue new.is_open → Prepares 1 mid.now.trees new.now.trees) → IsToldOf old new
-  told_prepared made clean is_open = by (from_old 1 made clean is_open)
+  pub told_prepared : (HasCleanDisk new → IsTrue new.is_open → Prepares 2 mid.now.trees new.now.trees) → IsToldOf old new
+  told_prepared made clean is_open = by (from_old 2 made clean is_open)
     where
       now_told : told new ≡ tables_in (rows_in new)
       now_told = told_rows new clean is_open
 
-      by : Prepares 1 old.now.trees new.now.trees → (HasNone old.now.trees × (told new ≡ Some [])) ⊎ (HasSix old.now.trees × (told new ≡ tables_in (rows_in old)))
+      by : Prepares 2 old.now.trees new.now.trees → (HasNone old.now.trees × (told new ≡ Some [])) ⊎ (HasSix old.now.trees × (told new ≡ tables_in (rows_in old)))
       by (inl (one, inl (none, adds))) = inl (none, now_told ∙ edition_told nothing (rows_in new) adds)
       by (inl (one, inr (six, unnoted, adds))) = inr (six, now_told ∙ edition_told (rows_in old) (rows_in new) adds)
       by (inr (six, same)) = inr (six, now_told ∙ ap (λ (t : Trees). tables_in (stored t)) same)
 
   -- the edition that it had noted
-  pub found_one : (HasCleanDisk new → IsTrue new.is_open → Prepares 1 mid.now.trees new.now.trees) → (HasCleanDisk new → IsTrue new.is_open → edition_in new ≡ Some (Some 1)) → FoundEdition Ready old new
-  found_one made noted clean is_open = by (from_old 1 made clean is_open)
+  pub found_ours : (HasCleanDisk new → IsTrue new.is_open → Prepares 2 mid.now.trees new.now.trees) → (HasCleanDisk new → IsTrue new.is_open → edition_in new ≡ Some (Some 2)) → FoundEdition Ready old new
+  found_ours made noted clean is_open = by (from_old 2 made clean is_open)
     where
-      by : Prepares 1 old.now.trees new.now.trees → HasNone old.now.trees ⊎ ((edition_in old ≡ Some None) ⊎ (edition_in old ≡ Some (Some 1)))
+      by : Prepares 2 old.now.trees new.now.trees → HasNone old.now.trees ⊎ ((edition_in old ≡ Some None) ⊎ (edition_in old ≡ Some (Some 2)))
       by (inl (one, inl (none, adds))) = inl none
       by (inl (one, inr (six, unnoted, adds))) = inr (inl unnoted)
       by (inr (six, same)) = inr (inr (ap (λ (t : Trees). edition_shown (editions_at (stored t))) (sym same) ∙ noted clean is_open))
 
-  pub found_other : (number : ℕ) → (number ≡ 1 → ⊥) → (HasCleanDisk new → IsTrue new.is_open → Prepares number mid.now.trees new.now.trees)
+  pub found_other : (number : ℕ) → (number ≡ 2 → ⊥) → (HasCleanDisk new → IsTrue new.is_open → Prepares number mid.now.trees new.now.trees)
       → (HasCleanDisk new → IsTrue new.is_open → edition_in new ≡ Some (Some number)) → FoundEdition (OtherEdition number) old new
   found_other number other made noted clean is_open = by (from_old number made clean is_open)
     where
@@ -116,7 +116,7 @@ module _ (old mid new : State) (again : OpensAgain old mid) (rows : HasCleanDisk
       by (inr (six, same)) = ap (λ (t : Trees). edition_shown (editions_at (stored t))) (sym same) ∙ noted clean is_open
 
   -- where another edition was found, and where that failed
-  pub stays_other : (number : ℕ) → (number ≡ 1 → ⊥) → (HasCleanDisk new → IsTrue new.is_open → Prepares number mid.now.trees new.now.trees) → StaysStored old new
+  pub stays_other : (number : ℕ) → (number ≡ 2 → ⊥) → (HasCleanDisk new → IsTrue new.is_open → Prepares number mid.now.trees new.now.trees) → StaysStored old new
   stays_other number other made clean is_open = by (from_old number made clean is_open)
     where
       by : Prepares number old.now.trees new.now.trees → new.now.trees ≡ old.now.trees

@@ -74,7 +74,7 @@ module _ {S : Type 0} (g : Ghosts S) where
   HasEdition number conn = IfSome conn (λ c. HasCleanDisk (state g c) → IsTrue (state g c).is_open → edition_in (state g c) ≡ Some (Some number))
 
   abbrev pub IsNoted : Prepared → Keeper S → Type 0
-  IsNoted Ready k = HasEdition 1 k.ready
+  IsNoted Ready k = HasEdition 2 k.ready
   IsNoted (OtherEdition number) k = HasEdition number k.waiting
 
   -- what holds of the store of a keeper that is ready, before and after a call; one that isn't ready stays so
@@ -121,9 +121,9 @@ module _ {S : Type 0} (g : Ghosts S) where
 abbrev pub IsToldOf : State → State → Type 0
 IsToldOf old new = HasCleanDisk new → IsTrue new.is_open → (HasNone old.now.trees × (told new ≡ Some [])) ⊎ (HasSix old.now.trees × (told new ≡ tables_in (rows_in old)))
 
--- and what it had noted: where it is ready no edition, or 1, and else this number
+-- and what it had noted: where it is ready no edition, or 2, and else this number
 abbrev pub FoundEdition : Prepared → State → State → Type 0
-FoundEdition Ready old new = HasCleanDisk new → IsTrue new.is_open → HasNone old.now.trees ⊎ ((edition_in old ≡ Some None) ⊎ (edition_in old ≡ Some (Some 1)))
+FoundEdition Ready old new = HasCleanDisk new → IsTrue new.is_open → HasNone old.now.trees ⊎ ((edition_in old ≡ Some None) ⊎ (edition_in old ≡ Some (Some 2)))
 FoundEdition (OtherEdition number) old new = HasCleanDisk new → IsTrue new.is_open → edition_in old ≡ Some (Some number)
 
 -- the rows stay

@@ -25,7 +25,7 @@ use store_tables::{Memo, StoreFault, see_numbers};
 #[derive(Clone, Copy, Debug, PartialEq, Eq)]
 pub enum Prepared {
     Ready,
-    /// A greater edition than 1, or none that this keeper knows, is noted.
+    /// Another edition than 2 is noted.
     OtherEdition { number: u64 },
 }
 
@@ -96,7 +96,7 @@ impl<S: Alter> SqlKeeper<S> {
 }
 
 impl<S: Alter + Drop> SqlKeeper<S> {
-    /// Prepares the store: it is opened anew, gets its tables where it has none, and the edition 1 where none is
+    /// Prepares the store: it is opened anew, gets its tables where it has none, and the edition 2 where none is
     /// noted. Where the answer isn't Ready the keeper isn't ready afterwards, whatever it was before.
     ///
     /// # Errors
@@ -106,7 +106,7 @@ impl<S: Alter + Drop> SqlKeeper<S> {
     pub fn prepare(&mut self, alloc: Global) -> Result<Prepared, KeepFault>
         ensures ready { result ≡ ok prepared.Ready → IsSome self.new.ready }
         ensures waits { result ≢ ok prepared.Ready → self.new.ready ≡ None }
-        ensures edition { IfOk result (λ p. (number : _) → p ≡ prepared.OtherEdition number → number ≢ 1) }
+        ensures edition { IfOk result (λ p. (number : _) → p ≡ prepared.OtherEdition number → number ≢ 2) }
         ensures noted { IfOk result (λ p. IsNoted S.Store p self.new) }
         ensures told { result ≡ ok prepared.Ready → Across S.Store IsToldOf (held self.old) self.new.ready }
         ensures stays { result ≢ ok prepared.Ready → Between S.Store StaysStored (held self.old) self.new.waiting }
@@ -127,7 +127,7 @@ impl<S: Alter + Drop> SqlKeeper<S> {
             }
         };
         match preparing::prepare(&mut conn) {
-            Ok(1) => {
+            Ok(2) => {
                 self.ready = Some(conn);
                 Ok(Prepared::Ready)
             }

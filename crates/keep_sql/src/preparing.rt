@@ -13,7 +13,7 @@ ghost use Rattle.store_statements.specs.Changes.{IsStore, IsReady, AddsEdition};
 ghost use Rattle.store_statements.specs.Making.{HasTables, nothing};
 ghost use Rattle.store_statements.specs.Opening.{OpensAgain};
 ghost use Rattle.keep_sql.specs.Reading.{ReadsInside, LeavesInside, edition_in, rows_in};
-ghost use Rattle.keep_sql.specs.Preparing.{KeepsOnErr, IsBare, IsSound, IsPrepared, Prepares, Notes, NotesFirst, NotesInside, NotesStore};
+ghost use Rattle.keep_sql.specs.Preparing.{KeepsOnErr, IsBare, IsSound, IsPrepared, Prepares, Notes, NotesOurs, NotesInside, NotesStore};
 
 use sqlite::{Alter, Connection, Transaction};
 use sqlite_schema::schema::Schema;
@@ -21,7 +21,8 @@ use std::alloc::Global;
 use store_statements::{add_edition, edition_rows, is_ours, make_tables, reopen};
 use store_tables::StoreFault;
 
-const FIRST: u64 = 1;
+// The edition of the rows that this keeper writes.
+const EDITION: u64 = 2;
 
 /// Opens the store of a connection anew, which is given back where that fails. Its rows stay, and a crash leaves what it
 /// could leave before.
@@ -52,21 +53,21 @@ fn is_bare(schema: &Schema) -> bool
 fn make_inside<S: Alter>(tx: &mut Transaction<'_, S>) -> Result<(), StoreFault>
     ensures steps { Steps S.Store tx.old.conn tx.new.conn result }
     ensures makes { HasCleanDisk (state S.Store tx.new.conn.now) → HasTables [] (state S.Store tx.old.conn.now)
-        → OnOk result (IsReady (state S.Store tx.new.conn.now) × AddsEdition (pos 1) nothing (rows_in (state S.Store tx.new.conn.now))) }
+        → OnOk result (IsReady (state S.Store tx.new.conn.now) × AddsEdition (pos 2) nothing (rows_in (state S.Store tx.new.conn.now))) }
 {
     make_tables(tx)?;
-    add_edition(tx, 1)?;
+    add_edition(tx, 2)?;
     Ok(())
 }
 
-// Makes the tables of a store that has none, and notes the first edition, as one transaction.
+// Makes the tables of a store that has none, and notes its edition, as one transaction.
 fn make_store<S: Alter>(conn: &mut Connection<S>) -> Result<(), StoreFault>
     requires idle { conn.old.in_transaction ≡ false }
     ensures idle { conn.new.in_transaction ≡ false }
     ensures made { HasCleanDisk (state S.Store conn.new) → IsBare (state S.Store conn.old)
-        → OnOk result (IsStore (state S.Store conn.new) × AddsEdition (pos 1) nothing (rows_in (state S.Store conn.new))) }
+        → OnOk result (IsStore (state S.Store conn.new) × AddsEdition (pos 2) nothing (rows_in (state S.Store conn.new))) }
     ensures kept { KeepsOnErr S.Store conn.old conn.new result }
-    ensures crash { Survives (state S.Store conn.old) (state S.Store conn.new) (λ db. IsBare (state S.Store conn.old) → AddsEdition (pos 1) nothing (stored db)) }
+    ensures crash { Survives (state S.Store conn.old) (state S.Store conn.new) (λ db. IsBare (state S.Store conn.old) → AddsEdition (pos 2) nothing (stored db)) }
 {
     let _idle = conn.is_autocommit();
     let mut tx = conn.transaction();
@@ -85,7 +86,7 @@ fn noted_inside<S: Alter>(tx: &mut Transaction<'_, S>) -> Result<Option<u64>, St
     store_tables::read_edition(rows.as_slice())
 }
 
-// The edition that is noted; None where none was, after which the first is.
+// The edition that is noted; None where none was, after which ours is.
 fn note_inside<S: Alter>(tx: &mut Transaction<'_, S>) -> Result<Option<u64>, StoreFault>
     ensures steps { Steps S.Store tx.old.conn tx.new.conn result }
     ensures notes { HasCleanDisk (state S.Store tx.new.conn.now) → IsReady (state S.Store tx.old.conn.now)
@@ -94,19 +95,19 @@ fn note_inside<S: Alter>(tx: &mut Transaction<'_, S>) -> Result<Option<u64>, Sto
     if let Some(number) = noted_inside(tx)? {
         return Ok(Some(number));
     }
-    add_edition(tx, 1)?;
+    add_edition(tx, 2)?;
     Ok(None)
 }
 
 // The same as one transaction.
-#[tactic(auto, using(crate::proofs::Noting::first_left))]
+#[tactic(auto, using(crate::proofs::Noting::ours_left))]
 fn found_or_noted<S: Alter>(conn: &mut Connection<S>) -> Result<Option<u64>, StoreFault>
     requires idle { conn.old.in_transaction ≡ false }
     ensures idle { conn.new.in_transaction ≡ false }
     ensures notes { HasCleanDisk (state S.Store conn.new) → IsTrue (state S.Store conn.new).is_open → IsStore (state S.Store conn.old)
         → IfOk result (NotesStore (state S.Store conn.old) (state S.Store conn.new)) }
     ensures kept { KeepsOnErr S.Store conn.old conn.new result }
-    ensures crash { Survives (state S.Store conn.old) (state S.Store conn.new) (λ db. IsStore (state S.Store conn.old) → NotesFirst (state S.Store conn.old) db) }
+    ensures crash { Survives (state S.Store conn.old) (state S.Store conn.new) (λ db. IsStore (state S.Store conn.old) → NotesOurs (state S.Store conn.old) db) }
 {
     let _idle = conn.is_autocommit();
     let mut tx = conn.transaction();
@@ -117,19 +118,19 @@ fn found_or_noted<S: Alter>(conn: &mut Connection<S>) -> Result<Option<u64>, Sto
     Ok(None)
 }
 
-// The edition of a store, which gets the first where none is noted.
-#[tactic(auto, using(crate::proofs::Noting::notes_found, crate::proofs::Noting::notes_first))]
+// The edition of a store, which gets ours where none is noted.
+#[tactic(auto, using(crate::proofs::Noting::notes_found, crate::proofs::Noting::notes_ours))]
 fn note<S: Alter>(conn: &mut Connection<S>) -> Result<u64, StoreFault>
     requires idle { conn.old.in_transaction ≡ false }
     ensures idle { conn.new.in_transaction ≡ false }
     ensures notes { HasCleanDisk (state S.Store conn.new) → IsTrue (state S.Store conn.new).is_open → IsStore (state S.Store conn.old)
         → IfOk result (Notes (state S.Store conn.old) (state S.Store conn.new)) }
     ensures kept { KeepsOnErr S.Store conn.old conn.new result }
-    ensures crash { Survives (state S.Store conn.old) (state S.Store conn.new) (λ db. IsStore (state S.Store conn.old) → NotesFirst (state S.Store conn.old) db) }
+    ensures crash { Survives (state S.Store conn.old) (state S.Store conn.new) (λ db. IsStore (state S.Store conn.old) → NotesOurs (state S.Store conn.old) db) }
 {
     match found_or_noted(conn)? {
         Some(number) => Ok(number),
-        None => Ok(FIRST),
+        None => Ok(EDITION),
     }
 }
 
@@ -139,7 +140,7 @@ fn note<S: Alter>(conn: &mut Connection<S>) -> Result<u64, StoreFault>
 ///
 /// `Failed` where the store has other tables, which stay as they are, where a noted edition doesn't read, or where a
 /// statement was refused for another cause than memory.
-#[tactic(auto, using(crate::proofs::Noting::first_noted, crate::proofs::PrepareLemmas::prepares_none, crate::proofs::PrepareLemmas::left_of_none))]
+#[tactic(auto, using(crate::proofs::Noting::ours_noted, crate::proofs::PrepareLemmas::prepares_none, crate::proofs::PrepareLemmas::left_of_none))]
 pub fn prepare<S: Alter>(conn: &mut Connection<S>) -> Result<u64, StoreFault>
     requires idle { conn.old.in_transaction ≡ false }
     requires sound { HasCleanDisk (state S.Store conn.old) → IsSound (state S.Store conn.old) }
@@ -153,7 +154,7 @@ pub fn prepare<S: Alter>(conn: &mut Connection<S>) -> Result<u64, StoreFault>
 {
     if is_bare(conn.schema()) {
         make_store(conn)?;
-        return Ok(FIRST);
+        return Ok(EDITION);
     }
     if !is_ours(conn.schema()) {
         return Err(StoreFault::Failed);

@@ -10,7 +10,7 @@ use snap_tree::{Attr, same_folded};
 
 const PREFIX: usize = 5;
 
-const NAMES: [&str; 24] = [
+const NAMES: [&str; 25] = [
     "alt",
     "autocomplete",
     "colspan",
@@ -35,6 +35,7 @@ const NAMES: [&str; 24] = [
     "title",
     "type",
     "value",
+    "xml:lang",
 ];
 
 fn is_aria(name: &str) -> bool

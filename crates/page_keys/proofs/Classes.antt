@@ -11,7 +11,6 @@ use Rattle.snap_tree.specs.Spots.{Spot, spot, IsSpotOf, ClimbsBy}
 use Rattle.snap_tree.specs.Trees.{Trees, empty}
 use Rattle.aria_tables.specs.declared.attr.AriaAttr.TheVariants as aria
 use Rattle.acc_tree.specs.Frames.{Frame, frame, frame_html_tag, is_table, above_of}
-use Rattle.acc_tree.specs.Owning.{owned, owned_by}
 use Rattle.acc_tree.specs.References.{found, named_by, reference_words}
 use Rattle.acc_tree.specs.Sights.{Sight, sight_of, IsClimbed}
 use Rattle.page_keys.specs.Keys.{Key, frame_key, own_key, tagged_key, root_numbers, own_at}
@@ -28,9 +27,6 @@ use Rattle.page_keys.proofs.Trails.{trail, trail_at, found_trail, same_trail, sa
 use Rattle.page_keys.proofs.Pages.{root_of}
 use Rattle.page_keys.proofs.Again.{LooksAtPages, tree_again, node_again, subtree_same, sight_same, said_same}
 use Rattle.page_keys.proofs.Referring.{each_same, firsts_same, same_references, SameReferences, labelled_by_same, labels_same}
-
-pub owned_same : LooksAtPages owned node_keys
-owned_same old new po pn n k = ap (λ o. option_map_or (λ (s : Sight). map (λ o. o.node) (owned_by [] s)) o []) (sight_same old new po pn n k)
 
 -- ---- Table
 

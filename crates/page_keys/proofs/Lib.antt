@@ -1,4 +1,5 @@
 pub mod Tests
+pub mod PageTests
 pub mod Stands
 pub mod Agreeing
 pub mod Trails
@@ -6,5 +7,7 @@ pub mod Pages
 pub mod Again
 pub mod Outer
 pub mod Referring
+pub mod Following
 pub mod Classes
+pub mod Taking
 pub mod Looking

@@ -1,15 +1,17 @@
 -- The laws of keys, of what is seen of well pages.
-use Rattle.std.proofs.Common.{false, None}
+use Rattle.std.proofs.Common.{ℕ, List, false, None}
 use Rattle.acc_tree.specs.Inclusion.{exposed, included}
-use Rattle.acc_tree.specs.Owning.{owned}
+use Rattle.aria_tables.specs.declared.role.Role.{Role}
+use Rattle.acc_tree.specs.Owning.{items, owned}
 use Rattle.acc_tree.specs.Pages.{role, explicit_role, is_exposed, is_included, is_decorative}
 use Rattle.acc_tree.specs.Roles.{explicit, role_at, decorative}
 use Rattle.acc_tree.specs.Sights.{sight_of}
 use Rattle.page_keys.specs.Nodes.{self_keys, tree_keys, node_keys}
 use Rattle.page_keys.specs.Classes.{sub_keys, table_keys, title_keys, metas_keys, whole_keys}
-use Rattle.page_keys.specs.Laws.{LooksAt, alone, subtree, table_sight, root_titles, meta_owns, page_at, words_find, labelled_by, labels_at}
+use Rattle.page_keys.specs.Laws.{LooksAt, alone, subtree, table_sight, root_titles, meta_owns, page_at, words_find, labelled_by, labels_at, follows_at, owned_elements}
 use Rattle.page_keys.proofs.Again.{looks, said_same, alone_same, subtree_same, sight_same}
-use Rattle.page_keys.proofs.Classes.{owned_same, table_same, titles_same, metas_same, whole_same, words_same, labelled_same, label_sights_same}
+use Rattle.page_keys.proofs.Classes.{table_same, titles_same, metas_same, whole_same, words_same, labelled_same, label_sights_same}
+use Rattle.page_keys.proofs.Taking.{follows_at_same, elements_same, items_same, owned_same}
 
 pub alone_looks : LooksAt alone self_keys
 alone_looks = looks alone self_keys alone_same
@@ -35,9 +37,6 @@ subtree_looks = looks subtree tree_keys subtree_same
 pub sight_looks : LooksAt sight_of node_keys
 sight_looks = looks sight_of node_keys sight_same
 
-pub owned_looks : LooksAt owned node_keys
-owned_looks = looks owned node_keys owned_same
-
 pub words_look : LooksAt words_find sub_keys
 words_look = looks words_find sub_keys words_same
 
@@ -46,6 +45,18 @@ labelled_looks = looks labelled_by sub_keys labelled_same
 
 pub labels_look : LooksAt labels_at sub_keys
 labels_look = looks labels_at sub_keys label_sights_same
+
+pub follows_look : LooksAt follows_at sub_keys
+follows_look = looks follows_at sub_keys follows_at_same
+
+pub elements_look : (through : List Role) (number : ℕ) → LooksAt (owned_elements through number) sub_keys
+elements_look through number = looks (owned_elements through number) sub_keys (elements_same through number)
+
+pub items_look : (number : ℕ) → LooksAt (λ t n. items t n number) sub_keys
+items_look number = looks (λ t n. items t n number) sub_keys (items_same number)
+
+pub owned_looks : LooksAt owned sub_keys
+owned_looks = looks owned sub_keys owned_same
 
 pub table_looks : LooksAt table_sight table_keys
 table_looks = looks table_sight table_keys table_same

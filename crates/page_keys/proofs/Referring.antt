@@ -45,7 +45,7 @@ TellsBySight f g old new = (m : NodeId) → sight_of old m ≡ sight_of new m �
 abbrev pub SameFound : Trees → Trees → List NodeId → Type 0
 SameFound old new ms = all_same old new (flat_map (node_keys old) ms) ≡ true
 
-found_parts : (old new : Trees) (xs ys : List NodeId) → SameFound old new (xs ++ ys) → SameFound old new xs × SameFound old new ys
+pub found_parts : (old new : Trees) (xs ys : List NodeId) → SameFound old new (xs ++ ys) → SameFound old new xs × SameFound old new ys
 found_parts old new xs ys k = parts old new (flat_map (node_keys old) xs) (flat_map (node_keys old) ys) (sym (ap (all_same old new) (flat_map-append (node_keys old) xs ys)) ∙ k)
 
 found_same : {A : Type 0} (f g : NodeId → A) (old new : Trees) → IsPage old → IsPage new → TellsBySight f g old new → (ms : List NodeId) → SameFound old new ms → map f ms ≡ map g ms
@@ -60,7 +60,7 @@ firsts_same old new (word ∷ words) k =
     let more = firsts_same old new words (second_so (same old new (id_key word)) _ k) in
     λ i. one i ∷ more i
 
-words_same : (old new : Trees) (words : List (List ℕ)) → all_same old new (map id_key words) ≡ true → found old words ≡ found new words
+pub words_same : (old new : Trees) (words : List (List ℕ)) → all_same old new (map id_key words) ≡ true → found old words ≡ found new words
 words_same old new [] k = refl
 words_same old new (word ∷ words) k =
     let one : first_with_id old word ≡ first_with_id new word = agree old new (id_key word) (first_so (same old new (id_key word)) _ k) in
@@ -71,7 +71,7 @@ cons_option-append : {X : Type 0} (o : Option X) (xs ys : List X) → cons_optio
 cons_option-append None xs ys = refl
 cons_option-append (Some x) xs ys = refl
 
-found-append : (t : Trees) (xs ys : List (List ℕ)) → found t (xs ++ ys) ≡ found t xs ++ found t ys
+pub found-append : (t : Trees) (xs ys : List (List ℕ)) → found t (xs ++ ys) ≡ found t xs ++ found t ys
 found-append t [] ys = refl
 found-append t (x ∷ xs) ys = ap (cons_option (first_with_id t x)) (found-append t xs ys) ∙ cons_option-append (first_with_id t x) (found t xs) (found t ys)
 

@@ -20,32 +20,32 @@ use Rattle.acc_tree.specs.Frames.{Frame}
 use Rattle.page_keys.specs.Keys.{Key, frame_key, own_key, kids_key, id_key, label_key, tagged_key, Own, frame_at, own_at, kids_at, Agree}
 use Rattle.page_keys.specs.Same.{same_node, same_attr, same_facts, same_frame, same_own, same, TellsSame}
 
-both : {P Q : Type 0} (a b : Bool) → Decides a P → Decides b Q → Decides (a && b) (P × Q)
+pub both : {P Q : Type 0} (a b : Bool) → Decides a P → Decides b Q → Decides (a && b) (P × Q)
 both a b p q = (λ e. (p.0 (first_so a b e), q.0 (second_so a b e)), λ h. λ i. (p.1 h.0) i && (q.1 h.1) i)
 
-options : {A : Type 0} (E : A → A → Bool) → ((a b : A) → Decides (E a b) (a ≡ b)) → (a b : Option A) → Decides (option_eq E a b) (a ≡ b)
+pub options : {A : Type 0} (E : A → A → Bool) → ((a b : A) → Decides (E a b) (a ≡ b)) → (a b : Option A) → Decides (option_eq E a b) (a ≡ b)
 options E each None None = (λ e. refl, λ e. refl)
 options E each None (Some b) = (λ e. cc, λ e. cc)
 options E each (Some a) None = (λ e. cc, λ e. cc)
 options E each (Some a) (Some b) = (λ e. ap Some ((each a b).0 e), λ e. let inner : a ≡ b = cc in (each a b).1 inner)
 
-nodes : (a b : NodeId) → Decides (same_node a b) (a ≡ b)
+pub nodes : (a b : NodeId) → Decides (same_node a b) (a ≡ b)
 nodes a b = let each = unsigned_Decides a.0 b.0 in (λ e. ap (λ k. record { 0 = k }) (each.0 e), λ e. each.1 (ap (λ n. n.0) e))
 
-attrs : (a b : Attr) → Decides (same_attr a b) (a ≡ b)
+pub attrs : (a b : Attr) → Decides (same_attr a b) (a ≡ b)
 attrs a b =
     let each = both _ _ (bytes_decides a.name b.name) (bytes_decides a.value b.value) in (
       λ e. let h = each.0 e in λ i. record { name = h.0 i; value = h.1 i },
       λ e. each.1 (ap (λ x. x.name) e, ap (λ x. x.value) e),
     )
 
-spaces : (a b : Space) → Decides (sameb space.the_type a b) (a ≡ b)
+pub spaces : (a b : Space) → Decides (sameb space.the_type a b) (a ≡ b)
 spaces a b = (same_true space.the_type (search rules) a b, true_same space.the_type a b)
 
 roles : (a b : Role) → Decides (sameb role.the_type a b) (a ≡ b)
 roles a b = (same_true role.the_type (search rules) a b, true_same role.the_type a b)
 
-facts : (a b : Facts) → Decides (same_facts a b) (a ≡ b)
+pub facts : (a b : Facts) → Decides (same_facts a b) (a ≡ b)
 facts a b =
     let each = both _ _ (booleans_Decides a.rendered b.rendered) (both _ _ (booleans_Decides a.visible b.visible)
     (both _ _ (booleans_Decides a.focusable b.focusable) (booleans_Decides a.tabbable b.tabbable))) in (

@@ -1,5 +1,5 @@
--- What the six classes of rules look at, of a node. Where a class looks at what the whole page has, only the root
--- does, or a `meta`.
+-- What the classes of rules look at of a page's nodes, of a node. Where a class looks at what the whole page has, only
+-- the root does, or a `meta`.
 use Rattle.std.specs.Prelude.{List, [], ◌∷◌, ◌++◌, map, not, codes, Bool, false, if◌then◌else◌, Option, option_map, option_and_then}
 use Rattle.std.specs.List.{flat_map}
 use Rattle.std.specs.Option.{is_some, option_map_or}

@@ -1,5 +1,5 @@
 -- What the laws of keys say.
-use Rattle.std.specs.Prelude.{◌≡◌, List, [], map, codes, true, if◌then◌else◌, Option, option_map, option_and_then}
+use Rattle.std.specs.Prelude.{◌≡◌, ℕ, List, [], map, codes, true, if◌then◌else◌, Option, option_map, option_and_then}
 use Rattle.std.specs.Option.{option_map_or}
 use Rattle.aria_tables.specs.declared.attr.AriaAttr.TheVariants as aria
 use Rattle.snap_tree.specs.declared.row.NodeId.{NodeId}
@@ -8,7 +8,11 @@ use Rattle.snap_tree.specs.Labels.{first_with_id, labels_for}
 use Rattle.snap_tree.specs.Lookups.{tagged}
 use Rattle.snap_tree.specs.Trees.{Trees, empty}
 use Rattle.snap_tree.specs.Well.{IsWell}
+use Rattle.aria_tables.specs.declared.role.Role.{Role}
 use Rattle.acc_tree.specs.declared.above.Above.{Above}
+use Rattle.acc_tree.specs.declared.owning.OwnedElement.{OwnedElement}
+use Rattle.acc_tree.specs.Following.{followed}
+use Rattle.acc_tree.specs.Owning.{owned_by}
 use Rattle.acc_tree.specs.References.{found, named_by, reference_words}
 use Rattle.acc_tree.specs.Seen.{seen}
 use Rattle.acc_tree.specs.Sights.{Sight, sight_of}
@@ -67,3 +71,13 @@ labelled_by t n = option_map_or (λ s. map (sight_of t) (found t (named_by aria.
 -- the sights of its labels
 abbrev pub labels_at : Trees → NodeId → List (Option Sight)
 labels_at t n = map (sight_of t) (labels_for t n)
+
+-- the sights of the nodes that it follows by aria-owns
+abbrev pub follows_at : Trees → NodeId → List Sight
+follows_at t n = option_map_or (λ s. followed t s.row) (sight_of t n) []
+
+-- ---- what is owned
+
+-- what a node owns where these roles are looked through and one may follow so many times
+abbrev pub owned_elements : List Role → ℕ → Trees → NodeId → List OwnedElement
+owned_elements through number t n = option_map_or (owned_by through t number) (sight_of t n) []

@@ -1,5 +1,6 @@
 pub mod Keys
 pub mod Same
+pub mod PageKeys
 pub mod Nodes
 pub mod References
 pub mod Classes

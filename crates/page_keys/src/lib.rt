@@ -5,5 +5,6 @@
 mod laws;
 
 pub use laws::{
-    laws_of_classes, laws_of_keys, laws_of_nodes, laws_of_references, laws_of_subtrees,
+    laws_of_classes, laws_of_keys, laws_of_nodes, laws_of_owning, laws_of_references,
+    laws_of_subtrees,
 };

@@ -11,7 +11,7 @@ use Rattle.snap_tree.specs.Trees.{Trees, Document, rows_of}
 use Rattle.acc_tree.specs.Seen.{seen_row, seen}
 use Rattle.acc_tree.proofs.Finding.{rows_seen}
 use Rattle.rule_core.specs.declared.info.Class.{Class}
-use Rattle.rule_core.specs.declared.info.Class.TheVariants.{SelfOnly, Sub, Table, Title, Metas, Whole}
+use Rattle.rule_core.specs.declared.info.Class.TheVariants.{SelfOnly, Sub, Table, Title, Metas, Whole, Lang, SubLang}
 use Rattle.rule_core.specs.declared.info.RuleInfo.{RuleInfo}
 use Rattle.rule_core.specs.declared.info.RuleNo.{RuleNo}
 use Rattle.rule_core.specs.declared.verdict.Verdict.{Verdict}
@@ -20,11 +20,14 @@ use Rattle.judge_core.specs.declared.judgement.Judgement.{Judgement}
 use Rattle.judge_core.specs.declared.outcomes.OutRow.{OutRow}
 use Rattle.judge_core.specs.Outcomes.{row_of, atomic_row}
 use Rattle.judged_rows.specs.Again.{again}
-use Rattle.page_keys.specs.Keys.{Key}
-use Rattle.page_keys.specs.Same.{same, all_same}
-use Rattle.rule_core.specs.Reach.{class_keys, agrees, is_held, is_affected}
+use Rattle.page_keys.specs.Same.{all_same}
+use Rattle.page_keys.specs.Nodes.{self_keys}
+use Rattle.page_keys.specs.Classes.{sub_keys, table_keys, title_keys, metas_keys, whole_keys}
+use Rattle.page_keys.specs.PageKeys.{PageKey, same_langs, same_in, all_same_in}
+use Rattle.rule_core.specs.Reach.{class_keys, looks_at_langs, looked_at, agrees, is_held, is_affected}
 use Rattle.rule_core.specs.Local.{AreVersions, IsLocal}
 use Rattle.rule_core.proofs.Affecting.{keeps_the_rest}
+use Rattle.rule_core.proofs.Targets.{agree_is}
 use Rattle.page_changes.specs.declared.flags.Flags.{Flags}
 use Rattle.page_changes.specs.Flags.{flags_of}
 use Rattle.reaudit.specs.declared.known.Known.{Known}
@@ -33,16 +36,22 @@ use Rattle.reaudit.specs.Before.{joined, kept_at, WereRows}
 
 -- ---- classes
 
-class_is : (old new : Trees) (n : NodeId) (class : Class) → class_flag class (flags_of old new n) ≡ all_same old new (class_keys class old n)
-unfolding class_keys
-class_is old new n SelfOnly = refl
-class_is old new n Sub = refl
-class_is old new n Table = refl
-class_is old new n Title = refl
-class_is old new n Metas = refl
-class_is old new n Whole = refl
+and_true : (b : Bool) → b ≡ (b && true)
+and_true true = refl
+and_true false = refl
 
-if_keys : (old new : Trees) (b : Bool) (keys : List Key) → (if b then all_same old new keys else true) ≡ all_same old new (if b then keys else [])
+class_is : (langs : Bool) (old new : Trees) (n : NodeId) (class : Class) → class_flag langs class (flags_of old new n) ≡ (all_same old new (class_keys class old n) && (if looks_at_langs class then langs else true))
+unfolding class_keys
+class_is langs old new n SelfOnly = and_true (all_same old new (self_keys old n))
+class_is langs old new n Sub = and_true (all_same old new (sub_keys old n))
+class_is langs old new n Table = and_true (all_same old new (table_keys old n))
+class_is langs old new n Title = and_true (all_same old new (title_keys old n))
+class_is langs old new n Metas = and_true (all_same old new (metas_keys old n))
+class_is langs old new n Whole = and_true (all_same old new (whole_keys old n))
+class_is langs old new n Lang = refl
+class_is langs old new n SubLang = refl
+
+if_keys : (old new : Document) (b : Bool) (keys : List PageKey) → (if b then all_same_in old new keys else true) ≡ all_same_in old new (if b then keys else [])
 if_keys old new true keys = refl
 if_keys old new false keys = refl
 
@@ -142,21 +151,24 @@ some_copied (Some x) = refl
 
 -- ---- what has to be judged is affected, and nothing else
 
-pub judged_here : (book : Book) (info : RuleInfo) (old new : Document) (js : List Judgement) (n : NodeId) (known : Option Known) → known ≡ known_of old new n
-    → (row : Option (Bor OutRow)) → IfSome known (λ k. option_copied row ≡ atomic_row book old js info.no n) → has_to_judge info known (is_some row) ≡ is_affected info (book.means info.no) old new n
-judged_here book info old new js n known e row had = by_known known e (ap is_some e ∙ held_is old new n) had
+pub judged_here : (book : Book) (info : RuleInfo) (old new : Document) (js : List Judgement) (n : NodeId) (langs : Bool) → langs ≡ same_langs old.langs new.langs → (known : Option Known) → known ≡ known_of old new n
+    → (row : Option (Bor OutRow)) → IfSome known (λ k. option_copied row ≡ atomic_row book old js info.no n) → has_to_judge info langs known (is_some row) ≡ is_affected info (book.means info.no) old new n
+judged_here book info old new js n langs same known e row had = by_known known e (ap is_some e ∙ held_is old new n) had
   where
     by_known : (o : Option Known) → o ≡ known_of old new n → is_some o ≡ is_held old n → IfSome o (λ k. option_copied row ≡ atomic_row book old js info.no n)
-        → has_to_judge info o (is_some row) ≡ (not (is_held old n) || not (agrees info (book.means info.no) old new n))
+        → has_to_judge info langs o (is_some row) ≡ (not (is_held old n) || not (agrees info (book.means info.no) old new n))
     by_known None e h r = ap (λ b. not b || not (agrees info (book.means info.no) old new n)) h
     by_known (Some known) e h r =
         let is = is_known old new n (λ m. m) known (sym e) in
         let target : is_some row ≡ is_some ((book.means info.no) old n) = some_copied row ∙ ap is_some r ∙ had_row book old js info.no n in
-        let class : (class : Class) → class_flag class known.flags ≡ all_same (seen old.trees) (seen new.trees) (class_keys class (seen old.trees) n) = λ class. ap (class_flag class) is.flags ∙ class_is (seen old.trees) (seen new.trees) n class in
-        let parts : (class_flag info.applies known.flags && (if is_some row then class_flag info.expects known.flags else true)) ≡ agrees info (book.means info.no) old new n =
+        let class : (class : Class) → class_flag langs class known.flags ≡ all_same_in old new (looked_at class old n) = λ class.
+        ap (class_flag langs class) is.flags ∙ class_is langs (seen old.trees) (seen new.trees) n class
+        ∙ ap (λ b. all_same (seen old.trees) (seen new.trees) (class_keys class (seen old.trees) n) && (if looks_at_langs class then b else true)) same
+        ∙ sym (agree_is class old new n) in
+        let parts : (class_flag langs info.applies known.flags && (if is_some row then class_flag langs info.expects known.flags else true)) ≡ agrees info (book.means info.no) old new n =
         (λ i. class info.applies i && (if target i then class info.expects i else true))
-        ∙ ap (λ b. all_same (seen old.trees) (seen new.trees) (class_keys info.applies (seen old.trees) n) && b) (if_keys (seen old.trees) (seen new.trees) (is_some ((book.means info.no) old n)) (class_keys info.expects (seen old.trees) n))
-        ∙ sym (list_all-append (same (seen old.trees) (seen new.trees)) (class_keys info.applies (seen old.trees) n) (if is_some ((book.means info.no) old n) then class_keys info.expects (seen old.trees) n else [])) in
+        ∙ ap (λ b. all_same_in old new (looked_at info.applies old n) && b) (if_keys old new (is_some ((book.means info.no) old n)) (looked_at info.expects old n))
+        ∙ sym (list_all-append (same_in old new) (looked_at info.applies old n) (if is_some ((book.means info.no) old n) then looked_at info.expects old n else [])) in
         ap not parts ∙ ap (λ b. not b || not (agrees info (book.means info.no) old new n)) h
 
 -- a row under other judgements
@@ -165,11 +177,11 @@ row_anew rule n earlier js None = refl
 row_anew rule n earlier js (Some v) = refl
 
 -- where a node need not be judged, the row that it had is the one that it has, under whatever judgements
-pub kept_here : (book : Book) (info : RuleInfo) → IsLocal info (book.means info.no) → (old new : Document) → AreVersions old new → (earlier js : List Judgement) (n : NodeId) (known : Option Known) → known ≡ known_of old new n
-    → (row : Option (Bor OutRow)) → IfSome known (λ k. option_copied row ≡ atomic_row book old earlier info.no n) → has_to_judge info known (is_some row) ≡ false → option_map (again js) (option_copied row) ≡ atomic_row book new js info.no n
-kept_here book info local old new versions earlier js n known e row had off = by_known known had off (sym (judged_here book info old new earlier n known e row had) ∙ off)
+pub kept_here : (book : Book) (info : RuleInfo) → IsLocal info (book.means info.no) → (old new : Document) → AreVersions old new → (earlier js : List Judgement) (n : NodeId) (langs : Bool) → langs ≡ same_langs old.langs new.langs → (known : Option Known) → known ≡ known_of old new n
+    → (row : Option (Bor OutRow)) → IfSome known (λ k. option_copied row ≡ atomic_row book old earlier info.no n) → has_to_judge info langs known (is_some row) ≡ false → option_map (again js) (option_copied row) ≡ atomic_row book new js info.no n
+kept_here book info local old new versions earlier js n langs same known e row had off = by_known known had off (sym (judged_here book info old new earlier n langs same known e row had) ∙ off)
   where
-    by_known : (o : Option Known) → IfSome o (λ k. option_copied row ≡ atomic_row book old earlier info.no n) → has_to_judge info o (is_some row) ≡ false → is_affected info (book.means info.no) old new n ≡ false
+    by_known : (o : Option Known) → IfSome o (λ k. option_copied row ≡ atomic_row book old earlier info.no n) → has_to_judge info langs o (is_some row) ≡ false → is_affected info (book.means info.no) old new n ≡ false
         → option_map (again js) (option_copied row) ≡ atomic_row book new js info.no n
     by_known None r off unaffected = cc
     by_known (Some k) r off unaffected =

@@ -8,3 +8,5 @@ mod Reaching
 mod Along
 pub mod Marking
 mod Live
+pub mod SameRows
+pub mod ListChanges

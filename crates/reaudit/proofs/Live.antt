@@ -32,7 +32,7 @@ use Rattle.reaudit.proofs.Reaching.{placed_known, some_known, quiet_none, rows_k
 had_none : (book : Book) (rule : RuleNo) (old new : Document) (earlier : List Judgement) (marks : List Bool) (own : List OutRow) → own ≡ atomic_rows book old earlier rule → AreMarked marks own
     → (p : Placed) → p ≡ placed_of old new p.node → is_live marks p ≡ false → atomic_row book old earlier rule p.node ≡ None
 had_none book rule old new earlier marks own is all p placed off =
-    let parts = neither (not (is_settled p.known)) (is_marked marks p.node) off in
+    let parts = neither (not (is_settled p.langs p.known)) (is_marked marks p.node) off in
     by_known p.known (ap (λ (p : Placed). p.known) placed) parts.0 parts.1
   where
     by_row : (o : Option OutRow) → atomic_row book old earlier rule p.node ≡ o → IfSome o (λ row. row.node ≡ p.node) → (place : ℕ)
@@ -42,7 +42,7 @@ had_none book rule old new earlier marks own is all p placed off =
         let marked : is_marked marks row.node ≡ true = marked_at marks (λ (r : Row). atomic_row book old earlier rule r.id) (rows_of old.trees) place row (subst (AreMarked marks) is all) (at ∙ ap (λ (o : Option OutRow). Some o) e) in
         let never : true ≡ false = sym marked ∙ ap (is_marked marks) on ∙ unmarked in cc
 
-    by_known : (o : Option Known) → o ≡ known_of old new p.node → not (is_settled o) ≡ false → is_marked marks p.node ≡ false → atomic_row book old earlier rule p.node ≡ None
+    by_known : (o : Option Known) → o ≡ known_of old new p.node → not (is_settled p.langs o) ≡ false → is_marked marks p.node ≡ false → atomic_row book old earlier rule p.node ≡ None
     by_known None e settled unmarked = cc
     by_known (Some k) e settled unmarked =
         by_row (atomic_row book old earlier rule p.node) refl (on_own book old earlier rule p.node) k.place (is_known old new p.node (atomic_row book old earlier rule) k (sym e)).value unmarked
@@ -56,7 +56,7 @@ has_none : (book : Book) (info : RuleInfo) → IsLocal info (book.means info.no)
     → (p : Placed) → p ≡ placed_of old new p.node → is_live marks p ≡ false → atomic_row book new js info.no p.node ≡ None
 has_none book info local old new versions earlier js marks own is all p placed off =
     let none = had_none book info.no old new earlier marks own is all p placed off in
-    quiet_none book info local old new versions earlier js p.node p.known (ap (λ (p : Placed). p.known) placed) None (had_each p.known (sym none)) (quiet (is_settled p.known) (neither (not (is_settled p.known)) (is_marked marks p.node) off).0)
+    quiet_none book info local old new versions earlier js p.node p.langs (ap (λ (p : Placed). p.langs) placed) p.known (ap (λ (p : Placed). p.known) placed) None (had_each p.known (sym none)) (quiet (is_settled p.langs p.known) (neither (not (is_settled p.langs p.known)) (is_marked marks p.node) off).0)
 
 -- ---- so only those are gone over
 

@@ -6,7 +6,7 @@ use Rattle.snap_tree.specs.declared.row.NodeId.{NodeId}
 use Rattle.snap_tree.specs.declared.row.Row.{Row}
 use Rattle.snap_tree.specs.Trees.{Document, rows_of}
 use Rattle.rule_core.specs.declared.info.Class.{Class}
-use Rattle.rule_core.specs.declared.info.Class.TheVariants.{SelfOnly, Sub, Table, Title, Metas, Whole}
+use Rattle.rule_core.specs.declared.info.Class.TheVariants.{SelfOnly, Sub, Table, Title, Metas, Whole, Lang, SubLang}
 use Rattle.rule_core.specs.declared.info.RuleInfo.{RuleInfo}
 use Rattle.rule_core.specs.declared.info.RuleNo.{RuleNo}
 use Rattle.rule_core.specs.Books.{Book}
@@ -14,6 +14,7 @@ use Rattle.rule_core.specs.Local.{AreVersions, IsLocal}
 use Rattle.judge_core.specs.declared.judgement.Judgement.{Judgement}
 use Rattle.judge_core.specs.declared.outcomes.OutRow.{OutRow}
 use Rattle.judge_core.specs.Outcomes.{atomic_row, atomic_rows}
+use Rattle.page_keys.specs.PageKeys.{same_langs}
 use Rattle.reaudit.specs.declared.known.Known.{Known}
 use Rattle.reaudit.specs.declared.known.Placed.{Placed}
 use Rattle.reaudit.specs.Known.{placed_of, known_of, ArePlaced, class_flag, has_to_judge}
@@ -40,7 +41,7 @@ some_known old new test (p ∷ placed) each = by_test (test p) (some_known old n
     by_test false h = h
 
 pub reached_known : (old new : Document) (placed : List Placed) → AreKnown old new placed → AreKnown old new (reached_by placed)
-reached_known old new placed each = some_known old new (λ p. not (is_settled p.known)) placed each
+reached_known old new placed each = some_known old new (λ p. not (is_settled p.langs p.known)) placed each
 
 pub known_at : (old new : Document) (some : List Placed) → AreKnown old new some → (i : ℕ) (d : Placed) → i < length some → get_or some i d ≡ placed_of old new (get_or some i d).node
 known_at old new [] each i d h = let none : ⊥ = omega (arith, h) in absurd none
@@ -91,40 +92,43 @@ both : (a b : Bool) → (a && b) ≡ true → (a ≡ true) × (b ≡ true)
 both true b h = (refl, h)
 both false b h = cc
 
-each_flag : (class : Class) (k : Known) → is_settled (Some k) ≡ true → class_flag class k.flags ≡ true
-each_flag class k h =
-    let a = both k.flags.itself _ h in
+each_flag : (langs : Bool) (class : Class) (k : Known) → is_settled langs (Some k) ≡ true → class_flag langs class k.flags ≡ true
+each_flag langs class k h =
+    let l = both langs _ h in
+    let a = both k.flags.itself _ l.1 in
     let b = both k.flags.sub _ a.1 in
     let c = both k.flags.table _ b.1 in
     let d = both k.flags.title _ c.1 in
     let e = both k.flags.metas k.flags.whole d.1 in
-    by_class class a.0 b.0 c.0 d.0 e.0 e.1
+    by_class class l.0 a.0 b.0 c.0 d.0 e.0 e.1
   where
-    by_class : (class : Class) → k.flags.itself ≡ true → k.flags.sub ≡ true → k.flags.table ≡ true → k.flags.title ≡ true → k.flags.metas ≡ true → k.flags.whole ≡ true → class_flag class k.flags ≡ true
-    by_class SelfOnly a b c d e f = a
-    by_class Sub a b c d e f = b
-    by_class Table a b c d e f = c
-    by_class Title a b c d e f = d
-    by_class Metas a b c d e f = e
-    by_class Whole a b c d e f = f
+    by_class : (class : Class) → langs ≡ true → k.flags.itself ≡ true → k.flags.sub ≡ true → k.flags.table ≡ true → k.flags.title ≡ true → k.flags.metas ≡ true → k.flags.whole ≡ true → class_flag langs class k.flags ≡ true
+    by_class SelfOnly l a b c d e f = a
+    by_class Sub l a b c d e f = b
+    by_class Table l a b c d e f = c
+    by_class Title l a b c d e f = d
+    by_class Metas l a b c d e f = e
+    by_class Whole l a b c d e f = f
+    by_class Lang l a b c d e f = λ i. a i && l i
+    by_class SubLang l a b c d e f = λ i. b i && l i
 
-settled_off : (info : RuleInfo) (known : Option Known) → is_settled known ≡ true → has_to_judge info known false ≡ false
-settled_off info None h = cc
-settled_off info (Some k) h = ap (λ b. not (b && true)) (each_flag info.applies k h)
+settled_off : (info : RuleInfo) (langs : Bool) (known : Option Known) → is_settled langs known ≡ true → has_to_judge info langs known false ≡ false
+settled_off info langs None h = cc
+settled_off info langs (Some k) h = ap (λ b. not (b && true)) (each_flag langs info.applies k h)
 
 -- so a rule without rows has none where the edit doesn't reach
 pub settled_none : (book : Book) (info : RuleInfo) → IsLocal info (book.means info.no) → (old new : Document) → AreVersions old new → (earlier js : List Judgement) → [] ≡ atomic_rows book old earlier info.no
-    → (p : Placed) → p ≡ placed_of old new p.node → is_settled p.known ≡ true → atomic_row book new js info.no p.node ≡ None
+    → (p : Placed) → p ≡ placed_of old new p.node → is_settled p.langs p.known ≡ true → atomic_row book new js info.no p.node ≡ None
 settled_none book info local old new versions earlier js h p is settled =
-    sym (kept_here book info local old new versions earlier js p.node p.known (ap (λ (p : Placed). p.known) is) None (none_had book old new earlier info.no h p is) (settled_off info p.known settled))
+    sym (kept_here book info local old new versions earlier js p.node p.langs (ap (λ (p : Placed). p.langs) is) p.known (ap (λ (p : Placed). p.known) is) None (none_had book old new earlier info.no h p is) (settled_off info p.langs p.known settled))
 
 -- nor has it one on a node that had none, where the edit doesn't reach
-pub quiet_none : (book : Book) (info : RuleInfo) → IsLocal info (book.means info.no) → (old new : Document) → AreVersions old new → (earlier js : List Judgement) (n : NodeId) (known : Option Known) → known ≡ known_of old new n
-    → (row : Option (Bor OutRow)) → IfSome known (λ k. option_copied row ≡ atomic_row book old earlier info.no n) → (is_settled known && not (is_some row)) ≡ true → atomic_row book new js info.no n ≡ None
-quiet_none book info local old new versions earlier js n known e None had quiet =
-    sym (kept_here book info local old new versions earlier js n known e None had (settled_off info known (both (is_settled known) true quiet).0))
-quiet_none book info local old new versions earlier js n known e (Some row) had quiet =
-    let never = (both (is_settled known) false quiet).1 in cc
+pub quiet_none : (book : Book) (info : RuleInfo) → IsLocal info (book.means info.no) → (old new : Document) → AreVersions old new → (earlier js : List Judgement) (n : NodeId) (langs : Bool) → langs ≡ same_langs old.langs new.langs → (known : Option Known) → known ≡ known_of old new n
+    → (row : Option (Bor OutRow)) → IfSome known (λ k. option_copied row ≡ atomic_row book old earlier info.no n) → (is_settled langs known && not (is_some row)) ≡ true → atomic_row book new js info.no n ≡ None
+quiet_none book info local old new versions earlier js n langs same known e None had quiet =
+    sym (kept_here book info local old new versions earlier js n langs same known e None had (settled_off info langs known (both (is_settled langs known) true quiet).0))
+quiet_none book info local old new versions earlier js n langs same known e (Some row) had quiet =
+    let never = (both (is_settled langs known) false quiet).1 in cc
 
 -- ---- so only those are gone over
 
@@ -143,16 +147,16 @@ turned : (b : Bool) → not b ≡ false → b ≡ true
 turned true h = refl
 turned false h = cc
 
-pub rows_reached : (f : NodeId → Option OutRow) (old new : Document) (placed : List Placed) → AreKnown old new placed → ((p : Placed) → p ≡ placed_of old new p.node → is_settled p.known ≡ true → f p.node ≡ None)
+pub rows_reached : (f : NodeId → Option OutRow) (old new : Document) (placed : List Placed) → AreKnown old new placed → ((p : Placed) → p ≡ placed_of old new p.node → is_settled p.langs p.known ≡ true → f p.node ≡ None)
     → filter_map (λ (p : Placed). f p.node) (reached_by placed) ≡ filter_map (λ (p : Placed). f p.node) placed
-rows_reached f old new placed each none = rows_kept f old new (λ p. not (is_settled p.known)) placed each (λ p is off. none p is (turned (is_settled p.known) off))
+rows_reached f old new placed each none = rows_kept f old new (λ p. not (is_settled p.langs p.known)) placed each (λ p is off. none p is (turned (is_settled p.langs p.known) off))
 
 -- those that the edit reaches are among the live ones
 pub reached_live : (marks : List Bool) (placed : List Placed) → reached_by (live_by marks placed) ≡ reached_by placed
 reached_live marks [] = refl
-reached_live marks (p ∷ placed) = by_test (is_settled p.known) refl (is_marked marks p.node) (reached_live marks placed)
+reached_live marks (p ∷ placed) = by_test (is_settled p.langs p.known) refl (is_marked marks p.node) (reached_live marks placed)
   where
-    by_test : (s : Bool) → is_settled p.known ≡ s → (m : Bool) → reached_by (live_by marks placed) ≡ reached_by placed
+    by_test : (s : Bool) → is_settled p.langs p.known ≡ s → (m : Bool) → reached_by (live_by marks placed) ≡ reached_by placed
         → reached_by (if not s || m then p ∷ live_by marks placed else live_by marks placed) ≡ (if not s then p ∷ reached_by placed else reached_by placed)
     by_test false e m h = ap (λ b. if not b then p ∷ reached_by (live_by marks placed) else reached_by (live_by marks placed)) e ∙ ap (λ l. p ∷ l) h
     by_test true e true h = ap (λ b. if not b then p ∷ reached_by (live_by marks placed) else reached_by (live_by marks placed)) e ∙ h

@@ -1,5 +1,5 @@
 -- What is known of each node of a page, by its number.
-use Rattle.std.specs.Prelude.{◌≡◌, ◌==◌, ℕ, List, if◌then◌else◌, slice_get, Option, Some, None}
+use Rattle.std.specs.Prelude.{◌≡◌, ◌==◌, ℕ, List, Bool, if◌then◌else◌, slice_get, Option, Some, None}
 use Rattle.std.specs.BTreeMap.{BTreeMap, get}
 use Rattle.std.specs.Option.{option_or}
 use Rattle.std.specs.Ordering.{nat_cmp}
@@ -30,5 +30,5 @@ HasPut old new known = (n : ℕ) → at new n ≡ option_or (at old n) (if known
 abbrev pub PutsFar : BTreeMap ℕ Known → BTreeMap ℕ Known → Known → Type 0
 PutsFar old new known = (n : ℕ) → get nat_cmp new n ≡ option_or (get nat_cmp old n) (if known.flags.node.0 == n then Some known else None)
 
-abbrev pub placed_by : ByNumber → NodeId → Placed
-placed_by by_number n = record { node = n; known = at by_number n.0 }
+abbrev pub placed_by : ByNumber → Bool → NodeId → Placed
+placed_by by_number langs n = record { node = n; known = at by_number n.0; langs = langs }

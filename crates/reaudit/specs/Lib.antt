@@ -5,3 +5,5 @@ pub mod Costs
 pub mod Marks
 pub mod Nodes
 pub mod Again
+pub mod SameRows
+pub mod Relisted

@@ -15,6 +15,7 @@ ghost use Rattle.reaudit.specs.Nodes.{AreNodes, is_settled};
 use crate::before::{row_before, rows_before};
 use crate::known::{Known, Placed, well};
 use crate::nodes::{Nodes, is_settled};
+use crate::relisted::rows_again;
 use judge_core::OutRow;
 use judged_rows::{ByNode, after, head_on, row_again, row_of};
 use page_changes::Flags;
@@ -23,7 +24,7 @@ use snap_tree::{List, NodeId, OutOfMemory, Tree};
 use std::alloc::Global;
 
 // Adds the row of a rule on a node, which is judged, where there is one.
-fn add_judged<B: RuleBook>(
+pub(crate) fn add_judged<B: RuleBook>(
     rows: &mut Vec<OutRow>,
     alloc: Global,
     book: &mut B,
@@ -43,7 +44,7 @@ fn add_judged<B: RuleBook>(
 }
 
 // Adds the row that a node had, where it had one, with its final outcome anew.
-fn add_kept(
+pub(crate) fn add_kept(
     rows: &mut Vec<OutRow>,
     alloc: Global,
     row: Option<&OutRow>,
@@ -58,8 +59,8 @@ fn add_kept(
     Ok(())
 }
 
-fn class_flag(class: Class, flags: Flags) -> bool
-    ensures { result ≡ class_flag class flags }
+fn class_flag(langs: bool, class: Class, flags: Flags) -> bool
+    ensures { result ≡ class_flag langs class flags }
 {
     match class {
         Class::SelfOnly => flags.itself,
@@ -68,16 +69,18 @@ fn class_flag(class: Class, flags: Flags) -> bool
         Class::Title => flags.title,
         Class::Metas => flags.metas,
         Class::Whole => flags.whole,
+        Class::Lang => flags.itself & langs,
+        Class::SubLang => flags.sub & langs,
     }
 }
 
-fn has_to_judge(info: &RuleInfo, known: Option<Known>, target: bool) -> bool
-    ensures { result ≡ has_to_judge info.now known target }
+fn has_to_judge(info: &RuleInfo, langs: bool, known: Option<Known>, target: bool) -> bool
+    ensures { result ≡ has_to_judge info.now langs known target }
 {
     match known {
         Some(known) => {
-            !(class_flag(info.applies, known.flags)
-                && (!target || class_flag(info.expects, known.flags)))
+            !(class_flag(langs, info.applies, known.flags)
+                && (!target || class_flag(langs, info.expects, known.flags)))
         }
         None => true,
     }
@@ -101,7 +104,7 @@ fn add_either<B: RuleBook>(
         (B.calls book.old) (B.calls book.new) }
     ensures within { B.calls book.new ≤ B.calls book.old + 1 }
 {
-    if has_to_judge(info, placed.known, row.is_some()) {
+    if has_to_judge(info, placed.langs, placed.known, row.is_some()) {
         add_judged(rows, alloc, book, new, by_node, info.no, placed.node)
     } else {
         add_kept(rows, alloc, row, by_node)
@@ -109,10 +112,10 @@ fn add_either<B: RuleBook>(
 }
 
 // Whether a node had no row, and the edit doesn't reach it: so it has none. Most nodes are so.
-fn is_quiet(known: Option<Known>, had: bool) -> bool
-    ensures { result ≡ (is_settled known && not had) }
+fn is_quiet(placed: Placed, had: bool) -> bool
+    ensures { result ≡ (is_settled placed.langs placed.known && not had) }
 {
-    is_settled(known) & !had
+    is_settled(placed.langs, placed.known) & !had
 }
 
 // Adds the row of a rule on a node of the new page, where there is one.
@@ -132,7 +135,7 @@ fn add_found<B: RuleBook>(
         (B.calls book.old) (B.calls book.new) }
     ensures within { B.calls book.new ≤ B.calls book.old + 1 }
 {
-    if is_quiet(placed.known, row.is_some()) {
+    if is_quiet(placed, row.is_some()) {
         return Ok(());
     }
     add_either(rows, alloc, book, info, new, row, by_node, placed)
@@ -286,7 +289,8 @@ fn rows_by_none<B: RuleBook>(
 /// page, under whatever judgements those are. The rule judges at most the nodes of the new page on which the edit
 /// affects it; and where the rows aren't those of the old page, never more than the nodes of the new page. Only the nodes
 /// are gone over that the edit reaches, and, where the rule had rows, those that are marked, as the nodes of these rows
-/// must be. Fails only for want of memory.
+/// must be; and where the pages differ in their lists of language subtags alone, those of the rows, unless the rule's
+/// applicability looks at the list. Fails only for want of memory.
 pub fn atomic_again<B: RuleBook>(
     alloc: Global,
     book: &mut B,
@@ -306,6 +310,10 @@ pub fn atomic_again<B: RuleBook>(
     ensures counted { CostsAgain B.book info.now old.now new.now rows.now (B.calls book.old) (B.calls book.new) }
     ensures within { B.calls book.new ≤ B.calls book.old + node_count new.now }
 {
+    if nodes.relisted && !info.applies.looks_at_langs() {
+        let again = rows_again(alloc, book, info, old, new, rows, by_node)?;
+        return Ok(List::from_vec(again));
+    }
     if rows.is_empty() {
         let again = rows_by_none(alloc, book, info, old, new, nodes, by_node)?;
         return Ok(List::from_vec(again));

@@ -1,13 +1,16 @@
-ghost use Rattle.std.specs.Prelude.{◌≡◌, map, IfOk};
+ghost use Rattle.std.specs.Prelude.{◌≡◌, map, IfOk, IsTrue};
 ghost use Rattle.snap_tree.specs.Well.{IsWell};
 ghost use Rattle.acc_tree.specs.Seen.{seen};
+ghost use Rattle.page_keys.specs.PageKeys.{same_langs};
 ghost use Rattle.page_changes.specs.Flags.{AreFlags};
 ghost use Rattle.reaudit.specs.ByNumber.{placed_by};
 ghost use Rattle.reaudit.specs.Known.{ArePlaced, in_order, same_nodes};
+ghost use Rattle.reaudit.specs.Relisted.{AreRelisted};
 
 use crate::by_number::{ByNumber, by_number, found};
+use crate::relisted::all_agreeing;
 use page_changes::{Flags, changes};
-use snap_tree::{NodeId, OutOfMemory, Row, Tree};
+use snap_tree::{List, NodeId, OutOfMemory, Row, Text, Tree};
 use std::alloc::Global;
 
 /// What is known of a node of the old page: its place in document order, from 0, and what of it is the same.
@@ -22,16 +25,31 @@ pub struct Known {
 pub struct Placed {
     pub node: NodeId,
     pub known: Option<Known>,
+    /// Whether the two pages have the same list of language subtags.
+    pub langs: bool,
 }
 
-fn place_all(alloc: Global, by_number: &ByNumber, rows: &[Row]) -> Result<Vec<Placed>, OutOfMemory>
-    ensures { IfOk result (λ placed. placed.items ≡ map (λ row. placed_by by_number.now row.id) rows.now) }
+/// Whether two lists of language subtags are the same.
+pub(crate) fn same_langs(old: &List<Text>, new: &List<Text>) -> bool
+    ensures { result ≡ same_langs old.now new.now }
+{
+    *old == *new
+}
+
+fn place_all(
+    alloc: Global,
+    by_number: &ByNumber,
+    langs: bool,
+    rows: &[Row],
+) -> Result<Vec<Placed>, OutOfMemory>
+    ensures { IfOk result (λ placed. placed.items ≡ map (λ row. placed_by by_number.now langs row.id) rows.now) }
 {
     let mut placed = Vec::with_capacity(alloc, rows.len())?;
     for row in rows {
         placed.push(Placed {
             node: row.id,
             known: found(by_number, row.id),
+            langs,
         })?;
     }
     Ok(placed)
@@ -59,8 +77,8 @@ pub(crate) fn same_nodes(old: &[Row], new: &[Row]) -> bool
 }
 
 // The nodes of these flags, in their order.
-fn place_in_order(alloc: Global, list: &[Flags]) -> Result<Vec<Placed>, OutOfMemory>
-    ensures { IfOk result (λ placed. placed.items ≡ in_order 0 list.now) }
+fn place_in_order(alloc: Global, langs: bool, list: &[Flags]) -> Result<Vec<Placed>, OutOfMemory>
+    ensures { IfOk result (λ placed. placed.items ≡ in_order langs 0 list.now) }
 {
     let mut placed = Vec::with_capacity(alloc, list.len())?;
     let mut rest = list;
@@ -72,6 +90,7 @@ fn place_in_order(alloc: Global, list: &[Flags]) -> Result<Vec<Placed>, OutOfMem
                 place,
                 flags: *flags,
             }),
+            langs,
         })?;
         place += 1;
         rest = later;
@@ -86,15 +105,46 @@ pub(crate) fn well(tree: &Tree)
     let _rows = tree.rows();
 }
 
+// What of each node of the old page is the same; where it is known that all is, the nodes aren't compared.
+fn flags_between(
+    alloc: Global,
+    old: &Tree,
+    new: &Tree,
+    relisted: bool,
+) -> Result<Vec<Flags>, OutOfMemory>
+    requires { IsTrue relisted → AreRelisted old.now new.now }
+    ensures { IfOk result (λ flags. AreFlags (seen old.now.trees) (seen new.now.trees) flags.items) }
+{
+    if relisted {
+        all_agreeing(alloc, old.rows())
+    } else {
+        changes(alloc, old, new)
+    }
+}
+
 /// The nodes of the new page in document order, with what is known of each. Fails only for want of memory.
 pub fn known_nodes(alloc: Global, old: &Tree, new: &Tree) -> Result<Vec<Placed>, OutOfMemory>
     ensures { IfOk result (λ placed. ArePlaced old.now new.now placed.items) }
 {
+    placed_nodes(alloc, old, new, false)
+}
+
+/// The same, where it may be known that the pages differ in their lists of language subtags alone.
+pub(crate) fn placed_nodes(
+    alloc: Global,
+    old: &Tree,
+    new: &Tree,
+    relisted: bool,
+) -> Result<Vec<Placed>, OutOfMemory>
+    requires { IsTrue relisted → AreRelisted old.now new.now }
+    ensures { IfOk result (λ placed. ArePlaced old.now new.now placed.items) }
+{
     well(old);
-    let flags = changes(alloc, old, new)?;
+    let langs = same_langs(old.langs(), new.langs());
+    let flags = flags_between(alloc, old, new, relisted)?;
     if same_nodes(old.rows(), new.rows()) {
-        return place_in_order(alloc, flags.as_slice());
+        return place_in_order(alloc, langs, flags.as_slice());
     }
     let by_number = by_number(alloc, flags.as_slice())?;
-    place_all(alloc, &by_number, new.rows())
+    place_all(alloc, &by_number, langs, new.rows())
 }

@@ -9,6 +9,8 @@ mod edited;
 mod known;
 mod marks;
 mod nodes;
+mod relisted;
+mod same_rows;
 
 pub use again::atomic_again;
 pub use audit::{PageWork, after_judgement, audit_page, audit_pages};

@@ -1,10 +1,12 @@
-ghost use Rattle.std.specs.Prelude.{◌≡◌, IfOk};
+ghost use Rattle.std.specs.Prelude.{◌≡◌, ◌&&◌, IfOk};
 ghost use Rattle.reaudit.specs.Marks.{AreMarked};
 ghost use Rattle.reaudit.specs.Nodes.{is_live, is_settled, live_by, reached_by, AreNodes};
 
-use crate::known::{Known, Placed, known_nodes, same_nodes};
+use crate::known::{Known, Placed, placed_nodes, same_nodes};
 use crate::marks::{is_marked, marks_of};
+use crate::relisted::is_relisted;
 use judge_core::OutRow;
+use page_changes::Flags;
 use snap_tree::{OutOfMemory, Tree};
 use std::alloc::Global;
 
@@ -21,17 +23,22 @@ pub struct Nodes {
     pub live: Vec<Placed>,
     /// Whether the pages hold the same nodes, in the same order.
     pub in_order: bool,
+    /// Whether the pages are known to differ in their lists of language subtags alone.
+    pub relisted: bool,
+}
+
+fn all_agree(flags: Flags) -> bool
+    ensures { result ≡ flags.itself && (flags.sub && (flags.table && (flags.title && (flags.metas && flags.whole)))) }
+{
+    flags.itself & (flags.sub & (flags.table & (flags.title & (flags.metas & flags.whole))))
 }
 
 /// Whether the pages agree on all that rules look at of a node of both.
-pub(crate) fn is_settled(known: Option<Known>) -> bool
-    ensures { result ≡ is_settled known }
+pub(crate) fn is_settled(langs: bool, known: Option<Known>) -> bool
+    ensures { result ≡ is_settled langs known }
 {
     match known {
-        Some(known) => {
-            let flags = known.flags;
-            flags.itself & (flags.sub & (flags.table & (flags.title & (flags.metas & flags.whole))))
-        }
+        Some(known) => langs & all_agree(known.flags),
         None => false,
     }
 }
@@ -42,7 +49,7 @@ fn reached_by(alloc: Global, placed: &[Placed]) -> Result<Vec<Placed>, OutOfMemo
 {
     let mut reached = Vec::new(alloc);
     for it in placed {
-        if !is_settled(it.known) {
+        if !is_settled(it.langs, it.known) {
             reached.push(*it)?;
         }
     }
@@ -52,7 +59,7 @@ fn reached_by(alloc: Global, placed: &[Placed]) -> Result<Vec<Placed>, OutOfMemo
 fn is_live(marks: &[bool], it: &Placed) -> bool
     ensures { result ≡ is_live marks.now it.now }
 {
-    !is_settled(it.known) | is_marked(marks, it.node)
+    !is_settled(it.langs, it.known) | is_marked(marks, it.node)
 }
 
 // Those that the edit reaches, and those that are marked, in their order.
@@ -79,7 +86,8 @@ pub fn nodes_of(
     ensures nodes { IfOk result (λ nodes. AreNodes old.now new.now nodes) }
     ensures marked { IfOk result (λ nodes. AreMarked nodes.marks.items rows.now) }
 {
-    let placed = known_nodes(alloc, old, new)?;
+    let relisted = is_relisted(old, new);
+    let placed = placed_nodes(alloc, old, new, relisted)?;
     let marks = marks_of(alloc, placed.len(), rows)?;
     let live = live_by(alloc, marks.as_slice(), placed.as_slice())?;
     let reached = reached_by(alloc, live.as_slice())?;
@@ -90,5 +98,6 @@ pub fn nodes_of(
         marks,
         live,
         in_order,
+        relisted,
     })
 }

@@ -1,8 +1,11 @@
-ghost use Rattle.std.specs.Prelude.{◌≡◌};
-ghost use Rattle.rule_core.specs.Books.{infos_of};
+ghost use Rattle.std.specs.Prelude.{◌≡◌, IfOk};
+ghost use Rattle.snap_tree.specs.declared.row.NodeId.{NodeId};
+ghost use Rattle.snap_tree.specs.Trees.{Document};
+ghost use Rattle.rule_core.specs.Books.{infos_of, said};
+ghost use Rattle.rule_core.specs.Pages.{page_verdicts};
 ghost use Rattle.rule_book.specs.Book.{thirty, composites_of};
 
-use rule_core::{Class, RuleInfo, RuleNo};
+use rule_core::{Class, NodeVerdict, Rule, RuleInfo, RuleNo, Verdict};
 use rules_aria::{
     AriaAttributeIsDefined, AriaValueIsValid, AutocompleteIsValid, HasRequiredStates,
     HiddenHoldsNoFocus, OwnsRequiredElements, RoleIsValid,
@@ -17,6 +20,8 @@ use rules_page::{
     TitleIsDescriptive, ViewportAllowsZoom,
 };
 use rules_tables::{HeaderHasCells, HeadersReferToCells};
+use snap_tree::{NodeId, OutOfMemory, Tree};
+use std::alloc::Global;
 
 /// The composite rule over those on repeated blocks, ACT rule cf77f2.
 const BLOCKS_CAN_BE_BYPASSED: RuleInfo = RuleInfo {
@@ -32,40 +37,80 @@ const BLOCKS_CAN_BE_BYPASSED: RuleInfo = RuleInfo {
     ],
 };
 
-static INFOS: &[RuleInfo] = &[
-    PageHasTitle::INFO,
-    TitleIsDescriptive::INFO,
-    PageHasLang::INFO,
-    LanguageIsKnown::INFO,
-    LanguageOfPartIsKnown::INFO,
-    ViewportAllowsZoom::INFO,
-    PageHasNoDelay::INFO,
-    ButtonHasName::INFO,
-    LinkHasName::INFO,
-    ImageHasName::INFO,
-    ImageButtonHasName::INFO,
-    FormFieldHasName::INFO,
-    IframeHasName::INFO,
-    HeadingHasName::INFO,
-    SvgImageHasName::INFO,
-    HeadingIsDescriptive::INFO,
-    AutocompleteIsValid::INFO,
-    RoleIsValid::INFO,
-    AriaAttributeIsDefined::INFO,
-    AriaValueIsValid::INFO,
-    HasRequiredStates::INFO,
-    OwnsRequiredElements::INFO,
-    HiddenHoldsNoFocus::INFO,
-    HeadersReferToCells::INFO,
-    HeaderHasCells::INFO,
-    HasHeadingToStart::INFO,
-    HasLandmark::INFO,
-    HasSkipLink::INFO,
-    HasCollapse::INFO,
-    BLOCKS_CAN_BE_BYPASSED,
-];
+// The rules in the order of their numbers, for what is made of them: atomic ones, and then the composite ones whose
+// numbers follow theirs, as often as that changes.
+macro_rules! rules {
+    ($made:ident $given:tt) => {
+        $made!($given
+            {
+                PageHasTitle,
+                TitleIsDescriptive,
+                PageHasLang,
+                LanguageIsKnown,
+                LanguageOfPartIsKnown,
+                ViewportAllowsZoom,
+                PageHasNoDelay,
+                ButtonHasName,
+                LinkHasName,
+                ImageHasName,
+                ImageButtonHasName,
+                FormFieldHasName,
+                IframeHasName,
+                HeadingHasName,
+                SvgImageHasName,
+                HeadingIsDescriptive,
+                AutocompleteIsValid,
+                RoleIsValid,
+                AriaAttributeIsDefined,
+                AriaValueIsValid,
+                HasRequiredStates,
+                OwnsRequiredElements,
+                HiddenHoldsNoFocus,
+                HeadersReferToCells,
+                HeaderHasCells,
+                HasHeadingToStart,
+                HasLandmark,
+                HasSkipLink,
+                HasCollapse,
+            }
+            (BLOCKS_CAN_BE_BYPASSED)
+        )
+    };
+}
 
-static COMPOSITES: &[RuleInfo] = &[BLOCKS_CAN_BE_BYPASSED];
+macro_rules! each_info {
+    (() $({ $($rule:ident,)* } ($($composite:ident),*))*) => {
+        &[$($($rule::INFO,)* $($composite,)*)*]
+    };
+}
+
+macro_rules! each_composite {
+    (() $({ $($rule:ident,)* } ($($composite:ident),*))*) => {
+        &[$($($composite,)*)*]
+    };
+}
+
+macro_rules! on_node {
+    (($number:ident, $alloc:ident, $tree:ident, $n:ident) $({ $($rule:ident,)* } $composites:tt)*) => {
+        match $number.0 {
+            $($($rule::NO => $rule.judge($alloc, $tree, $n),)*)*
+            _ => Ok(None),
+        }
+    };
+}
+
+macro_rules! on_page {
+    (($number:ident, $alloc:ident, $tree:ident) $({ $($rule:ident,)* } $composites:tt)*) => {
+        match $number.0 {
+            $($($rule::NO => on_page_by(&$rule, $alloc, $tree, $number),)*)*
+            _ => Ok(Vec::new($alloc)),
+        }
+    };
+}
+
+static INFOS: &[RuleInfo] = rules!(each_info());
+
+static COMPOSITES: &[RuleInfo] = rules!(each_composite());
 
 /// What the rules say of themselves, in the order of their numbers.
 pub fn infos() -> &'static [RuleInfo]
@@ -79,4 +124,42 @@ pub fn composites() -> &'static [RuleInfo]
     ensures { result.now ≡ composites_of thirty }
 {
     COMPOSITES
+}
+
+/// What the rule of a number says of a node; nothing by a number that is no atomic rule of the book.
+pub fn said(
+    alloc: Global,
+    tree: &Tree,
+    rule: RuleNo,
+    n: NodeId,
+) -> Result<Option<Verdict>, OutOfMemory>
+    ensures { IfOk result (λ verdict. verdict ≡ said thirty rule tree.now n) }
+{
+    rules!(on_node(rule, alloc, tree, n))
+}
+
+// What a rule says of a page, where the book says by this number what the rule does.
+fn on_page_by<R: Rule>(
+    rule: &R,
+    alloc: Global,
+    tree: &Tree,
+    number: RuleNo,
+) -> Result<Vec<NodeVerdict>, OutOfMemory>
+    requires { (page : Document) (n : NodeId) → R.means page n ≡ said thirty number page n }
+    ensures { IfOk result (λ verdicts. verdicts.items ≡ page_verdicts (said thirty number) tree.now) }
+{
+    let _ = number;
+    rule.judge_page(alloc, tree)
+}
+
+/// What the rule of a number says of a page, as the rule goes over it; nothing by a number that is no atomic rule of
+/// the book.
+pub fn said_of_page(
+    alloc: Global,
+    tree: &Tree,
+    rule: RuleNo,
+) -> Result<Vec<NodeVerdict>, OutOfMemory>
+    ensures { IfOk result (λ verdicts. verdicts.items ≡ page_verdicts (said thirty rule) tree.now) }
+{
+    rules!(on_page(rule, alloc, tree))
 }

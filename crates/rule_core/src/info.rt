@@ -17,6 +17,26 @@ pub enum Class {
     Metas,
     /// Where the node is the root, every node.
     Whole,
+    /// The node and its ancestors, and the language subtags that the page's site accepts.
+    Lang,
+    /// The node's subtree too, and what references in it find, and these language subtags.
+    SubLang,
+}
+
+impl Class {
+    ghost use Rattle.std.specs.Prelude.{◌≡◌};
+    ghost use Rattle.rule_core.specs.Reach.{looks_at_langs};
+
+    /// Whether the class looks at the list of language subtags that the page's site accepts.
+    pub fn looks_at_langs(self) -> bool
+        ensures { result ≡ looks_at_langs self }
+    {
+        match self {
+            Class::SelfOnly | Class::Sub | Class::Table => false,
+            Class::Title | Class::Metas | Class::Whole => false,
+            Class::Lang | Class::SubLang => true,
+        }
+    }
 }
 
 /// What a rule says of itself.

@@ -19,10 +19,10 @@ use Rattle.rule_sights.specs.Pages.{is_page_root, if_root, said_of_root}
 use Rattle.rule_sights.specs.Targets.{is_target}
 use Rattle.page_keys.specs.Classes.{is_root}
 use Rattle.page_keys.specs.Laws.{itself, alone}
-use Rattle.page_keys.proofs.Agreeing.{parts}
-use Rattle.rule_core.specs.Reach.{Says, class_keys}
+use Rattle.page_keys.proofs.PageTests.{page_parts}
+use Rattle.rule_core.specs.Reach.{Says, looks_at_langs, looked_at}
 use Rattle.rule_core.specs.Local.{IsLocal}
-use Rattle.rule_core.proofs.Targets.{IsKept, by_classes, by_itself}
+use Rattle.rule_core.proofs.Targets.{IsKept, on_nodes, on_langs, by_classes, by_itself}
 use Rattle.rule_sights.specs.Telling.{Tells}
 use Rattle.rule_sights.proofs.Told.{alone_told}
 
@@ -31,8 +31,16 @@ use Rattle.rule_sights.proofs.Told.{alone_told}
 -- what rests on what a class tells
 pub kept : {A B : Type 0} (class : Class) (tells : Trees → NodeId → A) → Tells class tells → (rests : List ℕ → A → B) → IsKept class (λ page n. rests page.address (tells (seen page.trees) n))
 kept class tells told rests old new n versions k =
-    let same = told old.trees new.trees n versions.old_well versions.new_well k in
+    let same = told old.trees new.trees n versions.old_well versions.new_well (on_nodes class old new n k) in
     λ i. rests (versions.address i) (same i)
+
+-- what rests on what a class tells and on the list of subtags, where the class looks at that
+pub kept_with_langs : {A B : Type 0} (class : Class) (tells : Trees → NodeId → A) → looks_at_langs class ≡ true → Tells class tells → (rests : List (List ℕ) → A → B)
+    → IsKept class (λ page n. rests page.langs (tells (seen page.trees) n))
+kept_with_langs class tells looks told rests old new n versions k =
+    let same = told old.trees new.trees n versions.old_well versions.new_well (on_nodes class old new n k) in
+    let langs = on_langs class old new n looks k in
+    λ i. rests (langs i) (same i)
 
 -- what is, on well pages, something that is kept
 pub kept_as : {B : Type 0} (class : Class) (says other : Document → NodeId → B) → ((page : Document) (n : NodeId) → IsWell page.trees → says page n ≡ other page n) → IsKept class other → IsKept class says
@@ -44,7 +52,7 @@ kept_as class says other is keeps old new n versions k =
 -- where what the applicability looks at tells all
 pub by_applicability : (info : RuleInfo) (says : Says) → IsKept info.applies says → IsLocal info says
 by_applicability info says keeps old new n versions k =
-    keeps old new n versions (parts (seen old.trees) (seen new.trees) (class_keys info.applies (seen old.trees) n) (if is_some (says old n) then class_keys info.expects (seen old.trees) n else []) k).0
+    keeps old new n versions (page_parts old new (looked_at info.applies old n) (if is_some (says old n) then looked_at info.expects old n else []) k).0
 
 -- where the targets of well pages are told by a row and what is above it, and what is said of them by the expectations
 pub by_rows : (info : RuleInfo) (says : Says) → info.applies ≡ SelfOnly → (target : Above → Row → Bool)
@@ -71,6 +79,14 @@ kept_alone class says = kept_by_row class (option_and_then says)
 
 pub kept_of_root : (class : Class) (says : Row → Option Verdict) → IsKept class (said_of_root says)
 kept_of_root class says = kept_by_row class (λ o. option_and_then says (option_and_then if_root o))
+
+-- of the root, and of the list of subtags
+pub kept_root_langs : (class : Class) → looks_at_langs class ≡ true → (says : List (List ℕ) → Row → Option Verdict) → IsKept class (λ page n. said_of_root (says page.langs) page n)
+kept_root_langs class looks says =
+    kept_as class (λ page n. said_of_root (says page.langs) page n)
+    (λ page n. option_and_then (says page.langs) (option_and_then if_root (option_map (λ (x : Row × Above). x.0) (alone (seen page.trees) n))))
+    (λ page n well. ap (λ o. option_and_then (says page.langs) (option_and_then if_root o)) (row_in (sight_of (seen page.trees) n)))
+    (kept_with_langs class alone looks (alone_told class) (λ accepted o. option_and_then (says accepted) (option_and_then if_root (option_map (λ (x : Row × Above). x.0) o))))
 
 said_if : (Row → Bool) → (Above → Row → Option Verdict) → Row × Above → Option Verdict
 said_if passes says x = if passes x.0 then says x.1 x.0 else None

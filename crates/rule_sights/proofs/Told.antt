@@ -6,7 +6,7 @@ use Rattle.snap_tree.specs.Trees.{Trees}
 use Rattle.acc_tree.specs.Seen.{seen}
 use Rattle.acc_tree.specs.Sights.{sight_of}
 use Rattle.rule_core.specs.declared.info.Class.{Class}
-use Rattle.rule_core.specs.declared.info.Class.TheVariants.{SelfOnly, Sub, Table, Title, Metas, Whole}
+use Rattle.rule_core.specs.declared.info.Class.TheVariants.{SelfOnly, Sub, Table, Title, Metas, Whole, Lang, SubLang}
 use Rattle.page_keys.specs.Nodes.{self_keys, tree_keys, node_keys, keys_in}
 use Rattle.page_keys.specs.References.{reference_keys}
 use Rattle.page_keys.specs.Classes.{sub_keys, table_of, is_root, titles, is_meta, metas}
@@ -32,10 +32,19 @@ alone_told Metas old new n wo wn k =
     alone_looks old new n wo wn (parts (seen old) (seen new) (self_keys (seen old) n) (if is_meta (seen old) n then metas (seen old) else []) k).0
 alone_told Whole old new n wo wn k =
     alone_looks old new n wo wn (parts (seen old) (seen new) (self_keys (seen old) n) (if is_root (seen old) n then keys_in (seen old) else []) k).0
+alone_told Lang old new n wo wn k = alone_looks old new n wo wn k
+alone_told SubLang old new n wo wn k =
+    let node = (parts (seen old) (seen new) (node_keys (seen old) n) (reference_keys (seen old) n) k).0 in
+    alone_looks old new n wo wn (parts (seen old) (seen new) (self_keys (seen old) n) (tree_keys (seen old) n) node).0
 
 pub sight_told : Tells Sub sight_of
 unfolding class_keys
 sight_told = looks sight_of sub_keys sub_sight
+
+-- the class SubLang tells it too
+pub sub_lang_told : Tells SubLang sight_of
+unfolding class_keys
+sub_lang_told = looks sight_of sub_keys sub_sight
 
 pub table_told : Tells Table table_sight
 unfolding class_keys

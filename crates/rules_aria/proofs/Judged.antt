@@ -7,7 +7,7 @@ use Rattle.aria_tables.specs.Owning.{allowed_owned, looks_through}
 use Rattle.snap_tree.specs.declared.row.Attr.{Attr}
 use Rattle.snap_tree.specs.declared.row.NodeId.{NodeId}
 use Rattle.snap_tree.specs.declared.row.Row.{Row}
-use Rattle.snap_tree.specs.Trees.{Document}
+use Rattle.snap_tree.specs.Trees.{Trees, Document}
 use Rattle.acc_tree.specs.declared.above.Above.{Above}
 use Rattle.acc_tree.specs.declared.attributes.Attribute.TheVariants as attribute
 use Rattle.acc_tree.specs.Inclusion.{exposed, is_hidden}
@@ -66,12 +66,13 @@ states_told above row =
 pub states : (page : Document) (n : NodeId) → JudgesRows has_required_states has_required_states_target page n
 states page n = judged_where (has attribute.RoleAttr) states_verdict has_required_states_target states_told page n
 
-owner_told : (s : Sight) → has attribute.RoleAttr s.row && is_some (owned_verdict s) ≡ owns_required_elements_target s.above s.row
-owner_told s =
-    ap (λ b. has attribute.RoleAttr s.row && b) (verdict_of_some (explicit s.row) (is_owner_target s.above s.row) (λ r. verdict_on (allowed_owned r) (owned_by (looks_through r) s)))
+owner_told : (trees : Trees) (s : Sight) → has attribute.RoleAttr s.row && is_some (owned_verdict trees s) ≡ owns_required_elements_target s.above s.row
+owner_told trees s =
+    ap (λ b. has attribute.RoleAttr s.row && b) (verdict_of_some (explicit s.row) (is_owner_target s.above s.row) (λ r. verdict_on (allowed_owned r) (owned_by (looks_through r) trees 1 s)))
 
 pub owners : (page : Document) (n : NodeId) → JudgesRows owns_required_elements owns_required_elements_target page n
-owners page n = judged_below (has attribute.RoleAttr) owned_verdict (λ s. owns_required_elements_target s.above s.row) owner_told page n
+owners page n =
+    judged_below (has attribute.RoleAttr) (owned_verdict (seen page.trees)) (λ s. owns_required_elements_target s.above s.row) (owner_told (seen page.trees)) page n
 
 pub hidden : (page : Document) (n : NodeId) → JudgesRows hidden_holds_no_focus hidden_holds_no_focus_target page n
 hidden page n =

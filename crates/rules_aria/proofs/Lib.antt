@@ -4,4 +4,5 @@ pub mod Stopping
 pub mod Judged
 pub mod AttributesTold
 pub mod ReferencesTold
+pub mod OwnersTold
 pub mod Local

@@ -14,9 +14,10 @@ use Rattle.rules_aria.specs.Role.{role_verdict, role_is_valid, role_is_valid_inf
 use Rattle.rules_aria.specs.AriaAttribute.{attribute_verdict, aria_attribute_is_defined, aria_attribute_is_defined_info}
 use Rattle.rules_aria.specs.AriaValue.{aria_value_is_valid, aria_value_is_valid_target, aria_value_is_valid_info}
 use Rattle.rules_aria.specs.RequiredStates.{states_verdict, has_required_states, has_required_states_info}
-use Rattle.rules_aria.specs.OwnedElements.{owned_verdict, owns_required_elements, owns_required_elements_target, owns_required_elements_info}
+use Rattle.rules_aria.specs.OwnedElements.{owns_required_elements, owns_required_elements_target, owns_required_elements_info}
 use Rattle.rules_aria.specs.AriaHidden.{hidden_verdict, hidden_holds_no_focus, hidden_holds_no_focus_target, hidden_holds_no_focus_info}
 use Rattle.rules_aria.proofs.Judged.{values, owners, hidden}
+use Rattle.rules_aria.proofs.OwnersTold.{owners_kept}
 use Rattle.rules_aria.proofs.ReferencesTold.{values_kept}
 
 pub autocomplete_local : IsLocal autocomplete_is_valid_info autocomplete_is_valid
@@ -37,8 +38,7 @@ states_local = by_applicability has_required_states_info has_required_states (ke
 
 pub owned_local : IsLocal owns_required_elements_info owns_required_elements
 owned_local =
-    by_rows owns_required_elements_info owns_required_elements refl owns_required_elements_target (λ page n well. owners page n)
-    (kept Sub sight_of sight_told (λ address o. option_and_then owned_verdict (option_and_then (if_row (has attribute.RoleAttr)) o)))
+    by_rows owns_required_elements_info owns_required_elements refl owns_required_elements_target (λ page n well. owners page n) owners_kept
 
 pub hidden_local : IsLocal hidden_holds_no_focus_info hidden_holds_no_focus
 hidden_local =

@@ -23,7 +23,7 @@ use Rattle.rule_sights.specs.Nodes.{if_row}
 use Rattle.page_keys.specs.Laws.{words_find}
 use Rattle.page_keys.proofs.Looking.{words_look}
 use Rattle.rule_core.specs.Reach.{class_keys}
-use Rattle.rule_core.proofs.Targets.{IsKept}
+use Rattle.rule_core.proofs.Targets.{IsKept, on_nodes}
 use Rattle.rule_sights.specs.Telling.{Tells}
 use Rattle.rule_sights.proofs.Told.{sight_told}
 use Rattle.rules_aria.specs.AriaLines.{aria_lines}
@@ -116,10 +116,10 @@ pub values_kept : IsKept Sub aria_value_is_valid
 values_kept old new n versions k = by_sight (sight_of (seen old.trees) n) refl ∙ ap (λ o. option_and_then (λ (s : Sight). value_verdict (found (seen new.trees)) s.above s.row) (option_and_then (if_row has_filled) o)) sight
   where
     sight : sight_of (seen old.trees) n ≡ sight_of (seen new.trees) n
-    sight = sight_told old.trees new.trees n versions.old_well versions.new_well k
+    sight = sight_told old.trees new.trees n versions.old_well versions.new_well (on_nodes Sub old new n k)
 
     finds : words_find (seen old.trees) n ≡ words_find (seen new.trees) n
-    finds = words_told old.trees new.trees n versions.old_well versions.new_well k
+    finds = words_told old.trees new.trees n versions.old_well versions.new_well (on_nodes Sub old new n k)
 
     by_test : (s : Sight) (b : Bool) → value_verdict (found (seen old.trees)) s.above s.row ≡ value_verdict (found (seen new.trees)) s.above s.row
         → option_and_then (λ (s : Sight). value_verdict (found (seen old.trees)) s.above s.row) (if b then Some s else None)

@@ -3,7 +3,7 @@ use Rattle.std.specs.Prelude.{false, ◌&&◌, ◌==◌, not, ℕ, List, [], ◌
 use Rattle.std.specs.List.{list_all, join_with_byte}
 use Rattle.snap_tree.specs.declared.row.NodeId.{NodeId}
 use Rattle.snap_tree.specs.declared.row.Row.{Row}
-use Rattle.snap_tree.specs.Trees.{Document}
+use Rattle.snap_tree.specs.Trees.{Trees, Document}
 use Rattle.aria_tables.specs.declared.attr.AriaAttr.TheVariants as aria
 use Rattle.aria_tables.specs.declared.role.Role.{Role}
 use Rattle.aria_tables.specs.Owning.{allowed_owned, looks_through}
@@ -14,7 +14,7 @@ use Rattle.acc_tree.specs.declared.owning.OwnedElement.{OwnedElement}
 use Rattle.acc_tree.specs.Inclusion.{included}
 use Rattle.acc_tree.specs.Owning.{owned_by}
 use Rattle.acc_tree.specs.Roles.{explicit}
-use Rattle.acc_tree.specs.Seen.{has, is_word_at}
+use Rattle.acc_tree.specs.Seen.{seen, has, is_word_at}
 use Rattle.acc_tree.specs.Sights.{Sight}
 use Rattle.rule_core.specs.declared.info.RuleInfo.{RuleInfo}
 use Rattle.rule_core.specs.declared.info.Class.TheVariants.{SelfOnly, Sub}
@@ -46,14 +46,14 @@ is_owner_target above row role =
     not (length (allowed_owned role) == 0) && (not (is_word_at (attribute.Aria aria.Busy) (codes "true") row) && included above row)
 
 -- the target is an included element of an explicit role that is asked what it owns, and that isn't busy; the
--- evidence is the roles of what it owns
-abbrev pub owned_verdict : Sight → Option Verdict
-owned_verdict s =
-    option_and_then (λ role. if is_owner_target s.above s.row role then Some (verdict_on (allowed_owned role) (owned_by (looks_through role) s)) else None) (explicit s.row)
+-- evidence is the roles of what it owns, with aria-owns followed once
+abbrev pub owned_verdict : Trees → Sight → Option Verdict
+owned_verdict trees s =
+    option_and_then (λ role. if is_owner_target s.above s.row role then Some (verdict_on (allowed_owned role) (owned_by (looks_through role) trees 1 s)) else None) (explicit s.row)
 
 -- ARIA required owned elements
 abbrev pub owns_required_elements : Document → NodeId → Option Verdict
-owns_required_elements = said_below (has attribute.RoleAttr) owned_verdict
+owns_required_elements page = said_below (has attribute.RoleAttr) (owned_verdict (seen page.trees)) page
 
 -- the targets of the rule
 abbrev pub owns_required_elements_target : Above → Row → Bool

@@ -1,5 +1,7 @@
 ghost use Rattle.std.specs.Prelude.{◌≡◌, IfOk};
-ghost use Rattle.acc_tree.specs.Seen.{seen_row};
+ghost use Rattle.aria_tables.specs.Owning.{allowed_owned, looks_through};
+ghost use Rattle.acc_tree.specs.Owning.{owned_by};
+ghost use Rattle.acc_tree.specs.Seen.{seen_row, seen};
 ghost use Rattle.acc_tree.specs.Sights.{seen_sight};
 ghost use Rattle.rules_aria.specs.OwnedElements.{are_allowed, owned_finding, role_words, verdict_on, is_owner_target, owned_verdict, owns_required_elements, owns_required_elements_info};
 
@@ -16,9 +18,9 @@ use std::alloc::Global;
 /// ACT rule bc4a75, ARIA required owned elements
 /// (<https://www.w3.org/WAI/standards-guidelines/act/rules/bc4a75/>). Its target is an included element
 /// whose explicit role is asked what it owns, and whose aria-busy isn't `true`. It fails where it owns
-/// an element of a role that isn't allowed; where it owns nothing, a person has to judge. In the place of
-/// an element of a role that is looked through stands what that owns, again and again. The evidence is
-/// the roles of what it owns.
+/// an element of a role that isn't allowed; where it owns nothing, a person has to judge. It owns what stands
+/// below it and what it follows by aria-owns. In the place of an element of a role that is looked through
+/// stands what that owns, again and again. The evidence is the roles of what it owns.
 #[derive(Clone, Copy, Debug, PartialEq, Eq)]
 pub struct OwnsRequiredElements;
 
@@ -85,8 +87,22 @@ fn is_target(above: &Above, row: &Row, role: Role) -> bool
         && included_at(above, row)
 }
 
-fn verdict(alloc: Global, sight: Sight<'_>) -> Result<Option<Verdict>, OutOfMemory>
-    ensures { IfOk result (λ verdict. verdict ≡ owned_verdict (seen_sight sight.entry)) }
+// What is said of an element of this role by what it owns.
+fn owning_verdict(
+    alloc: Global,
+    tree: &Tree,
+    sight: Sight<'_>,
+    role: Role,
+) -> Result<Verdict, OutOfMemory>
+    ensures { IfOk result (λ verdict. verdict ≡ verdict_on (allowed_owned role)
+        (owned_by (looks_through role) (seen tree.now.trees) 1 (seen_sight sight.entry))) }
+{
+    let elements = owned_by(alloc, tree, sight, 1, looks_through(role))?;
+    verdict_on(alloc, allowed_owned(role), elements.as_slice())
+}
+
+fn verdict(alloc: Global, tree: &Tree, sight: Sight<'_>) -> Result<Option<Verdict>, OutOfMemory>
+    ensures { IfOk result (λ verdict. verdict ≡ owned_verdict (seen tree.now.trees) (seen_sight sight.entry)) }
 {
     let Some(role) = explicit_at(sight.row) else {
         return Ok(None);
@@ -94,8 +110,7 @@ fn verdict(alloc: Global, sight: Sight<'_>) -> Result<Option<Verdict>, OutOfMemo
     if !is_target(&sight.above, sight.row, role) {
         return Ok(None);
     }
-    let elements = owned_by(alloc, sight, looks_through(role))?;
-    Ok(Some(verdict_on(alloc, allowed_owned(role), elements.as_slice())?))
+    Ok(Some(owning_verdict(alloc, tree, sight, role)?))
 }
 
 impl Rule for OwnsRequiredElements {
@@ -109,7 +124,7 @@ impl Rule for OwnsRequiredElements {
 
     fn judge(&self, alloc: Global, tree: &Tree, n: NodeId) -> Result<Option<Verdict>, OutOfMemory> {
         match sight_with(tree, n, Attribute::RoleAttr) {
-            Some(sight) => verdict(alloc, sight),
+            Some(sight) => verdict(alloc, tree, sight),
             None => Ok(None),
         }
     }

@@ -24,7 +24,7 @@ use Rattle.page_keys.proofs.Again.{looks}
 use Rattle.page_keys.proofs.Classes.{sub_sight}
 use Rattle.rule_core.specs.Reach.{Says, class_keys}
 use Rattle.rule_core.specs.Local.{IsLocal}
-use Rattle.rule_core.proofs.Targets.{IsKept, by_classes, by_target}
+use Rattle.rule_core.proofs.Targets.{IsKept, on_nodes, by_classes, by_target}
 
 -- ---- rules as functions of a name and a sight
 
@@ -50,7 +50,7 @@ pub kept_by_name : (class : Class) → class ≡ Sub → (rests : Rests) → IsK
 unfolding class_keys
 kept_by_name class sub rests old new n versions k =
     let keys : all_same (seen old.trees) (seen new.trees) (sub_keys (seen old.trees) n) ≡ true =
-    ap (λ class. all_same (seen old.trees) (seen new.trees) (class_keys class (seen old.trees) n)) (sym sub) ∙ k in
+    ap (λ class. all_same (seen old.trees) (seen new.trees) (class_keys class (seen old.trees) n)) (sym sub) ∙ on_nodes class old new n k in
     let name = name_looks old.trees new.trees n versions.old_well versions.new_well keys in
     let sight = looks sight_of sub_keys sub_sight old.trees new.trees n versions.old_well versions.new_well keys in
     λ i. rests (name i).text (sight i)

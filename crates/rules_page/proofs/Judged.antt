@@ -50,22 +50,22 @@ descriptive page n =
 pub languages : (page : Document) (n : NodeId) → JudgesRows page_has_lang page_has_lang_target page n
 languages page n = judged_root (λ root. Some (lang_verdict (attr attribute.Lang root))) is_page_root (λ row. and_true (is_page_root row)) page n
 
-lang_told : (lang : Option (List ℕ)) → is_some (option_and_then unless_blank lang) ≡ option_map_or (λ text. not (blank text)) lang false
-lang_told None = refl
-lang_told (Some text) = unless (blank text) (tag_verdict text)
+lang_told : (accepted : List (List ℕ)) (lang : Option (List ℕ)) → is_some (option_and_then (unless_blank accepted) lang) ≡ option_map_or (λ text. not (blank text)) lang false
+lang_told accepted None = refl
+lang_told accepted (Some text) = unless (blank text) (tag_verdict accepted text)
 
 pub known : (page : Document) (n : NodeId) → JudgesRows language_is_known language_is_known_target page n
 known page n =
-    judged_root language_verdict (λ row. is_page_root row && option_map_or (λ lang. not (blank lang)) (attr attribute.Lang row) false)
-    (λ row. ap (λ b. is_page_root row && b) (lang_told (attr attribute.Lang row))) page n
+    judged_root (language_verdict page.langs) (λ row. is_page_root row && option_map_or (λ lang. not (blank lang)) (attr attribute.Lang row) false)
+    (λ row. ap (λ b. is_page_root row && b) (lang_told page.langs (attr attribute.Lang row))) page n
 
-part_told : (s : Sight) → has attribute.Lang s.row && is_some (part_verdict s) ≡ language_of_part_is_known_target s
-part_told s =
-    ap (λ b. has attribute.Lang s.row && b) (verdict_of_some (attr attribute.Lang s.row) (is_part_target s) tag_verdict)
+part_told : (accepted : List (List ℕ)) (s : Sight) → has attribute.Lang s.row && is_some (part_verdict accepted s) ≡ language_of_part_is_known_target s
+part_told accepted s =
+    ap (λ b. has attribute.Lang s.row && b) (verdict_of_some (attr attribute.Lang s.row) (is_part_target s) (tag_verdict accepted))
     ∙ there_and (attr attribute.Lang s.row) (is_part_target s)
 
 pub parts : (page : Document) (n : NodeId) → JudgesSights language_of_part_is_known language_of_part_is_known_target page n
-parts page n = judged_below (has attribute.Lang) part_verdict language_of_part_is_known_target part_told page n
+parts page n = judged_below (has attribute.Lang) (part_verdict page.langs) language_of_part_is_known_target (part_told page.langs) page n
 
 -- ---- zooming and refreshing
 

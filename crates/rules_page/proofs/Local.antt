@@ -1,23 +1,26 @@
 -- Each rule on a page is local.
-use Rattle.std.proofs.Common.{Some, option_and_then, refl, ap}
+use Rattle.std.proofs.Common.{false, Some, option_and_then, refl, ap}
+use Rattle.std.specs.Option.{is_some, option_map_or}
 use Rattle.acc_tree.specs.declared.attributes.Attribute.TheVariants as attribute
 use Rattle.acc_tree.specs.Seen.{seen, attr, has}
 use Rattle.acc_tree.specs.Sights.{sight_of}
-use Rattle.rule_core.specs.declared.info.Class.TheVariants.{SelfOnly, Sub, Title, Metas}
+use Rattle.rule_core.specs.declared.info.Class.TheVariants.{SelfOnly, Sub, Title, Metas, Lang, SubLang}
 use Rattle.rule_sights.specs.Nodes.{if_row}
 use Rattle.page_keys.specs.Laws.{root_titles}
 use Rattle.page_keys.proofs.Pages.{page_seen}
 use Rattle.rule_core.specs.Local.{IsLocal}
-use Rattle.rule_sights.proofs.Told.{sight_told, titles_told}
-use Rattle.rule_sights.proofs.Resting.{kept, kept_as, kept_alone, kept_of_root, kept_at_root, by_applicability, by_rows}
+use Rattle.rule_core.proofs.Targets.{by_classes}
+use Rattle.rule_sights.specs.Targets.{is_target}
+use Rattle.rule_sights.proofs.Told.{sight_told, sub_lang_told, titles_told}
+use Rattle.rule_sights.proofs.Resting.{kept, kept_with_langs, kept_as, kept_alone, kept_of_root, kept_root_langs, kept_at_root, by_applicability, by_rows}
 use Rattle.rules_page.specs.PageTitle.{page_title, title_verdict, page_has_title, page_has_title_target, page_has_title_info}
 use Rattle.rules_page.specs.TitleDescriptive.{asks_a_person, title_is_descriptive, title_is_descriptive_info}
 use Rattle.rules_page.specs.Language.{lang_verdict, page_has_lang, page_has_lang_info}
-use Rattle.rules_page.specs.LanguageKnown.{language_verdict, language_is_known, language_is_known_info}
-use Rattle.rules_page.specs.LanguageOfParts.{part_verdict, language_of_part_is_known, language_of_part_is_known_info}
+use Rattle.rules_page.specs.LanguageKnown.{language_verdict, language_is_known, language_is_known_target, language_is_known_info}
+use Rattle.rules_page.specs.LanguageOfParts.{part_verdict, language_of_part_is_known, language_of_part_is_known_target, language_of_part_is_known_info}
 use Rattle.rules_page.specs.Viewport.{viewport_verdict, viewport_allows_zoom, viewport_allows_zoom_info}
 use Rattle.rules_page.specs.Refresh.{page_has_no_delay, page_has_no_delay_info}
-use Rattle.rules_page.proofs.Judged.{titles}
+use Rattle.rules_page.proofs.Judged.{titles, known, parts}
 use Rattle.rules_page.proofs.TitleAmong.{title_among}
 use Rattle.rules_page.proofs.TitleTold.{title_told}
 use Rattle.rules_page.proofs.MetasTold.{metas_tell, all_told, said_by_metas, delay_in}
@@ -39,12 +42,16 @@ pub language_local : IsLocal page_has_lang_info page_has_lang
 language_local = by_applicability page_has_lang_info page_has_lang (kept_of_root SelfOnly (λ root. Some (lang_verdict (attr attribute.Lang root))))
 
 pub known_local : IsLocal language_is_known_info language_is_known
-known_local = by_applicability language_is_known_info language_is_known (kept_of_root SelfOnly language_verdict)
+known_local =
+    by_rows language_is_known_info language_is_known refl language_is_known_target (λ page n well. known page n)
+    (kept_root_langs Lang refl language_verdict)
 
 pub parts_local : IsLocal language_of_part_is_known_info language_of_part_is_known
 parts_local =
-    by_applicability language_of_part_is_known_info language_of_part_is_known
-    (kept Sub sight_of sight_told (λ address o. option_and_then part_verdict (option_and_then (if_row (has attribute.Lang)) o)))
+    by_classes language_of_part_is_known_info language_of_part_is_known
+    (kept_as Sub (λ page n. is_some (language_of_part_is_known page n)) (λ page n. is_target language_of_part_is_known_target page.trees n) (λ page n well. parts page n)
+    (kept Sub sight_of sight_told (λ address o. option_map_or language_of_part_is_known_target o false)))
+    (kept_with_langs SubLang sight_of refl sub_lang_told (λ accepted o. option_and_then (part_verdict accepted) (option_and_then (if_row (has attribute.Lang)) o)))
 
 pub viewport_local : IsLocal viewport_allows_zoom_info viewport_allows_zoom
 viewport_local = by_applicability viewport_allows_zoom_info viewport_allows_zoom (kept_alone SelfOnly viewport_verdict)

@@ -13,7 +13,7 @@ use Rattle.acc_tree.specs.declared.attributes.Attribute.TheVariants as attribute
 use Rattle.acc_tree.specs.Seen.{attr, has}
 use Rattle.acc_tree.specs.Sights.{Sight}
 use Rattle.rule_core.specs.declared.info.RuleInfo.{RuleInfo}
-use Rattle.rule_core.specs.declared.info.Class.TheVariants.{Sub}
+use Rattle.rule_core.specs.declared.info.Class.TheVariants.{Sub, SubLang}
 use Rattle.rule_core.specs.declared.verdict.Verdict.{Verdict}
 use Rattle.rule_core.specs.Infos.{atomic}
 use Rattle.rule_sights.specs.Nodes.{said_below}
@@ -42,17 +42,18 @@ shows_text trees = list_any is_shown_text (rows_of trees)
 abbrev pub is_part_target : Sight → List ℕ → Bool
 is_part_target s lang = is_html_part s.row && (not (blank lang) && shows_text s.below)
 
-abbrev pub part_verdict : Sight → Option Verdict
-part_verdict s =
-    option_and_then (λ lang. if is_part_target s lang then Some (tag_verdict lang) else None) (attr attribute.Lang s.row)
+-- by the language subtags that the site accepts
+abbrev pub part_verdict : List (List ℕ) → Sight → Option Verdict
+part_verdict accepted s =
+    option_and_then (λ lang. if is_part_target s lang then Some (tag_verdict accepted lang) else None) (attr attribute.Lang s.row)
 
 -- element with lang attribute has valid language tag
 abbrev pub language_of_part_is_known : Document → NodeId → Option Verdict
-language_of_part_is_known = said_below (has attribute.Lang) part_verdict
+language_of_part_is_known page = said_below (has attribute.Lang) (part_verdict page.langs) page
 
 -- the targets of the rule
 abbrev pub language_of_part_is_known_target : Sight → Bool
 language_of_part_is_known_target s = option_map_or (is_part_target s) (attr attribute.Lang s.row) false
 
 abbrev pub language_of_part_is_known_info : RuleInfo
-language_of_part_is_known_info = atomic 5 (codes "de46e4") Sub Sub
+language_of_part_is_known_info = atomic 5 (codes "de46e4") Sub SubLang

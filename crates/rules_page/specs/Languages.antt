@@ -1,5 +1,5 @@
--- Which languages are known by the primary subtag of a language tag (BCP 47).
-use Rattle.std.specs.Prelude.{◌&&◌, ◌==◌, ℕ, List, [], ◌∷◌, length, codes, Bool, if◌then◌else◌}
+-- Which languages are known by the primary subtag of a language tag (BCP 47), on a page whose site accepts some more.
+use Rattle.std.specs.Prelude.{◌&&◌, ◌||◌, ◌==◌, ℕ, List, [], ◌∷◌, length, codes, Bool, if◌then◌else◌}
 use Rattle.std.specs.Char.{is_ascii_alphabetic}
 use Rattle.std.specs.List.{list_all, before_first}
 use Rattle.aria_tables.specs.Words.{is_among}
@@ -57,12 +57,12 @@ primary_subtag lang = before_first (λ b. b == 45) lang
 abbrev pub is_three_letters : List ℕ → Bool
 is_three_letters subtag = length subtag == 3 && list_all is_ascii_alphabetic subtag
 
--- a subtag in the table is known; of any other of three letters a person has to tell
-abbrev pub subtag_finding : List ℕ → Finding
-subtag_finding subtag =
-    if is_among languages subtag then met
+-- a subtag in the table is known, and one that the site accepts; of any other of three letters a person has to tell
+abbrev pub subtag_finding : List (List ℕ) → List ℕ → Finding
+subtag_finding accepted subtag =
+    if is_among languages subtag || is_among accepted subtag then met
     else (if is_three_letters subtag then cant_tell ThreeLetter else failed UnknownLang)
 
 -- what is said of a language tag; the evidence is the tag
-abbrev pub tag_verdict : List ℕ → Verdict
-tag_verdict lang = verdict_of (subtag_finding (primary_subtag lang)) lang
+abbrev pub tag_verdict : List (List ℕ) → List ℕ → Verdict
+tag_verdict accepted lang = verdict_of (subtag_finding accepted (primary_subtag lang)) lang

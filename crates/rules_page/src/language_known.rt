@@ -6,13 +6,13 @@ use crate::languages::tag_verdict;
 use acc_tree::{Attribute, attr};
 use rule_core::{Class, Rule, RuleInfo, RuleNo, Verdict};
 use rule_sights::page_root;
-use snap_tree::{NodeId, OutOfMemory, Row, Tree, blank};
+use snap_tree::{List, NodeId, OutOfMemory, Row, Text, Tree, blank};
 use std::alloc::Global;
 
 /// ACT rule bf051a, HTML page lang attribute has valid language tag
 /// (<https://www.w3.org/WAI/standards-guidelines/act/rules/bf051a/>). Its target is the root of a page
 /// whose lang isn't blank. It fails where the primary subtag is unknown; a person has to judge one of three
-/// letters. The evidence is lang.
+/// letters, unless the page's site accepts it. The evidence is lang.
 #[derive(Clone, Copy, Debug, PartialEq, Eq)]
 pub struct LanguageIsKnown;
 
@@ -25,16 +25,16 @@ impl LanguageIsKnown {
         no: RuleNo(Self::NO),
         id: *b"bf051a",
         applies: Class::SelfOnly,
-        expects: Class::SelfOnly,
+        expects: Class::Lang,
         inputs: [0; 4],
     };
 }
 
-fn verdict(alloc: Global, root: &Row) -> Result<Option<Verdict>, OutOfMemory>
-    ensures { IfOk result (λ verdict. verdict ≡ language_verdict (seen_row root.now)) }
+fn verdict(alloc: Global, accepted: &List<Text>, root: &Row) -> Result<Option<Verdict>, OutOfMemory>
+    ensures { IfOk result (λ verdict. verdict ≡ language_verdict accepted.now (seen_row root.now)) }
 {
     match attr(root, Attribute::Lang) {
-        Some(lang) if !blank(lang) => Ok(Some(tag_verdict(alloc, lang)?)),
+        Some(lang) if !blank(lang) => Ok(Some(tag_verdict(alloc, accepted, lang)?)),
         _ => Ok(None),
     }
 }
@@ -50,7 +50,7 @@ impl Rule for LanguageIsKnown {
 
     fn judge(&self, alloc: Global, tree: &Tree, n: NodeId) -> Result<Option<Verdict>, OutOfMemory> {
         match page_root(tree, n) {
-            Some(root) => verdict(alloc, root),
+            Some(root) => verdict(alloc, tree.langs(), root),
             None => Ok(None),
         }
     }

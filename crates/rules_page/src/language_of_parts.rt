@@ -9,13 +9,14 @@ use crate::languages::tag_verdict;
 use acc_tree::{Attribute, Sight, attr};
 use rule_core::{Class, Rule, RuleInfo, RuleNo, Verdict};
 use rule_sights::sight_with;
-use snap_tree::{Body, Branches, NodeId, OutOfMemory, Row, Space, Text, Tree, blank};
+use snap_tree::{Body, Branches, List, NodeId, OutOfMemory, Row, Space, Text, Tree, blank};
 use std::alloc::Global;
 
 /// ACT rule de46e4, Element with lang attribute has valid language tag
 /// (<https://www.w3.org/WAI/standards-guidelines/act/rules/de46e4/>). Its target is an HTML element other
 /// than the root whose lang isn't blank and in which a text is rendered that isn't blank. It fails where
-/// the primary subtag is unknown; a person has to judge one of three letters. The evidence is lang.
+/// the primary subtag is unknown; a person has to judge one of three letters, unless the page's site accepts it.
+/// The evidence is lang.
 #[derive(Clone, Copy, Debug, PartialEq, Eq)]
 pub struct LanguageOfPartIsKnown;
 
@@ -28,7 +29,7 @@ impl LanguageOfPartIsKnown {
         no: RuleNo(Self::NO),
         id: *b"de46e4",
         applies: Class::Sub,
-        expects: Class::Sub,
+        expects: Class::SubLang,
         inputs: [0; 4],
     };
 }
@@ -74,11 +75,15 @@ fn is_target(sight: &Sight<'_>, lang: &Text) -> bool
     is_html_part(sight.row) && !blank(lang) && shows_text(&sight.below)
 }
 
-fn verdict(alloc: Global, sight: &Sight<'_>) -> Result<Option<Verdict>, OutOfMemory>
-    ensures { IfOk result (λ verdict. verdict ≡ part_verdict (seen_sight sight.now)) }
+fn verdict(
+    alloc: Global,
+    accepted: &List<Text>,
+    sight: &Sight<'_>,
+) -> Result<Option<Verdict>, OutOfMemory>
+    ensures { IfOk result (λ verdict. verdict ≡ part_verdict accepted.now (seen_sight sight.now)) }
 {
     match attr(sight.row, Attribute::Lang) {
-        Some(lang) if is_target(sight, lang) => Ok(Some(tag_verdict(alloc, lang)?)),
+        Some(lang) if is_target(sight, lang) => Ok(Some(tag_verdict(alloc, accepted, lang)?)),
         _ => Ok(None),
     }
 }
@@ -94,7 +99,7 @@ impl Rule for LanguageOfPartIsKnown {
 
     fn judge(&self, alloc: Global, tree: &Tree, n: NodeId) -> Result<Option<Verdict>, OutOfMemory> {
         match sight_with(tree, n, Attribute::Lang) {
-            Some(sight) => verdict(alloc, &sight),
+            Some(sight) => verdict(alloc, tree.langs(), &sight),
             None => Ok(None),
         }
     }

@@ -6,7 +6,7 @@ ghost use Rattle.rules_page.specs.Languages.{languages, primary_subtag, is_three
 
 use aria_tables::is_among;
 use rule_core::{Finding, Reason, Verdict};
-use snap_tree::{OutOfMemory, Text};
+use snap_tree::{List, OutOfMemory, Text, same_folded};
 use std::alloc::Global;
 
 /// The primary subtags of two letters (IANA Language Subtag Registry).
@@ -29,6 +29,15 @@ fn is_language(subtag: &str) -> bool
     ensures { result ≡ is_among languages subtag.now }
 {
     is_among(subtag.as_bytes(), &LANGUAGES)
+}
+
+fn is_accepted(accepted: &List<Text>, subtag: &str) -> bool
+    ensures { result ≡ is_among accepted.now subtag.now }
+{
+    accepted
+        .as_slice()
+        .iter()
+        .any(|lang| same_folded(subtag, lang.as_str()))
 }
 
 fn is_all_letters(subtag: &str) -> bool
@@ -57,10 +66,10 @@ fn primary_subtag(lang: &str) -> &str
     }
 }
 
-fn subtag_finding(subtag: &str) -> Finding
-    ensures { result ≡ subtag_finding subtag.now }
+fn subtag_finding(accepted: &List<Text>, subtag: &str) -> Finding
+    ensures { result ≡ subtag_finding accepted.now subtag.now }
 {
-    if is_language(subtag) {
+    if is_language(subtag) || is_accepted(accepted, subtag) {
         Finding::met()
     } else if is_three_letters(subtag) {
         Finding::cant_tell(Reason::ThreeLetter)
@@ -70,9 +79,14 @@ fn subtag_finding(subtag: &str) -> Finding
 }
 
 /// What is said of a language tag (BCP 47), by its primary subtag: it passes where that is a known one of
-/// two letters, a person has to judge any other of three letters, and all else fails.
-pub(crate) fn tag_verdict(alloc: Global, lang: &Text) -> Result<Verdict, OutOfMemory>
-    ensures { IfOk result (λ verdict. verdict ≡ tag_verdict lang.now) }
+/// two letters or among those that the page's site accepts, a person has to judge any other of three letters, and
+/// all else fails.
+pub(crate) fn tag_verdict(
+    alloc: Global,
+    accepted: &List<Text>,
+    lang: &Text,
+) -> Result<Verdict, OutOfMemory>
+    ensures { IfOk result (λ verdict. verdict ≡ tag_verdict accepted.now lang.now) }
 {
-    subtag_finding(primary_subtag(lang.as_str())).verdict(alloc, lang)
+    subtag_finding(accepted, primary_subtag(lang.as_str())).verdict(alloc, lang)
 }

@@ -95,7 +95,7 @@ fn rebuilt(alloc: Global, tree: &Tree, rows: Vec<Row>, index: u32) -> Result<Tre
     let address = tree.address().copy(alloc)?;
     let rows = List::from_vec(rows);
     match Tree::build(alloc, Raw { address, rows }) {
-        Ok(tree) => Ok(tree),
+        Ok(new) => Ok(new.with_langs_of(tree)?),
         Err(BuildFault::Tree(fault)) => Err(EditFault::At {
             index,
             kind: EditKind::Tree(fault),
@@ -125,7 +125,7 @@ fn apply_some(alloc: Global, tree: &Tree, earlier: &[Edit], last: &Edit) -> Resu
 }
 
 /// The page after a list of edits, carried out one after another. The given page stays, and the new one
-/// has its address; an empty list gives an equal page.
+/// has its address and its list of language subtags; an empty list gives an equal page.
 ///
 /// It is refused with the index, counted from 0, and the kind of the first edit that can't be carried
 /// out; a list of more than 200 edits with index 200 and TooManyEdits before anything else. Want of

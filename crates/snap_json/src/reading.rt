@@ -1,4 +1,4 @@
-ghost use Rattle.std.specs.Prelude.{◌≡◌, ◌≢◌, Err, IfOk, option_map};
+ghost use Rattle.std.specs.Prelude.{◌≡◌, ◌≢◌, [], Err, IfOk, option_map};
 ghost use Rattle.serde_json.specs.View.{view};
 ghost use Rattle.web_address.specs.Address.{IsWebAddress};
 ghost use Rattle.snap_json.specs.Faults.{Gives, Answers};
@@ -34,12 +34,13 @@ pub fn raw_of(alloc: Global, value: &Value) -> Result<Raw, SnapFault>
     page_of(alloc, SENT, value)
 }
 
-/// Reads a snapshot and builds its tree. The faults are those of `read_raw`, and last the first one
-/// of the rows, which `Tree::build` names.
+/// Reads a snapshot and builds its tree, with no language subtag. The faults are those of `read_raw`, and
+/// last the first one of the rows, which `Tree::build` names.
 #[tactic(auto, using(crate::proofs::Answering::answers))]
 pub fn read_snapshot(alloc: Global, bytes: &[u8]) -> Result<Tree, SnapFault>
     ensures exact { Answers result (sent_tree bytes.now) }
     ensures web_address { IfOk result (λ tree. IsWebAddress tree.address) }
+    ensures no_langs { IfOk result (λ tree. tree.langs ≡ []) }
 {
     tree_in(alloc, SENT, bytes)
 }
@@ -50,6 +51,7 @@ pub fn read_snapshot(alloc: Global, bytes: &[u8]) -> Result<Tree, SnapFault>
 pub fn read_kept(alloc: Global, bytes: &[u8]) -> Result<Tree, SnapFault>
     ensures exact { Answers result (kept_tree bytes.now) }
     ensures web_address { IfOk result (λ tree. IsWebAddress tree.address) }
+    ensures no_langs { IfOk result (λ tree. tree.langs ≡ []) }
     ensures never_too_long { result ≢ Err SnapFault.TooLong }
 {
     tree_in(alloc, KEPT, bytes)
@@ -60,6 +62,7 @@ pub fn read_kept(alloc: Global, bytes: &[u8]) -> Result<Tree, SnapFault>
 fn tree_in(alloc: Global, limits: Limits, bytes: &[u8]) -> Result<Tree, SnapFault>
     ensures exact { Gives result (tree_in limits bytes.now) }
     ensures web_address { IfOk result (λ tree. IsWebAddress tree.address) }
+    ensures no_langs { IfOk result (λ tree. tree.langs ≡ []) }
 {
     build(alloc, page_in(alloc, limits, bytes)?)
 }
@@ -67,6 +70,7 @@ fn tree_in(alloc: Global, limits: Limits, bytes: &[u8]) -> Result<Tree, SnapFaul
 fn build(alloc: Global, page: Raw) -> Result<Tree, SnapFault>
     ensures exact { Gives result (built page) }
     ensures address { IfOk result (λ tree. tree.address ≡ page.address) }
+    ensures no_langs { IfOk result (λ tree. tree.langs ≡ []) }
 {
     match Tree::build(alloc, page) {
         Ok(tree) => Ok(tree),

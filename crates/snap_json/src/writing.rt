@@ -5,7 +5,7 @@ ghost use Rattle.serde_json.specs.Data.{array, object};
 ghost use Rattle.serde_json.specs.View.{items_of};
 ghost use Rattle.serde_json.specs.Written.{compact_text};
 ghost use Rattle.snap_json.specs.Small.{IsSmall};
-ghost use Rattle.snap_tree.specs.Trees.{rows_of};
+ghost use Rattle.snap_tree.specs.Trees.{rows_of, with_langs};
 ghost use Rattle.web_address.specs.Address.{IsWebAddress};
 ghost use Rattle.snap_json.specs.Pages.{json_of, kept_tree, sent_tree};
 ghost use Rattle.snap_json.specs.Tokens.{tokens_of};
@@ -16,19 +16,20 @@ use json::Writer;
 use snap_tree::{Attr, Body, Facts, List, NodeId, OutOfMemory, Row, Space, Text, Tree};
 use std::alloc::Global;
 
-/// Writes a tree as a snapshot: compact JSON, the keys of each object in byte order.
+/// Writes a tree as a snapshot: compact JSON, the keys of each object in byte order. The list of language
+/// subtags isn't written.
 ///
-/// Where the address is a web address, `read_kept` reads the tree back; and so does `read_snapshot`,
-/// where the bytes number at most 8,388,608 and the address has at most 65,536.
+/// Where the address is a web address, `read_kept` reads the tree back, with no language subtag; and so does
+/// `read_snapshot`, where the bytes number at most 8,388,608 and the address has at most 65,536.
 #[tactic(auto, using(crate::proofs::ReadTree::kept_back, crate::proofs::ReadTree::sent_back))]
 pub fn write_snapshot(alloc: Global, tree: &Tree) -> Result<Vec<u8>, OutOfMemory>
     ensures text { IfOk result
         (λ b. b.items ≡ snapshot_text tree.now.address (rows_of tree.now.trees)) }
     ensures kept { IfOk result
-        (λ b. IsWebAddress tree.now.address → kept_tree b.items ≡ Ok tree.now) }
+        (λ b. IsWebAddress tree.now.address → kept_tree b.items ≡ Ok (with_langs tree.now [])) }
     ensures sent { IfOk result
         (λ b. IsWebAddress tree.now.address → length b.items ≤ MOST_SNAPSHOT_BYTES
-        → length tree.now.address ≤ MOST_ADDRESS_BYTES → sent_tree b.items ≡ Ok tree.now) }
+        → length tree.now.address ≤ MOST_ADDRESS_BYTES → sent_tree b.items ≡ Ok (with_langs tree.now [])) }
 {
     page_text(alloc, tree.address(), tree.rows())
 }

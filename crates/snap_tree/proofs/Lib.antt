@@ -14,3 +14,4 @@ pub mod Climbing
 pub mod Weights
 pub mod Naming
 pub mod Soundness
+mod LangLists

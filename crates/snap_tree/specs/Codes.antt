@@ -97,4 +97,5 @@ abbrev pub coded_trees : Coded Trees
 coded_trees = code_by (List (Option Row)) (coded_list (coded_option coded_row)) marks (λ ms. first (read ms [])) (λ t. ap first (read-marks t []))
 
 abbrev pub coded_document : Coded Document
-coded_document = code_by (List ℕ × Trees) (coded× (coded_list coded_ℕ) coded_trees) (λ d. (d.address, d.trees)) (λ p. document p.0 p.1) (λ _. refl)
+coded_document = code_by (List ℕ × (List (List ℕ) × Trees)) (coded× (coded_list coded_ℕ) (coded× (coded_list (coded_list coded_ℕ)) coded_trees))
+    (λ d. (d.address, (d.langs, d.trees))) (λ p. document p.0 p.1.0 p.1.1) (λ _. refl)

@@ -29,9 +29,9 @@ abbrev pub grown : List Row → Trees
 grown [] = empty
 grown (r ∷ rows) = tree r (taken r (grown rows)) (left r (grown rows))
 
--- the page that an address and rows make
+-- the page that an address and rows make, with no language subtag
 abbrev pub page_of : Raw → Document
-page_of raw = document raw.address (grown raw.rows)
+page_of raw = document raw.address [] (grown raw.rows)
 
 -- The same, from the first row to the last: each row goes under its parent as the last child. The
 -- nodes that are open for one more row are the last root, its last child, and so on down; of those

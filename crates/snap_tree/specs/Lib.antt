@@ -1,4 +1,5 @@
 pub mod Trees
+pub mod Langs
 pub mod Codes
 pub mod Grown
 pub mod Rows

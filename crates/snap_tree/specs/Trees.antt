@@ -7,18 +7,23 @@ pub data Trees : Type 0 where
   empty : Trees
   tree : Row → Trees → Trees → Trees
 
--- a page: its address, and the tree of its nodes
+-- a page: its address, the language subtags that its site accepts, and the tree of its nodes
 pub record Document : Type 0 where
   pub address : List ℕ
+  pub langs : List (List ℕ)
   pub trees : Trees
 
--- the page of this address, with these trees
-abbrev pub document : List ℕ → Trees → Document
-document address trees = record { address = address; trees = trees }
+-- the page of this address, with these language subtags and these trees
+abbrev pub document : List ℕ → List (List ℕ) → Trees → Document
+document address langs trees = record { address = address; langs = langs; trees = trees }
 
 -- the same page, but with these trees
 abbrev pub with_trees : Document → Trees → Document
-with_trees page trees = document page.address trees
+with_trees page trees = document page.address page.langs trees
+
+-- the same page, but with these language subtags
+abbrev pub with_langs : Document → List (List ℕ) → Document
+with_langs page langs = document page.address langs page.trees
 
 -- the rows in document order, which is preorder
 abbrev pub rows_of : Trees → List Row

@@ -1,7 +1,8 @@
 ghost use Rattle.std.specs.Prelude.{◌≡◌, [], None, IfSome, IfOk, IfErr, OnOk, option_and_then};
 ghost use Rattle.std.specs.Option.{option_copied, option_map};
 ghost use Rattle.std.specs.List.{find};
-ghost use Rattle.snap_tree.specs.Trees.{document, rows_of};
+ghost use Rattle.snap_tree.specs.Trees.{document, rows_of, with_langs};
+ghost use Rattle.snap_tree.specs.Langs.{AreLangs};
 ghost use Rattle.snap_tree.specs.Grown.{grown, page_of};
 ghost use Rattle.snap_tree.specs.Rows.{has_number};
 ghost use Rattle.snap_tree.specs.Faults.{shape_fault, tree_fault};
@@ -23,17 +24,20 @@ use crate::kids::Kids;
 use crate::labels::all_labels;
 use crate::places::Places;
 use crate::row::{NodeId, Raw, Row};
+use crate::shared::SharedLangs;
 use crate::weight::{MOST_WEIGHT, reference_weight};
 use std::alloc::Global;
 use std::marker::Model;
 use std::sync::Arc;
 use texts::{List, OutOfMemory, Text};
 
-/// A page: its address, and the tree of its nodes. Contracts see it as a `Document`. Nothing changes a
-/// tree, so its copies share one page in memory, in any threads.
+/// A page: its address, the language subtags that its site accepts, and the tree of its nodes. Contracts see
+/// it as a `Document`. Nothing changes a tree, so its copies share one page and one list in memory, in any
+/// threads.
 #[derive(Drop)]
 pub struct Tree {
     shared: Arc<Page>,
+    langs: SharedLangs,
 }
 
 impl Model for Tree {
@@ -47,7 +51,7 @@ impl Model for Tree {
 
     ghost use Rattle.snap_tree.specs.Grown.{grown};
 
-    ghost view = { λ t. document (arc_value t.shared).address (grown (arc_value t.shared).rows.items) };
+    ghost view = { λ t. document (arc_value t.shared).address t.langs (grown (arc_value t.shared).rows.items) };
 }
 
 // The rows of a page, and all by which they are looked up.
@@ -137,7 +141,7 @@ pub fn tree_fault(alloc: Global, rows: &[Row]) -> Result<Option<TreeFault>, OutO
 }
 
 impl Tree {
-    /// The tree whose rows in document order are the given ones.
+    /// The tree whose rows in document order are the given ones, with no language subtag.
     ///
     /// It is refused exactly where the rows have a fault, with the first one in this order: first of all
     /// the number of rows, then each row in list order, by its place and then by itself, and at last what
@@ -169,14 +173,44 @@ impl Tree {
             tags,
         };
         let shared = Arc::new(alloc, page)?;
-        Ok(Tree { shared })
+        let langs = SharedLangs::none(alloc)?;
+        Ok(Tree { shared, langs })
     }
 
     // The page that the tree shares with its copies.
     fn page(&self) -> &Page
-        ensures { document result.now.address (grown result.now.rows.items) ≡ self.now }
+        ensures { document result.now.address self.now.langs (grown result.now.rows.items) ≡ self.now }
     {
         &self.shared
+    }
+
+    /// The language subtags that the page's site accepts beside those of two letters.
+    pub fn langs(&self) -> &List<Text>
+        ensures langs { result.now ≡ self.now.langs }
+        ensures form { AreLangs self.now.langs }
+    {
+        self.langs.get()
+    }
+
+    /// The tree with this list of language subtags, which `langs_fault` has to find no fault in, in place of
+    /// its own. It shares the page in memory, and fails only for want of memory.
+    pub fn with_langs(&self, alloc: Global, langs: &List<Text>) -> Result<Self, OutOfMemory>
+        requires { AreLangs langs.now }
+        ensures { IfOk result (λ t. t ≡ with_langs self.now langs.now) }
+    {
+        let shared = Arc::try_clone(&self.shared)?;
+        let langs = SharedLangs::new(alloc, langs.copy(alloc)?)?;
+        Ok(Tree { shared, langs })
+    }
+
+    /// The tree with another tree's list of language subtags in place of its own. Both share the list in
+    /// memory, so it takes none. `OutOfMemory` says that there can be no more copies.
+    pub fn with_langs_of(&self, other: &Tree) -> Result<Self, OutOfMemory>
+        ensures { IfOk result (λ t. t ≡ with_langs self.now other.now.langs) }
+    {
+        let shared = Arc::try_clone(&self.shared)?;
+        let langs = other.langs.copy()?;
+        Ok(Tree { shared, langs })
     }
 
     /// The page's address.
@@ -299,12 +333,13 @@ impl Tree {
         Ok(List::from_vec(labels))
     }
 
-    /// An equal tree, which shares the page in memory: it takes no memory of its own, and the same short time
-    /// for any page. `OutOfMemory` says that there can be no more copies.
+    /// An equal tree, which shares the page and the list in memory: it takes no memory of its own, and the
+    /// same short time for any page. `OutOfMemory` says that there can be no more copies.
     pub fn copy(&self) -> Result<Self, OutOfMemory>
         ensures { IfOk result (λ copy. copy ≡ self.now) }
     {
         let shared = Arc::try_clone(&self.shared)?;
-        Ok(Tree { shared })
+        let langs = self.langs.copy()?;
+        Ok(Tree { shared, langs })
     }
 }

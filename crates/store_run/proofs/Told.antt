@@ -30,7 +30,7 @@ store_refused g book words keeper keeper' input out err err' wire broken door lo
     (record { input = refl; out = refl; door = refl; log = refl; calls = refl; tells_none = ap (told_of g) none; never_falls = falls }) told)
 
 -- why a store of another edition is refused
-pub other_edition : {S : Type 0} (g : Ghosts S) (keeper keeper' : Keeper S) (p : Prepared) (number : ℕ) → p ≡ prepared.OtherEdition number → ((n : ℕ) → p ≡ prepared.OtherEdition n → n ≢ 1) → IsNoted g p keeper' →
+pub other_edition : {S : Type 0} (g : Ghosts S) (keeper keeper' : Keeper S) (p : Prepared) (number : ℕ) → p ≡ prepared.OtherEdition number → ((n : ℕ) → p ≡ prepared.OtherEdition n → n ≢ 2) → IsNoted g p keeper' →
     RefusalCause g (OtherEdition number) keeper keeper'
 other_edition g keeper keeper' p number is other noted = (other number is, subst (λ q. IsNoted g q keeper') is noted)
 

@@ -25,7 +25,7 @@ pub record IsUntouched {L : Type 0} (old new : Outside) (before now : Desk L) : 
 module _ {S : Type 0} (g : Ghosts S) where
   -- why a store isn't run over: the edition that its rows note, where it is clean and open, or a fault that the keeper counted
   abbrev pub RefusalCause : StoreRefusal → Keeper S → Keeper S → Type 0
-  RefusalCause (OtherEdition number) old new = (number ≢ 1) × HasEdition g number new.waiting
+  RefusalCause (OtherEdition number) old new = (number ≢ 2) × HasEdition g number new.waiting
   RefusalCause StoreFault old new = Rose old.faults new.faults
   RefusalCause NoMemory old new = Unit {0}
 
@@ -40,7 +40,7 @@ module _ {S : Type 0} (g : Ghosts S) where
   pub record IsRunOver {L : Type 0} (book : Book) (words : List (List ℕ)) (old new : Outside) (before now : Desk L) (number : ℕ) : Type 0 where
     pub prepared : Keeper S
     pub ready : IsSome prepared.ready
-    pub edition : HasEdition g 1 prepared.ready
+    pub edition : HasEdition g 2 prepared.ready
     pub never_falls : before.faults ≤ prepared.faults
     pub runs : Runs book words old new (record before { tables = tables g prepared; faults = prepared.faults }) now number
 

@@ -1,17 +1,17 @@
 -- The rows of a page's outcomes are what is shown of them, behind the names of the site and the page.
-use Rattle.std.proofs.Common.{◌≡◌, inr, inl, ℕ, zero, suc, List, [], ◌∷◌, map, drop, length, filter, true, IsTrue, refl, sym, ap, ap₂, subst, ◌∙◌, arith, All}
+use Rattle.std.proofs.Common.{◌≡◌, ℕ, zero, suc, List, [], ◌∷◌, map, drop, length, filter, true, refl, sym, ap, ap₂, subst, ◌∙◌, arith, All}
 use Rattle.std.proofs.lemmas.Bool.{and_parts}
 use Rattle.std.proofs.lemmas.List.Elements.{All-head, All-tail, All-nil}
 use Rattle.sqlite_value.specs.declared.value.Value.{Value}
 use Rattle.sqlite_value.specs.declared.value.Value.TheVariants.{Text}
-use Rattle.sqlite_value.specs.Order.{Row, column, bytes}
+use Rattle.sqlite_value.specs.Order.{Row, column}
 use Rattle.sqlite_rules.specs.Lists.{Has}
 use Rattle.sqlite_rules.proofs.ListLemmas.{has_filtered}
 use Rattle.sqlite_rules.proofs.ProbeLemmas.{has_mapped}
 use Rattle.sqlite.specs.State.{State}
 use Rattle.named_rows.proofs.Lookups.{all_put_rows}
 use Rattle.sql_rows.specs.Keyed.{text}
-use Rattle.sql_rows.specs.Tables.{letters, name_in, leads, kept, same_name, name_at}
+use Rattle.sql_rows.specs.Tables.{letters, name_in, leads, kept, name_at}
 use Rattle.sql_rows.proofs.Canon.{name_is}
 use Rattle.sql_rows.proofs.Letters.{IsOf}
 use Rattle.sql_rows.proofs.Sorting.{all_of_had}

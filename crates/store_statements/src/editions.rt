@@ -1,13 +1,15 @@
 //! The table of the store's edition.
 
-ghost use Rattle.std.specs.Prelude.{◌≡◌};
+ghost use Rattle.std.specs.Prelude.{◌≡◌, IsTrue};
 ghost use Rattle.sql_rows.specs.Inside.{Steps};
-ghost use Rattle.store_statements.specs.Schema.{edition_table};
+ghost use Rattle.store_statements.specs.Schema.{key_index, edition_table};
 ghost use Rattle.store_statements.specs.Stored.{editions_at};
 ghost use Rattle.store_statements.specs.Changes.{ShowsInside, MakesInside, AddsEdition};
 ghost use Rattle.store_statements.specs.Making.{MakesTableInside};
 
+use crate::ours::{is_index, is_table};
 use sqlite::{Alter, Error, Row, Transaction, params};
+use sqlite_schema::schema::{Index, Kind, Table};
 
 /// Makes the last table, `edition`, in a store that has those before it and no other.
 ///
@@ -22,6 +24,20 @@ pub fn make_edition<S: Alter>(tx: &mut Transaction<'_, S>) -> Result<usize, Erro
         "CREATE TABLE edition (number INT NOT NULL, PRIMARY KEY (number)) STRICT",
         &[],
     )
+}
+
+/// Whether it is this table.
+pub(crate) fn is_edition(table: &Table) -> bool
+    ensures { IsTrue result → table.now ≡ edition_table }
+{
+    is_table(table, "edition", 10, &[("number", Kind::Integer)], &[1])
+}
+
+/// Whether it is the index of its key.
+pub(crate) fn is_edition_index(index: &Index) -> bool
+    ensures { IsTrue result → index.now ≡ key_index edition_table }
+{
+    is_index(index, "sqlite_autoindex_edition_1", 11, 10, &[1])
 }
 
 /// The numbers of the editions that are noted, from the least.

@@ -1,13 +1,15 @@
 //! The table of judgements.
 
-ghost use Rattle.std.specs.Prelude.{◌≡◌};
+ghost use Rattle.std.specs.Prelude.{◌≡◌, IsTrue};
 ghost use Rattle.sql_rows.specs.Inside.{Steps};
-ghost use Rattle.store_statements.specs.Schema.{judgements_table};
+ghost use Rattle.store_statements.specs.Schema.{key_index, judgements_table};
 ghost use Rattle.store_statements.specs.Stored.{judgements_at};
 ghost use Rattle.store_statements.specs.Changes.{ShowsInside, MakesInside, DropsJudgements, AddsJudgement};
 ghost use Rattle.store_statements.specs.Making.{MakesTableInside};
 
+use crate::ours::{is_index, is_table};
 use sqlite::{Alter, Error, Row, Transaction, params};
+use sqlite_schema::schema::{Index, Kind, Table};
 
 /// A row of the judgements of a page.
 #[derive(Clone, Copy)]
@@ -35,6 +37,36 @@ pub fn make_judgements<S: Alter>(tx: &mut Transaction<'_, S>) -> Result<usize, E
         "CREATE TABLE judgements (site TEXT NOT NULL, page TEXT NOT NULL, seq INTEGER NOT NULL, rule INTEGER NOT NULL, node INTEGER NOT NULL, verdict INTEGER NOT NULL, hand TEXT NOT NULL, note TEXT NOT NULL, evidence TEXT NOT NULL, PRIMARY KEY (site, page, seq)) STRICT",
         &[],
     )
+}
+
+/// Whether it is this table.
+pub(crate) fn is_judgements(table: &Table) -> bool
+    ensures { IsTrue result → table.now ≡ judgements_table }
+{
+    is_table(
+        table,
+        "judgements",
+        6,
+        &[
+            ("site", Kind::Text),
+            ("page", Kind::Text),
+            ("seq", Kind::Integer),
+            ("rule", Kind::Integer),
+            ("node", Kind::Integer),
+            ("verdict", Kind::Integer),
+            ("hand", Kind::Text),
+            ("note", Kind::Text),
+            ("evidence", Kind::Text),
+        ],
+        &[1, 2, 3],
+    )
+}
+
+/// Whether it is the index of its key.
+pub(crate) fn is_judgements_index(index: &Index) -> bool
+    ensures { IsTrue result → index.now ≡ key_index judgements_table }
+{
+    is_index(index, "sqlite_autoindex_judgements_1", 7, 6, &[1, 2, 3])
 }
 
 /// The judgements of a page, each from its `seq` on, in order of their `seq`.

@@ -1,13 +1,15 @@
 //! The table of members.
 
-ghost use Rattle.std.specs.Prelude.{◌≡◌};
+ghost use Rattle.std.specs.Prelude.{◌≡◌, IsTrue};
 ghost use Rattle.sql_rows.specs.Inside.{Steps};
-ghost use Rattle.store_statements.specs.Schema.{members_table};
+ghost use Rattle.store_statements.specs.Schema.{key_index, members_table};
 ghost use Rattle.store_statements.specs.Stored.{members_at};
 ghost use Rattle.store_statements.specs.Changes.{ShowsInside, MakesInside, DropsMembers, AddsMember};
 ghost use Rattle.store_statements.specs.Making.{MakesTableInside};
 
+use crate::ours::{is_index, is_table};
 use sqlite::{Alter, Error, Row, Transaction, params};
+use sqlite_schema::schema::{Index, Kind, Table};
 
 /// Makes the second table, `members`, in a store that has those before it and no other.
 ///
@@ -22,6 +24,30 @@ pub fn make_members<S: Alter>(tx: &mut Transaction<'_, S>) -> Result<usize, Erro
         "CREATE TABLE members (site TEXT NOT NULL, user TEXT NOT NULL, role INTEGER NOT NULL, PRIMARY KEY (site, user)) STRICT",
         &[],
     )
+}
+
+/// Whether it is this table.
+pub(crate) fn is_members(table: &Table) -> bool
+    ensures { IsTrue result → table.now ≡ members_table }
+{
+    is_table(
+        table,
+        "members",
+        2,
+        &[
+            ("site", Kind::Text),
+            ("user", Kind::Text),
+            ("role", Kind::Integer),
+        ],
+        &[1, 2],
+    )
+}
+
+/// Whether it is the index of its key.
+pub(crate) fn is_members_index(index: &Index) -> bool
+    ensures { IsTrue result → index.now ≡ key_index members_table }
+{
+    is_index(index, "sqlite_autoindex_members_1", 3, 2, &[1, 2])
 }
 
 /// The users and roles of a site's members, in byte order of the users.

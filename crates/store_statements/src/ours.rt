@@ -2,8 +2,14 @@
 
 ghost use Rattle.std.specs.Prelude.{◌≡◌, ◌∷◌, [], IsTrue, map, true};
 ghost use Rattle.sqlite_value.specs.Keys.{plain};
-ghost use Rattle.store_statements.specs.Schema.{column_of, table_of, key_index, the_schema, the_tables, sites_table, members_table, pages_table, judgements_table, outcomes_table, edition_table};
+ghost use Rattle.store_statements.specs.Schema.{column_of, table_of, key_index, the_schema, the_tables};
 
+use crate::editions::{is_edition, is_edition_index};
+use crate::judgements::{is_judgements, is_judgements_index};
+use crate::members::{is_members, is_members_index};
+use crate::outcomes::{is_outcomes, is_outcomes_index};
+use crate::pages::{is_pages, is_pages_index};
+use crate::sites::{is_sites, is_sites_index};
 use sqlite_items::Items;
 use sqlite_schema::code::Terms;
 use sqlite_schema::schema::{Column, Index, Kind, Schema, Table};
@@ -64,7 +70,13 @@ fn is_plain(orders: &[Order]) -> bool
 }
 
 // Whether a table has nothing but these columns and this key.
-fn is_table(table: &Table, name: &str, tree: u32, columns: &[(&str, Kind)], key: &[usize]) -> bool
+pub(crate) fn is_table(
+    table: &Table,
+    name: &str,
+    tree: u32,
+    columns: &[(&str, Kind)],
+    key: &[usize],
+) -> bool
     ensures { IsTrue result → table.now ≡ table_of name.now tree (map (λ w. column_of w.0.now w.1) columns.now) key.now }
 {
     table.name.as_slice() == name.as_bytes()
@@ -83,103 +95,6 @@ fn is_table(table: &Table, name: &str, tree: u32, columns: &[(&str, Kind)], key:
         && !table.is_counted
 }
 
-fn is_sites(table: &Table) -> bool
-    ensures { IsTrue result → table.now ≡ sites_table }
-{
-    is_table(
-        table,
-        "sites",
-        0,
-        &[("name", Kind::Text), ("counter", Kind::Integer)],
-        &[1],
-    )
-}
-
-fn is_members(table: &Table) -> bool
-    ensures { IsTrue result → table.now ≡ members_table }
-{
-    is_table(
-        table,
-        "members",
-        2,
-        &[
-            ("site", Kind::Text),
-            ("user", Kind::Text),
-            ("role", Kind::Integer),
-        ],
-        &[1, 2],
-    )
-}
-
-fn is_pages(table: &Table) -> bool
-    ensures { IsTrue result → table.now ≡ pages_table }
-{
-    is_table(
-        table,
-        "pages",
-        4,
-        &[
-            ("site", Kind::Text),
-            ("page", Kind::Text),
-            ("rev", Kind::Integer),
-            ("hand", Kind::Text),
-            ("snapshot", Kind::Blob),
-        ],
-        &[1, 2],
-    )
-}
-
-fn is_judgements(table: &Table) -> bool
-    ensures { IsTrue result → table.now ≡ judgements_table }
-{
-    is_table(
-        table,
-        "judgements",
-        6,
-        &[
-            ("site", Kind::Text),
-            ("page", Kind::Text),
-            ("seq", Kind::Integer),
-            ("rule", Kind::Integer),
-            ("node", Kind::Integer),
-            ("verdict", Kind::Integer),
-            ("hand", Kind::Text),
-            ("note", Kind::Text),
-            ("evidence", Kind::Text),
-        ],
-        &[1, 2, 3],
-    )
-}
-
-fn is_outcomes(table: &Table) -> bool
-    ensures { IsTrue result → table.now ≡ outcomes_table }
-{
-    is_table(
-        table,
-        "outcomes",
-        8,
-        &[
-            ("site", Kind::Text),
-            ("page", Kind::Text),
-            ("seq", Kind::Integer),
-            ("rule", Kind::Integer),
-            ("node", Kind::Integer),
-            ("auto", Kind::Integer),
-            ("reason", Kind::Text),
-            ("evidence", Kind::Text),
-            ("last", Kind::Integer),
-            ("hand", Kind::Text),
-        ],
-        &[1, 2, 3],
-    )
-}
-
-fn is_edition(table: &Table) -> bool
-    ensures { IsTrue result → table.now ≡ edition_table }
-{
-    is_table(table, "edition", 10, &[("number", Kind::Integer)], &[1])
-}
-
 fn has_tables(tables: &[Table]) -> bool
     ensures { IsTrue result → tables.now ≡ the_tables }
 {
@@ -193,7 +108,7 @@ fn has_tables(tables: &[Table]) -> bool
 }
 
 // Whether it is the index of a key, that SQLite makes itself.
-fn is_index(index: &Index, name: &str, tree: u32, table: u32, key: &[usize]) -> bool
+pub(crate) fn is_index(index: &Index, name: &str, tree: u32, table: u32, key: &[usize]) -> bool
     ensures { IsTrue result → index.now ≡ record { name = name.now; tree = tree; table = table; columns = key.now; order = plain; is_unique = true } }
 {
     index.name.as_slice() == name.as_bytes()
@@ -202,42 +117,6 @@ fn is_index(index: &Index, name: &str, tree: u32, table: u32, key: &[usize]) -> 
         && index.columns.as_slice() == key
         && index.order == Order::PLAIN
         && index.is_unique
-}
-
-fn is_sites_index(index: &Index) -> bool
-    ensures { IsTrue result → index.now ≡ key_index sites_table }
-{
-    is_index(index, "sqlite_autoindex_sites_1", 1, 0, &[1])
-}
-
-fn is_members_index(index: &Index) -> bool
-    ensures { IsTrue result → index.now ≡ key_index members_table }
-{
-    is_index(index, "sqlite_autoindex_members_1", 3, 2, &[1, 2])
-}
-
-fn is_pages_index(index: &Index) -> bool
-    ensures { IsTrue result → index.now ≡ key_index pages_table }
-{
-    is_index(index, "sqlite_autoindex_pages_1", 5, 4, &[1, 2])
-}
-
-fn is_judgements_index(index: &Index) -> bool
-    ensures { IsTrue result → index.now ≡ key_index judgements_table }
-{
-    is_index(index, "sqlite_autoindex_judgements_1", 7, 6, &[1, 2, 3])
-}
-
-fn is_outcomes_index(index: &Index) -> bool
-    ensures { IsTrue result → index.now ≡ key_index outcomes_table }
-{
-    is_index(index, "sqlite_autoindex_outcomes_1", 9, 8, &[1, 2, 3])
-}
-
-fn is_edition_index(index: &Index) -> bool
-    ensures { IsTrue result → index.now ≡ key_index edition_table }
-{
-    is_index(index, "sqlite_autoindex_edition_1", 11, 10, &[1])
 }
 
 fn has_indexes(indexes: &[Index]) -> bool

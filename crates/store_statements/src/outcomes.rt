@@ -1,13 +1,15 @@
 //! The table of outcomes.
 
-ghost use Rattle.std.specs.Prelude.{◌≡◌};
+ghost use Rattle.std.specs.Prelude.{◌≡◌, IsTrue};
 ghost use Rattle.sql_rows.specs.Inside.{Steps};
-ghost use Rattle.store_statements.specs.Schema.{outcomes_table};
+ghost use Rattle.store_statements.specs.Schema.{key_index, outcomes_table};
 ghost use Rattle.store_statements.specs.Stored.{outcomes_at};
 ghost use Rattle.store_statements.specs.Changes.{ShowsInside, MakesInside, DropsOutcomes, PutsOutcome};
 ghost use Rattle.store_statements.specs.Making.{MakesTableInside};
 
+use crate::ours::{is_index, is_table};
 use sqlite::{Alter, Error, Row, Transaction, params};
+use sqlite_schema::schema::{Index, Kind, Table};
 
 /// A row of the outcomes of a page.
 #[derive(Clone, Copy)]
@@ -36,6 +38,37 @@ pub fn make_outcomes<S: Alter>(tx: &mut Transaction<'_, S>) -> Result<usize, Err
         "CREATE TABLE outcomes (site TEXT NOT NULL, page TEXT NOT NULL, seq INTEGER NOT NULL, rule INTEGER NOT NULL, node INTEGER NOT NULL, auto INTEGER NOT NULL, reason TEXT NOT NULL, evidence TEXT NOT NULL, last INTEGER NOT NULL, hand TEXT NOT NULL, PRIMARY KEY (site, page, seq)) STRICT",
         &[],
     )
+}
+
+/// Whether it is this table.
+pub(crate) fn is_outcomes(table: &Table) -> bool
+    ensures { IsTrue result → table.now ≡ outcomes_table }
+{
+    is_table(
+        table,
+        "outcomes",
+        8,
+        &[
+            ("site", Kind::Text),
+            ("page", Kind::Text),
+            ("seq", Kind::Integer),
+            ("rule", Kind::Integer),
+            ("node", Kind::Integer),
+            ("auto", Kind::Integer),
+            ("reason", Kind::Text),
+            ("evidence", Kind::Text),
+            ("last", Kind::Integer),
+            ("hand", Kind::Text),
+        ],
+        &[1, 2, 3],
+    )
+}
+
+/// Whether it is the index of its key.
+pub(crate) fn is_outcomes_index(index: &Index) -> bool
+    ensures { IsTrue result → index.now ≡ key_index outcomes_table }
+{
+    is_index(index, "sqlite_autoindex_outcomes_1", 9, 8, &[1, 2, 3])
 }
 
 /// The outcomes of a page, each from its `seq` on, in order of their `seq`.

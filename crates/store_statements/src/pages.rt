@@ -1,13 +1,15 @@
 //! The table of pages.
 
-ghost use Rattle.std.specs.Prelude.{◌≡◌};
+ghost use Rattle.std.specs.Prelude.{◌≡◌, IsTrue};
 ghost use Rattle.sql_rows.specs.Inside.{Steps};
-ghost use Rattle.store_statements.specs.Schema.{pages_table};
+ghost use Rattle.store_statements.specs.Schema.{key_index, pages_table};
 ghost use Rattle.store_statements.specs.Stored.{page_at, heads_at};
 ghost use Rattle.store_statements.specs.Changes.{ShowsInside, MakesInside, PutsPage, DropsPage};
 ghost use Rattle.store_statements.specs.Making.{MakesTableInside};
 
+use crate::ours::{is_index, is_table};
 use sqlite::{Alter, Error, Row, Transaction, params};
+use sqlite_schema::schema::{Index, Kind, Table};
 
 /// Makes the third table, `pages`, in a store that has those before it and no other.
 ///
@@ -22,6 +24,32 @@ pub fn make_pages<S: Alter>(tx: &mut Transaction<'_, S>) -> Result<usize, Error>
         "CREATE TABLE pages (site TEXT NOT NULL, page TEXT NOT NULL, rev INTEGER NOT NULL, hand TEXT NOT NULL, snapshot BLOB NOT NULL, PRIMARY KEY (site, page)) STRICT",
         &[],
     )
+}
+
+/// Whether it is this table.
+pub(crate) fn is_pages(table: &Table) -> bool
+    ensures { IsTrue result → table.now ≡ pages_table }
+{
+    is_table(
+        table,
+        "pages",
+        4,
+        &[
+            ("site", Kind::Text),
+            ("page", Kind::Text),
+            ("rev", Kind::Integer),
+            ("hand", Kind::Text),
+            ("snapshot", Kind::Blob),
+        ],
+        &[1, 2],
+    )
+}
+
+/// Whether it is the index of its key.
+pub(crate) fn is_pages_index(index: &Index) -> bool
+    ensures { IsTrue result → index.now ≡ key_index pages_table }
+{
+    is_index(index, "sqlite_autoindex_pages_1", 5, 4, &[1, 2])
 }
 
 /// The revision, hand and snapshot of a page, or no row.

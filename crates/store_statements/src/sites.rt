@@ -1,13 +1,15 @@
 //! The table of sites.
 
-ghost use Rattle.std.specs.Prelude.{◌≡◌};
+ghost use Rattle.std.specs.Prelude.{◌≡◌, IsTrue};
 ghost use Rattle.sql_rows.specs.Inside.{Steps};
-ghost use Rattle.store_statements.specs.Schema.{sites_table};
+ghost use Rattle.store_statements.specs.Schema.{key_index, sites_table};
 ghost use Rattle.store_statements.specs.Stored.{site_at};
 ghost use Rattle.store_statements.specs.Changes.{ShowsInside, MakesInside, PutsSite};
 ghost use Rattle.store_statements.specs.Making.{MakesTableInside};
 
+use crate::ours::{is_index, is_table};
 use sqlite::{Alter, Error, Row, Transaction, params};
+use sqlite_schema::schema::{Index, Kind, Table};
 
 /// Makes the first table, `sites`, in a store that has none.
 ///
@@ -22,6 +24,26 @@ pub fn make_sites<S: Alter>(tx: &mut Transaction<'_, S>) -> Result<usize, Error>
         "CREATE TABLE sites (name TEXT NOT NULL, counter INTEGER NOT NULL, PRIMARY KEY (name)) STRICT",
         &[],
     )
+}
+
+/// Whether it is this table.
+pub(crate) fn is_sites(table: &Table) -> bool
+    ensures { IsTrue result → table.now ≡ sites_table }
+{
+    is_table(
+        table,
+        "sites",
+        0,
+        &[("name", Kind::Text), ("counter", Kind::Integer)],
+        &[1],
+    )
+}
+
+/// Whether it is the index of its key.
+pub(crate) fn is_sites_index(index: &Index) -> bool
+    ensures { IsTrue result → index.now ≡ key_index sites_table }
+{
+    is_index(index, "sqlite_autoindex_sites_1", 1, 0, &[1])
 }
 
 /// The counter of a site, or no row.

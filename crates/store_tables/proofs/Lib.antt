@@ -1,3 +1,4 @@
+mod Bare
 pub mod Steps
 pub mod Each
 pub mod Counted

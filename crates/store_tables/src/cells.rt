@@ -1,6 +1,6 @@
 //! Values of a row: how each is read, and what numbers are written.
 
-ghost use Rattle.std.specs.Prelude.{◌≡◌, ◌≤◌, pos, Some, IfOk, OnOk, IsTrue};
+ghost use Rattle.std.specs.Prelude.{◌≡◌, ◌≤◌, [], pos, Some, IfOk, OnOk, IsTrue};
 ghost use Rattle.sqlite_value.specs.Order.{column};
 ghost use Rattle.sql_rows.specs.Tables.{name_at};
 ghost use Rattle.keep_core.specs.Names.{is_name};
@@ -128,6 +128,7 @@ pub fn reason(row: &Row, at: usize) -> Result<Reason, StoreFault>
 pub fn tree(alloc: Global, memo: &mut Memo, row: &Row, at: usize) -> Result<Tree, StoreFault>
     ensures reads { IfOk result (λ t. tree_in (column row.now at) ≡ Some t) }
     ensures web_address { IfOk result (λ t. IsWebAddress t.address) }
+    ensures no_langs { IfOk result (λ t. t.langs ≡ []) }
 {
     let bytes: Vec<u8> = row.get(at)?;
     memo.read(alloc, bytes)

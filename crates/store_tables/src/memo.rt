@@ -1,4 +1,4 @@
-ghost use Rattle.std.specs.Prelude.{◌≡◌, Ok as ok, Err as err, IfOk, IfSome, Some, None};
+ghost use Rattle.std.specs.Prelude.{◌≡◌, [], Ok as ok, Err as err, IfOk, IfSome, Some, None};
 ghost use Rattle.std.specs.Option.{option_copied};
 ghost use Rattle.web_address.specs.Address.{IsWebAddress, address_of};
 ghost use Rattle.snap_json.specs.Pages.{kept_tree};
@@ -10,13 +10,14 @@ use snap_json::{SnapFault, read_kept};
 use snap_tree::Tree;
 use std::alloc::Global;
 
-// A snapshot, and the tree that it is read as, whose address is a web address.
+// A snapshot, and the tree that it is read as, whose address is a web address, with no language subtag.
 #[derive(Drop)]
 struct Snapshot {
     bytes: Vec<u8>,
     tree: Tree,
     ghost reads: { kept_tree bytes.items ≡ ok tree },
     ghost stands: { address_of tree.address ≡ Some tree.address },
+    ghost bare: { tree.langs ≡ [] },
 }
 
 /// The snapshot that was read or written last, with its tree: of equal ones, one after another, only the first is
@@ -37,6 +38,7 @@ impl Memo {
     fn known(&self, bytes: &[u8]) -> Option<&Tree>
         ensures reads { IfSome (option_copied result) (λ tree. kept_tree bytes.now ≡ ok tree) }
         ensures web_address { IfSome (option_copied result) (λ tree. IsWebAddress tree.address) }
+        ensures no_langs { IfSome (option_copied result) (λ tree. tree.langs ≡ []) }
     {
         match &self.last {
             Some(last) if last.bytes.as_slice() == bytes => Some(&last.tree),
@@ -53,6 +55,7 @@ impl Memo {
         ensures reads { IfOk result (λ tree. kept_tree bytes.items ≡ ok tree) }
         ensures failed { result ≡ err fault.Failed → read_back (kept_tree bytes.items) ≡ None }
         ensures web_address { IfOk result (λ tree. IsWebAddress tree.address) }
+        ensures no_langs { IfOk result (λ tree. tree.langs ≡ []) }
     {
         if let Some(tree) = self.known(bytes.as_slice()) {
             return copied(tree);
@@ -68,6 +71,7 @@ impl Memo {
     pub fn keep(&mut self, bytes: Vec<u8>, tree: &Tree)
         requires reads { kept_tree bytes.items ≡ ok tree.now }
         requires web_address { IsWebAddress tree.now.address }
+        requires no_langs { tree.now.langs ≡ [] }
     {
         self.last = match tree.copy() {
             Ok(tree) => Some(Snapshot { bytes, tree }),
@@ -91,6 +95,7 @@ fn parsed(alloc: Global, bytes: &[u8]) -> Result<Tree, StoreFault>
     ensures reads { IfOk result (λ tree. kept_tree bytes.now ≡ ok tree) }
     ensures failed { result ≡ err fault.Failed → read_back (kept_tree bytes.now) ≡ None }
     ensures web_address { IfOk result (λ tree. IsWebAddress tree.address) }
+    ensures no_langs { IfOk result (λ tree. tree.langs ≡ []) }
 {
     match read_kept(alloc, bytes) {
         Ok(tree) => Ok(tree),

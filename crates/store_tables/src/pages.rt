@@ -28,6 +28,7 @@ pub struct PageValues {
 /// # Errors
 ///
 /// `Failed` where the revision is above the greatest number of a column, and `OutOfMemory`.
+#[tactic(auto, using(crate::proofs::Bare::kept_bare))]
 pub fn page_values(alloc: Global, page: &Page) -> Result<PageValues, StoreFault>
     requires fits { FitsPage page.now }
     ensures rev { IfOk result (λ v. v.rev ≡ pos page.now.head.rev) }

@@ -1,10 +1,15 @@
+ghost use Rattle.std.specs.Prelude.{◌<◌, IfOk, vec_len};
+
 use crate::samples::{Node, lines, page, work};
-use audit::{after_judgement, audit_page, audit_pages};
+use audit::{PageWork, after_judgement, audit_page, audit_pages};
 use fixture_rules::{Judged, Marks, judgements};
-use judge_core::infos_of;
+use judge_core::{Outcomes, infos_of};
 use rule_core::Auto::{CantTell, Failed, Passed};
 use rule_core::RuleBook;
+use snap_tree::{OutOfMemory, Tree};
+use std::alloc::Global;
 use std::test::Fail;
+use std::thread::Threads;
 
 // A page on which documents' order isn't that of the numbers.
 static PAGE: [Node; 6] = [
@@ -117,58 +122,149 @@ static CASES: [(&[Judged], &str); 7] = [
     ),
 ];
 
-#[test]
-fn a_page_has_the_rows_of_each_rule(rt: HostRuntime) -> Result<(), Fail> {
-    let alloc = rt.alloc();
+// How many judgings an audit of the page takes, and one for each case; and how many rules the book has.
+const JUDGINGS: u64 = 18;
+
+const ALL_JUDGINGS: u64 = 126;
+
+const RULES: usize = 5;
+
+fn are_lines(alloc: Global, outcomes: &Outcomes, wanted: &str) -> Result<bool, Fail> {
+    let lines = lines(alloc, outcomes)?;
+    Ok(lines.as_str() == wanted)
+}
+
+// The outcomes of a page under what is judged.
+fn audited(
+    alloc: Global,
+    book: &mut Marks,
+    tree: &Tree,
+    said: &[Judged],
+) -> Result<Outcomes, OutOfMemory> {
+    let js = judgements(alloc, said)?;
+    audit_page(alloc, book, tree, js.as_slice())
+}
+
+// Whether outcomes have these rows after what is judged later.
+fn shows_after(
+    alloc: Global,
+    book: &Marks,
+    outcomes: &Outcomes,
+    later: &[Judged],
+    wanted: &str,
+) -> Result<bool, Fail> {
+    let js = judgements(alloc, later)?;
+    let again = after_judgement(alloc, book, outcomes, js.as_slice())?;
+    are_lines(alloc, &again, wanted)
+}
+
+// Whether they have the rows of each case after what is judged in it.
+fn shows_each(alloc: Global, book: &Marks, outcomes: &Outcomes) -> Result<bool, Fail> {
+    for (later, wanted) in CASES.as_slice() {
+        if !shows_after(alloc, book, outcomes, later, wanted)? {
+            return Ok(false);
+        }
+    }
+    Ok(true)
+}
+
+// Whether the page has these rows under what is judged, and those of each case under what is judged later in it, which takes
+// no judging more.
+fn has_rows(alloc: Global, tree: &Tree, said: &[Judged], wanted: &str) -> Result<bool, Fail> {
+    let mut book = Marks::new();
+    let outcomes = audited(alloc, &mut book, tree, said)?;
+    let is_audited = are_lines(alloc, &outcomes, wanted)?;
+    let is_shown = shows_each(alloc, &book, &outcomes)?;
+    Ok(is_audited && is_shown && book.calls() == JUDGINGS)
+}
+
+fn all_have_rows(alloc: Global) -> Result<(), Fail> {
     let tree = page(alloc, PAGE.as_slice())?;
     for (said, wanted) in CASES.as_slice() {
-        let mut book = Marks::new();
-        let js = judgements(alloc, said)?;
-        let outcomes = audit_page(alloc, &mut book, &tree, js.as_slice())?;
-        assert_eq!(rt; lines(alloc, &outcomes)?.as_str(), *wanted, "{said:?}");
-        assert_eq!(rt; book.calls(), 18);
-        for (later, wanted) in CASES.as_slice() {
-            let js = judgements(alloc, later)?;
-            let again = after_judgement(alloc, &book, &outcomes, js.as_slice())?;
-            assert_eq!(rt;
-                lines(alloc, &again)?.as_str(),
-                *wanted,
-                "{said:?} {later:?}"
-            );
+        if !has_rows(alloc, &tree, said, wanted)? {
+            return Err(Fail::from(*wanted));
         }
-        assert_eq!(rt; book.calls(), 18);
-        assert_eq!(rt; infos_of(alloc, &book)?.len(), 5);
+    }
+    Ok(())
+}
+
+#[test]
+fn a_page_has_the_rows_of_each_rule(rt: HostRuntime) -> Result<(), Fail> {
+    all_have_rows(rt.alloc())
+}
+
+#[test]
+fn a_book_says_what_each_of_its_rules_is(rt: HostRuntime) -> Result<(), Fail> {
+    let infos = infos_of(rt.alloc(), &Marks::new())?;
+    assert_eq!(rt; infos.len(), RULES);
+    Ok(())
+}
+
+// The page under what is judged in each case.
+fn works(alloc: Global) -> Result<Vec<PageWork>, Fail> {
+    let mut works = Vec::new(alloc);
+    for (said, _) in CASES.as_slice() {
+        works.push(work(alloc, PAGE.as_slice(), said)?)?;
+    }
+    Ok(works)
+}
+
+// So many books, one at least.
+fn books_of(alloc: Global, count: u32) -> Result<Vec<Marks>, OutOfMemory>
+    ensures { IfOk result (λ books. 0 < vec_len books) }
+{
+    let mut books = Vec::new(alloc);
+    for _ in 1..count {
+        books.push(Marks::new())?;
+    }
+    books.push(Marks::new())?;
+    Ok(books)
+}
+
+// Whether these are the rows of the cases, in their order.
+fn are_rows(alloc: Global, all: &[Outcomes]) -> Result<bool, Fail> {
+    for (outcomes, (_, wanted)) in all.iter().zip(CASES.as_slice()) {
+        if !are_lines(alloc, outcomes, wanted)? {
+            return Ok(false);
+        }
+    }
+    Ok(all.len() == CASES.len())
+}
+
+fn judgings_of(books: &[Marks]) -> u64 {
+    let mut judgings = 0u64;
+    for book in books {
+        judgings = judgings.saturating_add(book.calls());
+    }
+    judgings
+}
+
+// Whether so many books find the rows of the cases, each page by as many judgings as by itself.
+fn find_rows<R: Threads + Sync>(
+    rt: &R,
+    alloc: Global,
+    works: &[PageWork],
+    count: u32,
+) -> Result<bool, Fail> {
+    let mut books = books_of(alloc, count)?;
+    let all = audit_pages(rt, alloc, books.as_mut_slice(), works)?;
+    let judgings = judgings_of(books.as_slice());
+    Ok(are_rows(alloc, all.as_slice())? && judgings == ALL_JUDGINGS)
+}
+
+static COUNTS: [u32; 4] = [1, 2, 3, 16];
+
+fn all_find_rows<R: Threads + Sync>(rt: &R, alloc: Global) -> Result<(), Fail> {
+    let works = works(alloc)?;
+    for count in COUNTS.as_slice() {
+        if !find_rows(rt, alloc, works.as_slice(), *count)? {
+            return Err(Fail::from(*count));
+        }
     }
     Ok(())
 }
 
 #[test]
 fn pages_are_audited_in_their_order_by_any_number_of_books(rt: HostRuntime) -> Result<(), Fail> {
-    let alloc = rt.alloc();
-    let mut pages = Vec::new(alloc);
-    for (said, _) in CASES.as_slice() {
-        pages.push(work(alloc, PAGE.as_slice(), said)?)?;
-    }
-    for count in [1, 2, 3, 16] {
-        let mut books = Vec::new(alloc);
-        for _ in 1..count {
-            books.push(Marks::new())?;
-        }
-        books.push(Marks::new())?;
-        let all = audit_pages(&rt, alloc, books.as_mut_slice(), pages.as_slice())?;
-        assert_eq!(rt; all.len(), CASES.len());
-        for (outcomes, (said, wanted)) in all.iter().zip(CASES.as_slice()) {
-            assert_eq!(rt;
-                lines(alloc, outcomes)?.as_str(),
-                *wanted,
-                "{count} {said:?}"
-            );
-        }
-        let mut calls = 0u64;
-        for book in books.iter() {
-            calls = calls.saturating_add(book.calls());
-        }
-        assert_eq!(rt; calls, 126);
-    }
-    Ok(())
+    all_find_rows(&rt, rt.alloc())
 }

@@ -1,5 +1,5 @@
-//! Tests of audits: of a page, of many pages by any number of books, and after judgements; of copies of outcomes; and
-//! of the texts that pages of tests are read from. There is no call of its own.
+//! Tests of audits: of a page, of many pages by any number of books, and after judgements; of copies of outcomes; of the
+//! texts that pages of tests are read from; and of the reports of a page and of a site. There is no call of its own.
 #![tactic(auto)]
 
 #[cfg(test)]
@@ -10,5 +10,9 @@ mod copies;
 mod no_rows;
 #[cfg(test)]
 mod samples;
+#[cfg(test)]
+mod sites;
+#[cfg(test)]
+mod text;
 #[cfg(test)]
 mod workers;

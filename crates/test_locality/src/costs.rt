@@ -297,6 +297,25 @@ static OWNED: Edited = (
     ],
 );
 
+// Elements that own one element, which is a child of another one too.
+static FOLLOWED: Edited = (
+    "1 0 html;2 1 div role=list aria-owns=x;3 1 button aria-owns=x~y;4 1 p;5 4 b id=x;6 5 #A",
+    &[
+        (
+            "1 0 html;2 1 div role=list aria-owns=x;3 1 button aria-owns=x~y;4 1 p;5 4 b id=x;6 5 #B",
+            29 + 5 * 2 + 4 + 2 + 2,
+        ),
+        (
+            "1 0 html;2 1 div role=list aria-owns=x;3 1 button aria-owns=x~y;4 1 p;5 4 b;6 5 #A",
+            29 + 4 * 2 + 4 + 2 + 2,
+        ),
+        (
+            "1 0 html;2 1 div role=list;3 1 button aria-owns=x~y;4 1 p;5 4 b id=x;6 5 #A",
+            29 + 2 + 4,
+        ),
+    ],
+);
+
 fn each_costs(alloc: Global, edited: &Edited) -> Result<(), Fail> {
     let (before, afters) = *edited;
     for (after, wanted) in afters {
@@ -355,4 +374,9 @@ fn a_text_reaches_what_hides_it(rt: HostRuntime) -> Result<(), Fail> {
 #[test]
 fn an_item_reaches_its_list(rt: HostRuntime) -> Result<(), Fail> {
     each_costs(rt.alloc(), &OWNED)
+}
+
+#[test]
+fn an_element_reaches_what_owns_it(rt: HostRuntime) -> Result<(), Fail> {
+    each_costs(rt.alloc(), &FOLLOWED)
 }

@@ -89,7 +89,7 @@ fn agree_at(alloc: Global, pair: &Pair<'_>, key: Key<'_>) -> Result<bool, Fail> 
         Key::Frame(n) => Ok(!holds(pair.frames.as_slice(), n)),
         Key::Own(n) => Ok(!holds(pair.own.as_slice(), n)),
         Key::Kids(n) => Ok(!holds(pair.kids.as_slice(), n)),
-        Key::Id(_) | Key::LabelFor(_) | Key::Tagged(_) => {
+        Key::Id(_) | Key::LabelFor(_) | Key::Tagged(_) | Key::Langs => {
             Ok(!differs(alloc, pair.old.tree, pair.new, key)?)
         }
     }

@@ -23,6 +23,8 @@ mod random;
 #[cfg(test)]
 mod reach;
 #[cfg(test)]
+mod relisted;
+#[cfg(test)]
 mod smaller;
 #[cfg(test)]
 mod values;

@@ -1,5 +1,5 @@
-//! Pages at random, each with edits at random: the audit after the edits has the outcomes of a full one, and judges the
-//! pairs of a rule and a node that a plain program finds affected.
+//! Pages at random on which an element owns others by aria-owns, each with edits at random: the audit after the edits has
+//! the outcomes of a full one, and judges the pairs of a rule and a node that a plain program finds affected.
 
 ghost use Rattle.std.specs.Prelude.{◌≡◌, IfOk, IfSome};
 
@@ -21,18 +21,35 @@ const MOST_NODES: u32 = 14;
 
 const MOST_EDITS: u64 = 3;
 
+// What a page begins with: a root, and an element that owns others where their ids are there.
+static ROOTS: [&str; 3] = ["1 0 html", "1 0 html lang=gsw-CH", "1 0 html lang=xxx"];
+
+static OWNERS: [&str; 6] = [
+    "2 1 div role=list aria-owns=a~b",
+    "2 1 button aria-owns=b~a~b",
+    "2 1 h2 id=a aria-owns=b",
+    "2 1 a href=/x aria-owns=a",
+    "2 1 label for=a aria-owns=b",
+    "2 1 div role=list id=b aria-owns=c~a",
+];
+
 static TAGS: [&str; 16] = [
     "p", "div", "button", "a", "h2", "label", "input", "table", "tr", "td", "th", "title", "meta",
     "img", "main", "svg:svg",
 ];
 
-static ATTRIBUTES: [&str; 24] = [
+static ATTRIBUTES: [&str; 28] = [
     "id=a",
+    "id=a",
+    "id=a",
+    "id=b",
+    "id=b",
     "id=b",
     "aria-labelledby=a",
     "aria-labelledby=a~b",
     "aria-describedby=b",
-    "aria-owns=c",
+    "aria-owns=a",
+    "aria-owns=b~a",
     "for=a",
     "alt=x",
     "title=t",
@@ -42,19 +59,19 @@ static ATTRIBUTES: [&str; 24] = [
     "aria-hidden=true",
     "aria-label=n",
     "aria-expanded=true",
-    "lang=xx",
+    "lang=gsw",
     "href=/x",
     "class=c",
     "headers=a",
     "scope=col",
-    "http-equiv=refresh",
-    "content=5",
+    "http-equiv=refresh content=5",
     "type=image",
     "autocomplete=name",
 ];
 
 // Names and values of attributes that edits set and take out.
-static NAMES: [&str; 12] = [
+static NAMES: [&str; 15] = [
+    "id",
     "id",
     "aria-labelledby",
     "for",
@@ -62,14 +79,18 @@ static NAMES: [&str; 12] = [
     "role",
     "aria-hidden",
     "lang",
+    "xml:lang",
     "href",
     "class",
     "headers",
     "content",
     "aria-owns",
+    "aria-owns",
 ];
 
-static VALUES: [&str; 8] = ["a", "b", "a b", "true", "list", "xx", "5", ""];
+static VALUES: [&str; 10] = [
+    "a", "b", "a b", "b c a", "true", "list", "gsw", "xx", "5", "",
+];
 
 static WORDS: [&str; 4] = ["One", "Two", "Go", ""];
 
@@ -100,11 +121,14 @@ fn last_of(open: &[u32]) -> u32 {
 }
 
 // A page's text: each node stands below the last element before it, or below one that is above that.
-fn page_text(alloc: Global, dice: &mut Dice) -> Result<String, AllocError> {
-    let mut text = String::from_str(alloc, "1 0 html")?;
+pub(crate) fn page_text(alloc: Global, dice: &mut Dice) -> Result<String, AllocError> {
+    let root = dice.pick(&ROOTS, "1 0 html");
+    let owner = dice.pick(&OWNERS, "2 1 p");
+    let mut text = format!(in alloc; "{root};{owner}")?;
     let mut open = Vec::new(alloc);
     open.push(1)?;
-    for n in 2..MOST_NODES {
+    open.push(2)?;
+    for n in 3..MOST_NODES {
         let depth = dice.below(open.len() as u64);
         open.truncate((depth as usize).saturating_add(1));
         let row = row_text(alloc, dice, n, last_of(open.as_slice()))?;
@@ -174,7 +198,7 @@ fn edit(alloc: Global, dice: &mut Dice) -> Result<Edit, Fail> {
 }
 
 // The page after edits; None where they can't be carried out.
-fn edited(alloc: Global, old: &Tree, edits: &[Edit]) -> Result<Option<Tree>, OutOfMemory>
+pub(crate) fn edited(alloc: Global, old: &Tree, edits: &[Edit]) -> Result<Option<Tree>, OutOfMemory>
     ensures { IfOk result (λ new. IfSome new (λ t. t.address ≡ old.now.address)) }
 {
     match apply(alloc, old, edits) {
@@ -185,7 +209,7 @@ fn edited(alloc: Global, old: &Tree, edits: &[Edit]) -> Result<Option<Tree>, Out
 }
 
 // Edits that can be carried out.
-fn edits(alloc: Global, dice: &mut Dice, old: &Tree) -> Result<Vec<Edit>, Fail> {
+pub(crate) fn edits(alloc: Global, dice: &mut Dice, old: &Tree) -> Result<Vec<Edit>, Fail> {
     let mut edits = Vec::new(alloc);
     for _ in 0..=dice.below(MOST_EDITS) {
         edits.push(edit(alloc, dice)?)?;

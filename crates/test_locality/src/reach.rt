@@ -254,6 +254,11 @@ fn add_whole(keys: &mut Vec<Key<'_>>, place: Place<'_>, n: NodeId) -> Result<(),
     Ok(())
 }
 
+fn add_langs(keys: &mut Vec<Key<'_>>) -> Result<(), AllocError> {
+    keys.push(Key::Langs)?;
+    Ok(())
+}
+
 /// Adds what a class looks at.
 pub(crate) fn add_class<'a>(
     keys: &mut Vec<Key<'a>>,
@@ -269,5 +274,10 @@ pub(crate) fn add_class<'a>(
         Class::Title => add_titles(keys, place, n),
         Class::Metas => add_metas(keys, place.tree, n),
         Class::Whole => add_whole(keys, place, n),
+        Class::Lang => add_langs(keys),
+        Class::SubLang => {
+            add_langs(keys)?;
+            add_sub(keys, place, n)
+        }
     }
 }

@@ -58,7 +58,7 @@ const STILL: &str = "1 0 html;2 1 button";
 
 const STOP: &str = "1 0 html;2 1 button !rvft";
 
-static ON_NAMES: [Smaller; 13] = [
+static ON_NAMES: [Smaller; 14] = [
     (
         8,
         Less::Expects(SelfOnly),
@@ -78,6 +78,13 @@ static ON_NAMES: [Smaller; 13] = [
         Less::LostIds,
         "1 0 html;2 1 button aria-labelledby=q;3 1 p;4 3 #Find",
         "1 0 html;2 1 button aria-labelledby=q;3 1 p id=q;4 3 #Find",
+        2,
+    ),
+    (
+        8,
+        Less::LostIds,
+        "1 0 html;2 1 button aria-owns=q;3 1 p;4 3 #Find",
+        "1 0 html;2 1 button aria-owns=q;3 1 p id=q;4 3 #Find",
         2,
     ),
     (
@@ -152,7 +159,7 @@ static ON_NAMES: [Smaller; 13] = [
     ),
 ];
 
-static ON_ARIA: [Smaller; 10] = [
+static ON_ARIA: [Smaller; 11] = [
     (
         17,
         Less::Own,
@@ -214,6 +221,13 @@ static ON_ARIA: [Smaller; 10] = [
         Less::Expects(SelfOnly),
         "1 0 html;2 1 p role=list",
         "1 0 html;2 1 p role=list;3 2 p role=listitem",
+        2,
+    ),
+    (
+        22,
+        Less::LostIds,
+        "1 0 html;2 1 p role=list aria-owns=q;3 1 p role=listitem",
+        "1 0 html;2 1 p role=list aria-owns=q;3 1 p role=listitem id=q",
         2,
     ),
     (

@@ -12,9 +12,11 @@ pub(crate) enum Key<'a> {
     Id(&'a str),
     LabelFor(&'a str),
     Tagged(&'a str),
+    /// The language subtags that the site accepts.
+    Langs,
 }
 
-static LOOKED_AT: [&str; 24] = [
+static LOOKED_AT: [&str; 25] = [
     "alt",
     "autocomplete",
     "colspan",
@@ -39,6 +41,7 @@ static LOOKED_AT: [&str; 24] = [
     "title",
     "type",
     "value",
+    "xml:lang",
 ];
 
 fn is_looked_at(name: &str) -> bool {
@@ -173,6 +176,13 @@ fn add_tagged(alloc: Global, text: &mut String, tree: &Tree, tag: &str) -> Resul
     Ok(())
 }
 
+fn add_langs(text: &mut String, tree: &Tree) -> Result<(), AllocError> {
+    for lang in tree.langs().as_slice() {
+        add_part(text, lang.as_str())?;
+    }
+    Ok(())
+}
+
 fn add_node(
     alloc: Global,
     text: &mut String,
@@ -204,6 +214,7 @@ pub(crate) fn value(alloc: Global, tree: &Tree, key: Key) -> Result<String, Allo
         }
         Key::LabelFor(id) => add_labels(alloc, &mut text, tree, id)?,
         Key::Tagged(tag) => add_tagged(alloc, &mut text, tree, tag)?,
+        Key::Langs => add_langs(&mut text, tree)?,
     }
     Ok(text)
 }

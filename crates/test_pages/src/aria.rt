@@ -22,7 +22,7 @@ fn yes(is_so: bool) -> &'static str {
 }
 
 /// The words of the flags that hold.
-fn flags(alloc: Global, flags: &[(bool, &str)]) -> Result<String, Trouble> {
+pub(crate) fn flags(alloc: Global, flags: &[(bool, &str)]) -> Result<String, Trouble> {
     let mut line = String::new(alloc);
     for (is_so, word) in flags {
         if *is_so {
@@ -43,15 +43,32 @@ pub(crate) fn from_table(
         "role" => role(alloc, rest),
         "attribute" => attribute(alloc, rest),
         "value" => value(alloc, rest),
-        "bytes" => Ok(String::from_str(alloc, yes(value_ok(attr_in(rest)?, bytes)))?),
-        "kind" => Ok(format!(in alloc; "{:?}", value_kind(attr_in(rest)?))?),
-        "requires" => required(alloc, required_states(role_in(rest)?)),
-        "allows" => listed(alloc, allowed_owned(role_in(rest)?)),
-        "through" => listed(alloc, looks_through(role_in(rest)?)),
+        "bytes" => are_ok(alloc, attr_in(rest)?, bytes),
+        "kind" => kind(alloc, rest),
         "among" => among(alloc, rest),
         "same" => same(alloc, rest),
+        _ => of_role(alloc, word, role_in(rest)?),
+    }
+}
+
+// What a role requires, may own, and is looked through.
+fn of_role(alloc: Global, word: &str, role: Role) -> Result<String, Trouble> {
+    match word {
+        "requires" => required(alloc, required_states(role)),
+        "allows" => listed(alloc, allowed_owned(role)),
+        "through" => listed(alloc, looks_through(role)),
         _ => Err(Trouble::NotInForm),
     }
+}
+
+// Whether bytes are a value of an attribute.
+fn are_ok(alloc: Global, attr: AriaAttr, bytes: &[u8]) -> Result<String, Trouble> {
+    Ok(String::from_str(alloc, yes(value_ok(attr, bytes)))?)
+}
+
+fn kind(alloc: Global, rest: &str) -> Result<String, Trouble> {
+    let kind = value_kind(attr_in(rest)?);
+    Ok(format!(in alloc; "{kind:?}")?)
 }
 
 // The role of a word, and its kinds.
@@ -75,19 +92,23 @@ fn attribute(alloc: Global, rest: &str) -> Result<String, Trouble> {
     let name = unquoted(alloc, rest)?;
     let name = name.as_str().as_bytes();
     let mut line = flags(alloc, &[(is_later(name), "later")])?;
-    if let Some(attr) = attr_of(name) {
-        let word = format!(in alloc; "{attr:?}")?;
-        push_word(&mut line, word.as_str())?;
-        let kinds = [
-            (is_global(attr), "global"),
-            (is_reference(attr), "reference"),
-        ];
-        let kinds = flags(alloc, kinds.as_slice())?;
-        if !kinds.is_empty() {
-            push_word(&mut line, kinds.as_str())?;
-        }
+    match attr_of(name) {
+        Some(attr) => push_attr(alloc, &mut line, attr)?,
+        None => (),
     }
     Ok(line)
+}
+
+fn push_attr(alloc: Global, line: &mut String, attr: AriaAttr) -> Result<(), Trouble> {
+    let word = format!(in alloc; "{attr:?}")?;
+    push_word(line, word.as_str())?;
+    if is_global(attr) {
+        push_word(line, "global")?;
+    }
+    if is_reference(attr) {
+        push_word(line, "reference")?;
+    }
+    Ok(())
 }
 
 // Whether a value is one of the attribute's.

@@ -52,21 +52,32 @@ fn auto(word: &str) -> Result<Auto, Trouble> {
 
 /// What outcomes are merged to, in any order, and each by itself.
 pub(crate) fn merged(alloc: Global, rest: &str) -> Result<String, Trouble> {
-    let mut inputs = Vec::new(alloc);
-    for word in rest.split_whitespace() {
-        inputs.push(auto(word)?)?;
-    }
+    let inputs = autos(alloc, rest)?;
     let merged = merge_some(inputs.as_slice())?;
-    let mut is_same = merge_some([merged].as_slice())? == merged;
-    for start in 0..inputs.len() {
-        is_same &= merge_from(alloc, inputs.as_slice(), start)? == merged;
-    }
-    let said = if is_same {
+    let said = if is_same_in_turn(alloc, inputs.as_slice(), merged)? {
         outcome(merged)
     } else {
         "another in another order"
     };
     Ok(String::from_str(alloc, said)?)
+}
+
+fn autos(alloc: Global, words: &str) -> Result<Vec<Auto>, Trouble> {
+    let mut autos = Vec::new(alloc);
+    for word in words.split_whitespace() {
+        autos.push(auto(word)?)?;
+    }
+    Ok(autos)
+}
+
+// Whether that is merged of itself, and of the inputs in turn from each of them on.
+fn is_same_in_turn(alloc: Global, inputs: &[Auto], merged: Auto) -> Result<bool, Trouble> {
+    for start in 0..inputs.len() {
+        if merge_from(alloc, inputs, start)? != merged {
+            return Ok(false);
+        }
+    }
+    Ok(merge_some([merged].as_slice())? == merged)
 }
 
 // The same of the inputs in turn from a place on.
@@ -142,27 +153,32 @@ pub(crate) fn finally(
 
 /// The verdict that a finding makes of a text, as `failed no-lang`, or `met` with a text behind it.
 pub(crate) fn finding(alloc: Global, rest: &str) -> Result<String, Trouble> {
-    let (words, text) = match rest.split_once(" \"") {
-        Some((words, _)) => (
-            words,
-            Some(unquoted(alloc, rest.strip_prefix(words).unwrap_or(""))?),
-        ),
-        None => (rest, None),
-    };
+    let (words, text) = words_and_text(alloc, rest)?;
     let (kind, word) = cut(words, ' ');
-    let reason = Reason::from_word(word).unwrap_or(Reason::Met);
-    let finding = match kind {
-        "met" => Finding::met(),
-        "passed" => Finding::passed(reason),
-        "failed" => Finding::failed(reason),
-        "cantTell" => Finding::cant_tell(reason),
-        _ => return Err(Trouble::NotInForm),
-    };
-    let text = text.map(Text::from_string);
+    let finding = finding_of(kind, Reason::from_word(word).unwrap_or(Reason::Met))?;
     let verdict = finding.verdict_on(alloc, text.as_ref())?;
     let mut line = String::new(alloc);
     push_verdict(alloc, &mut line, &verdict)?;
     Ok(String::from_str(alloc, line.as_str().trim())?)
+}
+
+// What stands before a text in quotes, and the text.
+fn words_and_text(alloc: Global, rest: &str) -> Result<(&str, Option<Text>), Trouble> {
+    let Some((words, _)) = rest.split_once(" \"") else {
+        return Ok((rest, None));
+    };
+    let text = unquoted(alloc, rest.strip_prefix(words).unwrap_or(""))?;
+    Ok((words, Some(Text::from_string(text))))
+}
+
+fn finding_of(kind: &str, reason: Reason) -> Result<Finding, Trouble> {
+    match kind {
+        "met" => Ok(Finding::met()),
+        "passed" => Ok(Finding::passed(reason)),
+        "failed" => Ok(Finding::failed(reason)),
+        "cantTell" => Ok(Finding::cant_tell(reason)),
+        _ => Err(Trouble::NotInForm),
+    }
 }
 
 /// Whether a rule of these four inputs is atomic; an input of 0 is none.

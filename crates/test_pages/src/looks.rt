@@ -1,6 +1,8 @@
 //! Look-ups in a page, each also in a copy of it.
 
-use crate::names::{above, is_named, name_of, owns, owns_through, roles, standing};
+use crate::names::{
+    above, followed, is_named, items_of, name_of, owns, owns_through, roles, standing,
+};
 use crate::shown::{line_of, lines_of, number_of};
 use crate::trouble::Trouble;
 use crate::words::{cut, number, push_number, push_quoted, push_word, quoted, unquoted};
@@ -39,11 +41,21 @@ fn found(alloc: Global, tree: &Tree, word: &str, rest: &str) -> Result<String, T
         "find" => find(alloc, tree, rest),
         "nodes" => Ok(format!(in alloc; "{}", tree.rows().len())?),
         "address" => quoted(alloc, tree.address().as_str()),
+        "langs" => langs(alloc, tree),
         _ => {
             let (node, how) = cut(rest, ' ');
             of_node(alloc, tree, word, node_of(tree, node)?, how)
         }
     }
+}
+
+// The language subtags that the page's site accepts.
+fn langs(alloc: Global, tree: &Tree) -> Result<String, Trouble> {
+    let mut line = String::new(alloc);
+    for lang in tree.langs().as_slice() {
+        push_word(&mut line, lang.as_str())?;
+    }
+    Ok(line)
 }
 
 // The node of a number; `last` is the last of the page.
@@ -71,6 +83,9 @@ fn of_node(
         ("stands", "") => standing(alloc, tree, node),
         ("owns", "") => owns(alloc, tree, node),
         ("owns", "through groups") => owns_through(alloc, tree, node),
+        ("items", "") => items_of(alloc, tree, node, 1),
+        ("items", "without following") => items_of(alloc, tree, node, 0),
+        ("follows", "") => followed(alloc, tree, node),
         ("above", "") => all_above(alloc, tree, node),
         ("row", "") => row(alloc, tree, node),
         ("kids", "") => kids(alloc, tree, node),
@@ -249,12 +264,18 @@ pub(crate) fn cells(alloc: Global, tree: &Tree, rest: &str) -> Result<Vec<String
 pub(crate) fn page_lines(alloc: Global, tree: &Tree) -> Result<Vec<String>, Trouble> {
     let mut lines = lines_of(alloc, tree.rows())?;
     let copied = lines_of(alloc, tree.copy()?.rows())?;
-    let mut rows = Vec::new(alloc);
-    for row in tree.rows() {
-        rows.push(line_of(alloc, &row.copy(alloc)?)?)?;
-    }
+    let rows = copied_lines(alloc, tree)?;
     if copied.as_slice() != lines.as_slice() || rows.as_slice() != lines.as_slice() {
         lines.push(String::from_str(alloc, "but a copy differs")?)?;
+    }
+    Ok(lines)
+}
+
+// The lines of copies of a page's rows.
+fn copied_lines(alloc: Global, tree: &Tree) -> Result<Vec<String>, Trouble> {
+    let mut lines = Vec::new(alloc);
+    for row in tree.rows() {
+        lines.push(line_of(alloc, &row.copy(alloc)?)?)?;
     }
     Ok(lines)
 }

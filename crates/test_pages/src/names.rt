@@ -1,10 +1,14 @@
 //! Names, roles and what else the accessibility tree says of a node.
 
+ghost use Rattle.std.specs.Prelude.{◌≤◌};
+
+use crate::aria::flags;
 use crate::trouble::Trouble;
 use crate::words::{push_number, push_quoted, push_word};
 use acc_name::name;
 use acc_tree::{
-    decorative, explicit_role, exposed, implicit_role, included, owned, owned_by, role, sight_of,
+    decorative, explicit_role, exposed, follows, implicit_role, included, items, owned, owned_by,
+    role, sight_of,
 };
 use aria_tables::Role;
 use snap_tree::{NodeId, OutOfMemory, Tree};
@@ -47,17 +51,14 @@ pub(crate) fn roles(alloc: Global, tree: &Tree, node: NodeId) -> Result<String, 
 
 /// Whether a node is exposed, included and decorative.
 pub(crate) fn standing(alloc: Global, tree: &Tree, node: NodeId) -> Result<String, Trouble> {
-    let mut line = String::new(alloc);
-    for (is_so, word) in [
-        (exposed(tree, node), "exposed"),
-        (included(tree, node), "included"),
-        (decorative(tree, node), "decorative"),
-    ] {
-        if is_so {
-            push_word(&mut line, word)?;
-        }
-    }
-    Ok(line)
+    flags(
+        alloc,
+        &[
+            (exposed(tree, node), "exposed"),
+            (included(tree, node), "included"),
+            (decorative(tree, node), "decorative"),
+        ],
+    )
 }
 
 /// The numbers of the nodes that a node owns.
@@ -69,13 +70,45 @@ pub(crate) fn owns(alloc: Global, tree: &Tree, node: NodeId) -> Result<String, T
     Ok(line)
 }
 
+/// What a node owns where aria-owns is followed so many times, 0 or 1, each with how many times one may still follow
+/// from there on, as `5:1`.
+pub(crate) fn items_of(
+    alloc: Global,
+    tree: &Tree,
+    node: NodeId,
+    number: u8,
+) -> Result<String, Trouble>
+    requires { number ≤ 1 }
+{
+    let mut line = String::new(alloc);
+    for item in items(alloc, tree, node, number)?.as_slice() {
+        let NodeId(found) = item.node;
+        let number = item.number;
+        push_word(&mut line, format!(in alloc; "{found}:{number}")?.as_str())?;
+    }
+    Ok(line)
+}
+
+/// The numbers of the nodes that a node follows by aria-owns.
+pub(crate) fn followed(alloc: Global, tree: &Tree, node: NodeId) -> Result<String, Trouble> {
+    let mut line = String::new(alloc);
+    let Some(row) = tree.node(node) else {
+        return Ok(line);
+    };
+    for found in follows(alloc, tree, row)?.as_slice() {
+        push_number(alloc, &mut line, found.0)?;
+    }
+    Ok(line)
+}
+
 /// What a node owns where groups and row groups are looked through, with their roles.
 pub(crate) fn owns_through(alloc: Global, tree: &Tree, node: NodeId) -> Result<String, Trouble> {
     let mut line = String::new(alloc);
     let Some(sight) = sight_of(tree, node) else {
         return Ok(line);
     };
-    for found in owned_by(alloc, sight, &[Role::Group, Role::Rowgroup])?.as_slice() {
+    let through = [Role::Group, Role::Rowgroup];
+    for found in owned_by(alloc, tree, sight, 1, &through)?.as_slice() {
         push_number(alloc, &mut line, found.node.0)?;
         push_word(&mut line, found.role.word())?;
     }
@@ -85,28 +118,29 @@ pub(crate) fn owns_through(alloc: Global, tree: &Tree, node: NodeId) -> Result<S
 /// What is above a node: whether it is in a section, in a list, hidden and disabled, and the numbers of the
 /// nearest table and the nearest label.
 pub(crate) fn above(alloc: Global, tree: &Tree, node: NodeId) -> Result<String, Trouble> {
-    let mut line = String::new(alloc);
     let Some(sight) = sight_of(tree, node) else {
-        return Ok(line);
+        return Ok(String::new(alloc));
     };
     let above = sight.above;
-    for (is_so, word) in [
-        (above.is_in_section(), "section"),
-        (above.is_in_list(), "list"),
-        (above.is_hidden(), "hidden"),
-        (above.is_disabled(), "disabled"),
-    ] {
-        if is_so {
-            push_word(&mut line, word)?;
-        }
-    }
+    let mut line = flags(
+        alloc,
+        &[
+            (above.is_in_section(), "section"),
+            (above.is_in_list(), "list"),
+            (above.is_hidden(), "hidden"),
+            (above.is_disabled(), "disabled"),
+        ],
+    )?;
     if let Some(table) = above.table() {
-        push_word(&mut line, "table")?;
-        push_number(alloc, &mut line, table.node.0)?;
+        push_nearest(alloc, &mut line, "table", table.node)?;
     }
     if let Some(label) = above.label() {
-        push_word(&mut line, "label")?;
-        push_number(alloc, &mut line, label.0)?;
+        push_nearest(alloc, &mut line, "label", label)?;
     }
     Ok(line)
+}
+
+fn push_nearest(alloc: Global, line: &mut String, word: &str, node: NodeId) -> Result<(), Trouble> {
+    push_word(line, word)?;
+    push_number(alloc, line, node.0)
 }

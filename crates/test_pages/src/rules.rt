@@ -39,19 +39,28 @@ pub(crate) fn judge(alloc: Global, tree: &Tree, asked: &str) -> Result<Vec<Strin
     let mut book = Thirty::new();
     let mut lines = Vec::new(alloc);
     for ask in asked.split(',') {
-        let (rule, node) = cut(ask.trim(), ' ');
-        let rule = u16::try_from(number(rule)?).map_err(|_| Trouble::NotInForm)?;
-        let node = NodeId(number(node)?);
-        let verdict = book.judge(alloc, tree, RuleNo(rule), node)?;
-        let calls = book.calls();
-        let mut line = format!(in alloc; "{calls}")?;
-        match &verdict {
-            Some(verdict) => push_verdict(alloc, &mut line, verdict)?,
-            None => line.push_str(" nothing")?,
-        }
-        lines.push(line)?;
+        lines.push(judging(alloc, &mut book, tree, ask.trim())?)?;
     }
     Ok(lines)
+}
+
+// The rule and the node of two numbers.
+fn pair_of(ask: &str) -> Result<(RuleNo, NodeId), Trouble> {
+    let (rule, node) = cut(ask, ' ');
+    let rule = u16::try_from(number(rule)?).map_err(|_| Trouble::NotInForm)?;
+    Ok((RuleNo(rule), NodeId(number(node)?)))
+}
+
+fn judging(alloc: Global, book: &mut Thirty, tree: &Tree, ask: &str) -> Result<String, Trouble> {
+    let (rule, node) = pair_of(ask)?;
+    let verdict = book.judge(alloc, tree, rule, node)?;
+    let calls = book.calls();
+    let mut line = format!(in alloc; "{calls}")?;
+    match &verdict {
+        Some(verdict) => push_verdict(alloc, &mut line, verdict)?,
+        None => line.push_str(" nothing")?,
+    }
+    Ok(line)
 }
 
 // What a rule says of each node of a page by itself, of numbers that are no nodes, and of the page as a whole,
@@ -63,17 +72,21 @@ fn judged(
     rule: RuleNo,
 ) -> Result<Vec<String>, Trouble> {
     let mut lines = by_nodes(alloc, book, tree, rule)?;
-    for stranger in [0, u32::MAX] {
-        add(alloc, &mut lines, book, tree, rule, NodeId(stranger))?;
-    }
+    add(alloc, &mut lines, book, tree, rule, NodeId(0))?;
+    add(alloc, &mut lines, book, tree, rule, NodeId(u32::MAX))?;
     let of_page = by_page(alloc, book, tree, rule)?;
     if of_page.as_slice() != lines.as_slice() {
-        lines.push(String::from_str(alloc, "but of the page as a whole:")?)?;
-        for line in of_page {
-            lines.push(line)?;
-        }
+        push_all(alloc, &mut lines, of_page)?;
     }
     Ok(lines)
+}
+
+fn push_all(alloc: Global, lines: &mut Vec<String>, of_page: Vec<String>) -> Result<(), Trouble> {
+    lines.push(String::from_str(alloc, "but of the page as a whole:")?)?;
+    for line in of_page {
+        lines.push(line)?;
+    }
+    Ok(())
 }
 
 fn by_nodes(

@@ -19,20 +19,34 @@ pub(crate) fn line_of(alloc: Global, row: &Row) -> Result<String, Trouble> {
     let NodeId(number) = row.id;
     let parent = number_of(row.parent);
     let mut line = format!(in alloc; "{number} in {parent} ")?;
-    match row.body.get() {
+    push_body(alloc, &mut line, row.body.get(), row.facts)?;
+    Ok(line)
+}
+
+fn push_body(alloc: Global, line: &mut String, body: &Body, facts: Facts) -> Result<(), Trouble> {
+    match body {
         Body::Words { text } => {
-            push_quoted(alloc, &mut line, text.as_str())?;
-            push_facts(&mut line, row.facts)?;
+            push_quoted(alloc, line, text.as_str())?;
+            push_facts(line, facts)
         }
         Body::Element { space, tag, attrs } => {
-            line.push_str(opening(*space))?;
-            line.push_str(tag.as_str())?;
-            push_attrs(alloc, &mut line, attrs.as_slice())?;
-            push_facts(&mut line, row.facts)?;
-            line.push('>')?;
+            push_tag(line, *space, tag.as_str())?;
+            push_attrs(alloc, line, attrs.as_slice())?;
+            push_facts(line, facts)?;
+            push_tag_end(line)
         }
     }
-    Ok(line)
+}
+
+fn push_tag(line: &mut String, space: Space, tag: &str) -> Result<(), Trouble> {
+    line.push_str(opening(space))?;
+    line.push_str(tag)?;
+    Ok(())
+}
+
+fn push_tag_end(line: &mut String) -> Result<(), Trouble> {
+    line.push('>')?;
+    Ok(())
 }
 
 /// The number of a node; 0 where there is none.

@@ -61,17 +61,43 @@ fn rows(alloc: Global, bytes: &[u8]) -> Result<String, Trouble> {
     }
 }
 
+// A way in which the page that bytes are is read.
+#[derive(Clone, Copy)]
+enum Way {
+    Copied,
+    // From what is written of it, as it is sent or as it is kept.
+    Again,
+    Kept,
+    // From the JSON value that the bytes are, whole or by its rows.
+    Value,
+    Rows,
+}
+
+static WAYS: [Way; 5] = [Way::Copied, Way::Again, Way::Kept, Way::Value, Way::Rows];
+
+fn read_by(
+    alloc: Global,
+    tree: &Tree,
+    written: &str,
+    bytes: &[u8],
+    way: Way,
+) -> Result<Tree, Trouble> {
+    match way {
+        Way::Copied => Ok(tree.copy()?),
+        Way::Again => tree_of(read_snapshot(alloc, written.as_bytes())),
+        Way::Kept => tree_of(read_kept(alloc, written.as_bytes())),
+        Way::Value => by_value(alloc, bytes, false),
+        Way::Rows => by_value(alloc, bytes, true),
+    }
+}
+
 // How the page is written that bytes are, read in each way; the first one that differs is shown behind the first.
 fn written(alloc: Global, bytes: &[u8]) -> Result<String, Trouble> {
     let tree = tree_of(read_snapshot(alloc, bytes))?;
     let first = written_of(alloc, &tree)?;
-    let mut others = Vec::new(alloc);
-    others.push(written_of(alloc, &tree.copy()?)?)?;
-    others.push(written_of(alloc, &tree_of(read_snapshot(alloc, first.as_bytes()))?)?)?;
-    others.push(written_of(alloc, &tree_of(read_kept(alloc, first.as_bytes()))?)?)?;
-    others.push(written_of(alloc, &by_value(alloc, bytes, false)?)?)?;
-    others.push(written_of(alloc, &by_value(alloc, bytes, true)?)?)?;
-    for other in others {
+    for way in WAYS.as_slice() {
+        let read = read_by(alloc, &tree, first.as_str(), bytes, *way)?;
+        let other = written_of(alloc, &read)?;
         if other.as_str() != first.as_str() {
             return Ok(format!(in alloc; "{first}, but otherwise {other}")?);
         }

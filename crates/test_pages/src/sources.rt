@@ -4,6 +4,7 @@
 //! |---|---|
 //! | `page` | the page of the lines below it |
 //! | `made SEED N` | a page that is made for trials |
+//! | `accepts gsw haw` | the page, whose site accepts these language subtags in place of those before |
 //! | `edits` | the page after `set 2 class "x y"`, `drop 2 class`, `text 6 "Go"`, `facts 5 rv` or `none`, `remove 7`, `move 5 to 7 at 1`, `insert in 2 at 0` with rows below it; each list begins with the page of the case |
 //! | `json`, `hex`, `spaces N` | bytes: a text, hexadecimal digits, so many spaces |
 //! | `read` | the page that the bytes are |
@@ -15,13 +16,14 @@ use crate::lines::{Line, Step};
 use crate::shown::lines_of;
 use crate::sketch::Sketch;
 use crate::trouble::Trouble;
+use crate::values::words_of;
 use crate::words::{count, cut, number};
 use judge_core::Judgement;
 use made_pages::made_page;
 use rule_core::LastLong;
 use snap_edit::{EditFault, EditKind, apply};
 use snap_json::read_snapshot;
-use snap_tree::{BuildFault, List, Raw, Row, Text, Tree};
+use snap_tree::{BuildFault, List, Raw, Row, Text, Tree, langs_fault};
 use std::alloc::Global;
 
 /// The address of each page that is written as lines.
@@ -58,26 +60,39 @@ impl State {
     /// Takes what a step gives: a page, edits or bytes. No where the step asks something.
     pub(crate) fn take(&mut self, step: &Step) -> Result<bool, Trouble> {
         let (word, rest) = cut(step.words.as_str(), ' ');
-        match word {
-            "page" => {
-                let rows = rows_of(self.alloc, step.block.as_slice())?;
-                let address = Text::from_str(self.alloc, ADDRESS)?;
-                let rows = List::from_vec(rows);
-                self.build(Raw { address, rows })?;
-            }
-            "made" => {
-                let (seed, page) = cut(rest, ' ');
-                self.build(made_page(self.alloc, number(seed)?, number(page)?)?)?;
-            }
-            "edits" => self.edit(step.block.as_slice())?,
-            "json" => self.send(step.block.as_slice(), false)?,
-            "hex" => self.send(step.block.as_slice(), true)?,
-            "spaces" => self.bytes = vec![in self.alloc; b' '; count(rest)?]?,
-            "read" => self.read()?,
-            "judged" => self.judge(step.block.as_slice())?,
+        let block = step.block.as_slice();
+        let taken = match word {
+            "page" => self.draw(block),
+            "made" => self.make(rest),
+            "accepts" => self.accept(rest),
+            "edits" => self.edit(block),
+            "json" => self.send(block, false),
+            "hex" => self.send(block, true),
+            "spaces" => self.send_spaces(rest),
+            "read" => self.read(),
+            "judged" => self.judge(block),
             _ => return Ok(false),
-        }
+        };
+        taken?;
         Ok(true)
+    }
+
+    fn draw(&mut self, lines: &[Line]) -> Result<(), Trouble> {
+        let rows = List::from_vec(rows_of(self.alloc, lines)?);
+        let address = Text::from_str(self.alloc, ADDRESS)?;
+        self.build(Raw { address, rows })
+    }
+
+    fn make(&mut self, words: &str) -> Result<(), Trouble> {
+        let (seed, page) = cut(words, ' ');
+        let (seed, page) = (number(seed)?, number(page)?);
+        self.build(made_page(self.alloc, seed, page)?)
+    }
+
+    fn send_spaces(&mut self, words: &str) -> Result<(), Trouble> {
+        let times = count(words)?;
+        self.bytes = vec![in self.alloc; b' '; times]?;
+        Ok(())
     }
 
     /// The lines of the page that a step expects; `None` where it expects something else.
@@ -129,6 +144,20 @@ impl State {
             Err(BuildFault::Tree(fault)) => self.refused = format!(in self.alloc; "{fault}")?,
             Err(BuildFault::OutOfMemory) => return Err(Trouble::OutOfMemory),
         }
+        Ok(())
+    }
+
+    fn accept(&mut self, words: &str) -> Result<(), Trouble> {
+        let langs = words_of(self.alloc, words)?;
+        let Some(page) = &self.page else {
+            return Err(Trouble::NoPage);
+        };
+        let relisted = match langs_fault(&langs) {
+            Some(_) => return Err(Trouble::NotInForm),
+            None => page.with_langs(self.alloc, &langs)?,
+        };
+        self.page = Some(relisted);
+        self.edited = None;
         Ok(())
     }
 

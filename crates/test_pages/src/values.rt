@@ -4,7 +4,7 @@ use crate::trouble::Trouble;
 use crate::words::{cut, number, push_quoted, quoted, unquoted};
 use acc_tree::whole_number;
 use made_pages::made_pages;
-use snap_tree::{BuildFault, Text, blank, next_word, tidy};
+use snap_tree::{BuildFault, List, Text, blank, langs_fault, next_word, tidy};
 use std::alloc::Global;
 use web_address::{is_web_address, read_address};
 
@@ -29,6 +29,25 @@ pub(crate) fn first_word(alloc: Global, rest: &str) -> Result<String, Trouble> {
         push_quoted(alloc, &mut line, behind)?;
     }
     Ok(line)
+}
+
+/// The words of a line as a list.
+pub(crate) fn words_of(alloc: Global, line: &str) -> Result<List<Text>, Trouble> {
+    let mut words = Vec::new(alloc);
+    let mut rest = line;
+    while let Some((word, behind)) = next_word(rest) {
+        words.push(Text::from_str(alloc, word)?)?;
+        rest = behind;
+    }
+    Ok(List::from_vec(words))
+}
+
+/// The place of the first of some words that breaks the form of a list of language subtags.
+pub(crate) fn faulty_lang(alloc: Global, rest: &str) -> Result<String, Trouble> {
+    match langs_fault(&words_of(alloc, rest)?) {
+        Some(place) => Ok(format!(in alloc; "{place}")?),
+        None => Ok(String::new(alloc)),
+    }
 }
 
 /// The number that a text is in digits.

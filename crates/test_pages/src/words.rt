@@ -120,21 +120,31 @@ pub(crate) fn push_quoted(alloc: Global, line: &mut String, text: &str) -> Resul
     Ok(())
 }
 
-fn push_escaped(alloc: Global, line: &mut String, sign: char) -> Result<(), Trouble> {
+// How a sign stands behind `\`, where it does.
+fn escape_of(sign: char) -> Option<&'static str> {
     match sign {
-        '\n' => line.push_str("\\n")?,
-        '\t' => line.push_str("\\t")?,
-        '\r' => line.push_str("\\r")?,
-        '"' => line.push_str("\\\"")?,
-        '\\' => line.push_str("\\\\")?,
-        ' ' => line.push(' ')?,
-        _ if sign.is_whitespace() || sign.is_control() => {
-            let code = format!(in alloc; "\\u{{{:x}}}", sign as u32)?;
-            line.push_str(code.as_str())?
-        }
-        _ => line.push(sign)?,
+        '\n' => Some("\\n"),
+        '\t' => Some("\\t"),
+        '\r' => Some("\\r"),
+        '"' => Some("\\\""),
+        '\\' => Some("\\\\"),
+        _ => None,
     }
-    Ok(())
+}
+
+fn push_escaped(alloc: Global, line: &mut String, sign: char) -> Result<(), Trouble> {
+    match escape_of(sign) {
+        Some(said) => Ok(line.push_str(said)?),
+        None if sign != ' ' && (sign.is_whitespace() || sign.is_control()) => {
+            push_code(alloc, line, sign)
+        }
+        None => Ok(line.push(sign)?),
+    }
+}
+
+fn push_code(alloc: Global, line: &mut String, sign: char) -> Result<(), Trouble> {
+    let code = format!(in alloc; "\\u{{{:x}}}", sign as u32)?;
+    Ok(line.push_str(code.as_str())?)
 }
 
 /// A text in quotes.

@@ -1,6 +1,5 @@
 //! The line that names what is wrong with a snapshot.
 
-use crate::runs::is_text;
 use desk_run::fault_line;
 use snap_json::{Field, SnapFault};
 use snap_tree::{NodeId, OutOfMemory, Text, TreeFault};
@@ -83,7 +82,7 @@ fn wanted_line(alloc: Global, wanted: &str) -> Result<String, OutOfMemory> {
 fn line_is(rt: &impl Abort, alloc: Global, fault: SnapFault, wanted: &str) -> Result<(), Fail> {
     let line = line(alloc, fault)?;
     let wanted = wanted_line(alloc, wanted)?;
-    is_text(rt, line.as_str(), wanted.as_str());
+    assert_eq!(rt; line.as_str(), wanted.as_str());
     Ok(())
 }
 

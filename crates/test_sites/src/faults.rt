@@ -2,14 +2,12 @@
 
 use crate::doubtful::{Call, Doubtful};
 use crate::keeping::{Seen, look};
-use crate::serving::{go_anew, go_so};
+use crate::serving::go_so;
 use fixture_sites::Alter::Mark;
 use fixture_sites::Ask::{Alter, Get, NewSite, Put, Role};
 use fixture_sites::Kind::Refused;
 use fixture_sites::Why::Stale;
-use fixture_sites::{
-    Brief, Case, KEEPER_FAULT, Kind, PAGE, PAGE_SUMS, SITE_EXISTS, View, keeper_failing,
-};
+use fixture_sites::{Brief, Case, KEEPER_FAULT, Kind, PAGE, PAGE_SUMS, View, keeper_failing};
 use keep_core::MemberRole;
 use std::alloc::Global;
 use std::test::Fail;
@@ -18,61 +16,6 @@ use std::thread::Threads;
 const MADE: Brief<'static> = (Kind::Site, "acme");
 
 const STORED: Brief<'static> = (Kind::Stored(1, PAGE_SUMS), "home");
-
-// What is answered to making a site, making it again, and putting a page, where each call of the keeper
-// fails in turn: where the call of that number fails.
-static FAULTS: [[Case; 3]; 8] = [
-    [
-        ("ann", "acme", NewSite, KEEPER_FAULT),
-        ("ann", "acme", NewSite, MADE),
-        ("ann", "acme", Put("home", 0, PAGE), STORED),
-    ],
-    [
-        ("ann", "acme", NewSite, KEEPER_FAULT),
-        ("ann", "acme", NewSite, MADE),
-        ("ann", "acme", Put("home", 0, PAGE), STORED),
-    ],
-    [
-        ("ann", "acme", NewSite, MADE),
-        ("ann", "acme", NewSite, KEEPER_FAULT),
-        ("ann", "acme", Put("home", 0, PAGE), STORED),
-    ],
-    [
-        ("ann", "acme", NewSite, MADE),
-        ("ann", "acme", NewSite, SITE_EXISTS),
-        ("ann", "acme", Put("home", 0, PAGE), KEEPER_FAULT),
-    ],
-    [
-        ("ann", "acme", NewSite, MADE),
-        ("ann", "acme", NewSite, SITE_EXISTS),
-        ("ann", "acme", Put("home", 0, PAGE), KEEPER_FAULT),
-    ],
-    [
-        ("ann", "acme", NewSite, MADE),
-        ("ann", "acme", NewSite, SITE_EXISTS),
-        ("ann", "acme", Put("home", 0, PAGE), KEEPER_FAULT),
-    ],
-    [
-        ("ann", "acme", NewSite, MADE),
-        ("ann", "acme", NewSite, SITE_EXISTS),
-        ("ann", "acme", Put("home", 0, PAGE), KEEPER_FAULT),
-    ],
-    [
-        ("ann", "acme", NewSite, MADE),
-        ("ann", "acme", NewSite, SITE_EXISTS),
-        ("ann", "acme", Put("home", 0, PAGE), STORED),
-    ],
-];
-
-#[test]
-fn a_fault_of_the_keeper_is_of_one_request(rt: HostRuntime) -> Result<(), Fail> {
-    let mut call = 0u64;
-    for cases in FAULTS.as_slice() {
-        call = call.saturating_add(1);
-        go_anew(&rt, rt.alloc(), call, cases)?;
-    }
-    Ok(())
-}
 
 // A page is put into a new site, and the keeper meets a fault.
 static FAULTY_PUT: [Case; 2] = [

@@ -15,8 +15,8 @@ mod random;
 #[cfg(test)]
 mod reads;
 #[cfg(test)]
-mod scripts;
-#[cfg(test)]
 mod serving;
 #[cfg(test)]
 mod soundness;
+#[cfg(test)]
+mod workers;

@@ -1,7 +1,7 @@
 //! The requests of a table, served one after another by the book of marks.
 
 use fixture_rules::Marks;
-use fixture_sites::{Case, first_otherwise, keeper_failing};
+use fixture_sites::{Case, first_otherwise};
 use keep_core::Keeper;
 use std::alloc::Global;
 use std::test::Fail;
@@ -18,15 +18,4 @@ pub fn go_so<R: Threads + Sync, K: Keeper>(
         None => Ok(()),
         Some(place) => Err(Fail::from(place)),
     }
-}
-
-/// The same with a keeper of nothing, of whose calls the one of this number fails; at 0 none does.
-pub fn go_anew<R: Threads + Sync>(
-    rt: &R,
-    alloc: Global,
-    call: u64,
-    cases: &[Case],
-) -> Result<(), Fail> {
-    let mut keeper = keeper_failing(alloc, &[call])?;
-    go_so(rt, alloc, &mut keeper, cases)
 }

@@ -1,5 +1,6 @@
 //! Stores over two disks in memory, each of which stops after so many calls.
 
+use fixture_words::same_front;
 use keep_sql::SqlKeeper;
 use sqlite::{Connection, FileStore, Files, Options};
 use sqlite_disk::{Crash, Disk, Fuse, Memory};
@@ -41,14 +42,6 @@ pub fn opened(alloc: Global, disks: Disks) -> Result<DiskKeeper, Disks> {
     }
 }
 
-/// The disks of a keeper.
-pub fn disks_of(keeper: DiskKeeper) -> Result<Disks, Fail> {
-    match keeper.into_store() {
-        Some(store) => Ok(store.close()),
-        None => Err(Fail::from("no store")),
-    }
-}
-
 /// Whether a disk answers no more calls.
 pub fn has_stopped(disk: &mut Fuse<Memory>) -> bool {
     !disk.may_be_used() || disk.len().is_err()
@@ -73,18 +66,6 @@ pub fn ways(is_synced: bool) -> &'static [Left] {
     } else {
         EACH.as_slice()
     }
-}
-
-// How many bytes are the same in both, from the front.
-fn same_front(one: &[u8], other: &[u8]) -> usize {
-    let mut same = 0usize;
-    for (a, b) in one.iter().zip(other.iter()) {
-        if *a != *b {
-            return same;
-        }
-        same = same.saturating_add(1);
-    }
-    same
 }
 
 /// The bytes of a disk that stopped: those that were written, and those of the last sync.

@@ -1,14 +1,15 @@
 //! Requests that change what is kept, one after another.
 
 use desk_http::serve_link;
-use fixture_requests::link_of;
-use fixture_script::{Kept, kept_of};
+use fixture_keepers::kept_lines;
+use fixture_plays::link_of;
+use fixture_words::Wrong;
 use keep_core::{Keeper, MemoryKeeper};
 use rule_book::Thirty;
 use std::alloc::Global;
 use std::test::Fail;
 use std::thread::Threads;
-use texts::{List, OutOfMemory};
+use texts::List;
 
 pub static REQUESTS: [&str; 8] = [
     // A site.
@@ -35,8 +36,8 @@ fn is_accepted<R: Threads + Sync, K: Keeper>(
     alloc: Global,
     keeper: &mut K,
     request: &str,
-) -> Result<bool, OutOfMemory> {
-    let mut link = link_of(alloc, request.as_bytes(), 4_096)?;
+) -> Result<bool, Wrong> {
+    let mut link = link_of(alloc, request.as_bytes(), 4_096, &[])?;
     serve_link(rt, alloc, &mut link, keeper, &mut [Thirty::new()]);
     Ok(link.written().starts_with(b"HTTP/1.1 2"))
 }
@@ -46,7 +47,7 @@ pub fn accepted<R: Threads + Sync, K: Keeper>(
     rt: &R,
     alloc: Global,
     keeper: &mut K,
-) -> Result<usize, OutOfMemory> {
+) -> Result<usize, Wrong> {
     for (place, request) in REQUESTS.iter().enumerate() {
         if !is_accepted(rt, alloc, keeper, request)? {
             return Ok(place);
@@ -55,14 +56,19 @@ pub fn accepted<R: Threads + Sync, K: Keeper>(
     Ok(REQUESTS.len())
 }
 
-/// What a keeper answers of the site and the page that are put.
-pub fn kept_now<K: Keeper>(alloc: Global, keeper: &mut K) -> Result<Kept, Fail> {
-    kept_of(alloc, keeper, "acme", &["home"])
+/// What a keeper answers of the site and the page that are put, in lines.
+pub fn kept_now<K: Keeper>(alloc: Global, keeper: &mut K) -> Result<String, Wrong> {
+    let mut pages = Vec::new(alloc);
+    pages.push(String::from_str(alloc, "home")?)?;
+    kept_lines(alloc, keeper, "acme", pages.as_slice())
 }
 
-/// What is kept before the first request, and after each, by a keeper in memory.
-pub fn states<R: Threads + Sync>(rt: &R, alloc: Global) -> Result<Vec<Kept>, Fail> {
-    let mut keeper = MemoryKeeper::new(alloc, List::from_vec(Vec::new(alloc)));
+// What this keeper keeps before the first request, and after each.
+fn states_over<R: Threads + Sync, K: Keeper + Drop>(
+    rt: &R,
+    alloc: Global,
+    mut keeper: K,
+) -> Result<Vec<String>, Fail> {
     let mut states = Vec::new(alloc);
     states.push(kept_now(alloc, &mut keeper)?)?;
     for request in REQUESTS.as_slice() {
@@ -72,4 +78,10 @@ pub fn states<R: Threads + Sync>(rt: &R, alloc: Global) -> Result<Vec<Kept>, Fai
         states.push(kept_now(alloc, &mut keeper)?)?;
     }
     Ok(states)
+}
+
+/// What is kept before the first request, and after each, by a keeper in memory.
+pub fn states<R: Threads + Sync>(rt: &R, alloc: Global) -> Result<Vec<String>, Fail> {
+    let keeper = MemoryKeeper::new(alloc, List::from_vec(Vec::new(alloc)));
+    states_over(rt, alloc, keeper)
 }

@@ -1,41 +1,82 @@
 //! Wherever a disk stops, the store holds, once it is opened again, what was kept before the request under way or after it.
 
-use crate::disks::{Disks, Stopped, disks_of, has_stopped, new_disks, opened, ways};
+use crate::disks::{Disks, Stopped, has_stopped, new_disks, opened, ways};
 use crate::requests::{REQUESTS, accepted, kept_now, states};
-use fixture_script::{Kept, is_state};
-use keep_sql::Prepared;
-use sqlite::Files;
+use keep_sql::{Prepared, SqlKeeper};
+use sqlite::{Alter, Files};
 use std::alloc::Global;
 use std::test::Fail;
 use std::thread::Threads;
 
+// How many requests a keeper accepts, once it is ready.
+fn count_of<R: Threads + Sync, S: Alter + Drop>(
+    rt: &R,
+    alloc: Global,
+    keeper: &mut SqlKeeper<S>,
+) -> Result<usize, Fail> {
+    match keeper.prepare(alloc) {
+        Ok(Prepared::Ready) => Ok(accepted(rt, alloc, keeper)?),
+        _ => Ok(0),
+    }
+}
+
+// How many requests a keeper accepts, and its store then. (What is said of any store is proved once; of one over disks
+// each part that may go at an error is proved too.)
+fn served<R: Threads + Sync, S: Alter + Drop>(
+    rt: &R,
+    alloc: Global,
+    mut keeper: SqlKeeper<S>,
+) -> Result<(usize, S), Fail> {
+    let count = count_of(rt, alloc, &mut keeper)?;
+    match keeper.into_store() {
+        Some(store) => Ok((count, store)),
+        None => Err(Fail::from("no store")),
+    }
+}
+
+// What a keeper holds, once it is ready.
+fn kept_over<S: Alter + Drop>(alloc: Global, mut keeper: SqlKeeper<S>) -> Result<String, Fail> {
+    keeper.prepare(alloc)?;
+    Ok(kept_now(alloc, &mut keeper)?)
+}
+
 // How many requests are accepted over disks, and the disks then.
 fn run<R: Threads + Sync>(rt: &R, alloc: Global, disks: Disks) -> Result<(usize, Disks), Fail> {
-    let mut keeper = match opened(alloc, disks) {
-        Ok(keeper) => keeper,
-        Err(disks) => return Ok((0, disks)),
-    };
-    let count = match keeper.prepare(alloc) {
-        Ok(Prepared::Ready) => accepted(rt, alloc, &mut keeper)?,
-        _ => 0,
-    };
-    Ok((count, disks_of(keeper)?))
+    match opened(alloc, disks) {
+        Ok(keeper) => {
+            let (count, store) = served(rt, alloc, keeper)?;
+            Ok((count, store.close()))
+        }
+        Err(disks) => Ok((0, disks)),
+    }
 }
 
 // What a store over disks that are started again holds.
-fn kept_again(alloc: Global, disks: Disks) -> Result<Kept, Fail> {
-    let Ok(mut keeper) = opened(alloc, disks) else {
-        return Err(Fail::from("it isn't opened"));
-    };
-    keeper.prepare(alloc)?;
-    kept_now(alloc, &mut keeper)
+fn kept_again(alloc: Global, disks: Disks) -> Result<String, Fail> {
+    match opened(alloc, disks) {
+        Ok(keeper) => kept_over(alloc, keeper),
+        Err(_) => Err(Fail::from("it isn't opened")),
+    }
+}
+
+// Whether this is what is kept after so many requests.
+fn is_state(states: &[String], count: usize, now: &str) -> bool {
+    match states.get(count) {
+        Some(state) => state.as_str() == now,
+        None => false,
+    }
+}
+
+// Whether it is that, or what is kept after one more.
+fn is_near(states: &[String], count: usize, now: &str) -> bool {
+    is_state(states, count, now) || is_state(states, count.saturating_add(1), now)
 }
 
 // Whether that is what was kept after so many requests or after one more, whatever is left of what wasn't synced.
 fn keeps_near(
     alloc: Global,
     mut disks: Disks,
-    states: &[Kept],
+    states: &[String],
     count: usize,
 ) -> Result<bool, Fail> {
     let log = Stopped::new(alloc, &mut disks.log)?;
@@ -44,7 +85,7 @@ fn keeps_near(
         let log = log.started(alloc, *left)?;
         let db = db.started(alloc, *left)?;
         let now = kept_again(alloc, Files { log, db })?;
-        if !is_state(states, count, &now) && !is_state(states, count.saturating_add(1), &now) {
+        if !is_near(states, count, now.as_str()) {
             return Ok(false);
         }
     }
@@ -72,7 +113,7 @@ fn stops<R: Threads + Sync>(
     alloc: Global,
     fused: Fused,
     calls: u64,
-    states: &[Kept],
+    states: &[String],
 ) -> Result<bool, Fail> {
     let (count, mut disks) = run(rt, alloc, fused_disks(alloc, fused, calls))?;
     let has_stopped = has_stopped(&mut disks.log) || has_stopped(&mut disks.db);

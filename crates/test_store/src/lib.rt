@@ -1,5 +1,10 @@
-//! A test of the store's texts, each run at least once over files in memory. There is no call of its own.
+//! Tests of stores and keepers in memory: a store's texts, each run at least once, `keep_sql` before its store is prepared, and a
+//! keeper that passes its calls on. There is no call of its own.
 #![tactic(auto)]
 
+#[cfg(test)]
+mod failing;
+#[cfg(test)]
+mod keepers;
 #[cfg(test)]
 mod tables;

@@ -222,13 +222,20 @@ fn all_show<S: Alter>(
     Ok(())
 }
 
-#[test]
-fn texts_show_what_was_written(rt: HostRuntime) -> Result<(), Fail> {
-    let mut conn = opened(rt.alloc())?;
-    assert!(rt; conn.is_autocommit());
+// Whether a store takes all that is written, and shows it.
+fn shows_all<S: Alter + Drop>(alloc: Global, mut conn: Connection<S>) -> Result<(), Fail> {
+    if !conn.is_autocommit() {
+        return Err(Fail::from("a transaction"));
+    }
     let mut tx = conn.transaction();
     write_all(&mut tx, WRITES.as_slice())?;
-    all_show(rt.alloc(), &mut tx, SHOWN.as_slice())?;
+    all_show(alloc, &mut tx, SHOWN.as_slice())?;
     tx.commit()?;
     Ok(())
+}
+
+#[test]
+fn texts_show_what_was_written(rt: HostRuntime) -> Result<(), Fail> {
+    let conn = opened(rt.alloc())?;
+    shows_all(rt.alloc(), conn)
 }

@@ -24,11 +24,11 @@ before told how role row inner =
 
 by_earlier : (told : Told) (how : How) (role : Option Role) (row : Row) (inner : Heard) (found : Option Name)
     → found ≡ first_of (before told how role row inner) → is_some found ≡ true → unwrap_or found no_name ≡ by_clauses told how role row inner
-by_earlier told how role row inner found is some = decided (before told how role row inner) (from_kind how role row inner) found is some
+by_earlier told how role row inner found is some = decided (before told how role row inner) (from_kind how role row told.owned inner) found is some
 
 by_later : (told : Told) (how : How) (role : Option Role) (row : Row) (inner : Heard) (found : Option Name)
-    → found ≡ first_of (before told how role row inner) → is_some found ≡ false → first_said (from_kind how role row inner) ≡ by_clauses told how role row inner
-by_later told how role row inner found is none = undecided (before told how role row inner) (from_kind how role row inner) found is none
+    → found ≡ first_of (before told how role row inner) → is_some found ≡ false → first_said (from_kind how role row told.owned inner) ≡ by_clauses told how role row inner
+by_later told how role row inner found is none = undecided (before told how role row inner) (from_kind how role row told.owned inner) found is none
 
 pub replaced_by-requires-clause-speaks : goal.replaced_by-requires-clause-speaks
 replaced_by-requires-clause-speaks c = found_speaks (before c.args.told c.args.how c.args.role (seen_row c.args.row.now) (told_within c.args.inner [])) c.in_ok-earlier.earlier c.in_ok-earlier.ensures

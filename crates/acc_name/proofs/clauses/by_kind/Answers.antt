@@ -21,9 +21,9 @@ use Rattle.acc_name.proofs.clauses.by_kind.Goals as goal
 held_alike : (h asked : Host) (k : Caption) (is_blank blank_is b : Bool) → h ≡ asked → is_blank ≡ blank_is → is_captioned h k is_blank ≡ b → is_captioned asked k blank_is ≡ b
 held_alike h asked k is_blank blank_is b host_is is h_is = cc
 
-by_caption : (how : How) (role : Option Role) (row : Row) (chosen : Option (List ℕ)) (k : Caption) (text : List ℕ)
-    → is_captioned (host_of row) k (blank text) ≡ true → says source.HostText text ≡ first_said (from_kind how role row (shown text chosen (caption_kept k text)))
-by_caption how role row chosen k text is = captioned_decides (host_of row) k row text (from_content how role row text) is
+by_caption : (how : How) (role : Option Role) (row : Row) (owned : List ℕ) (chosen : Option (List ℕ)) (k : Caption) (text : List ℕ)
+    → is_captioned (host_of row) k (blank text) ≡ true → says source.HostText text ≡ first_said (from_kind how role row owned (shown text chosen (caption_kept k text)))
+by_caption how role row owned chosen k text is = captioned_decides (host_of row) k row text (from_content how role row (text ++ owned)) is
 
 found_native : (h : Host) (row : Row) (k : Caption) (text native : List ℕ) (found : Option Name)
     → h ≡ host_of row → native ≡ host_text h row None → found ≡ first_of (says source.HostText native ∷ []) → is_captioned (host_of row) k (blank text) ≡ false
@@ -31,17 +31,17 @@ found_native : (h : Host) (row : Row) (k : Caption) (text native : List ℕ) (fo
 found_native h row k text native found host_is native_is found_is none =
     found_is ∙ ap (λ t. first_of (says source.HostText t ∷ [])) (native_is ∙ ap (λ x. host_text x row None) host_is) ∙ uncaptioned_says (host_of row) k row text none
 
-by_native : (how : How) (role : Option Role) (row : Row) (chosen : Option (List ℕ)) (k : Caption) (text : List ℕ) (found : Option Name)
+by_native : (how : How) (role : Option Role) (row : Row) (owned : List ℕ) (chosen : Option (List ℕ)) (k : Caption) (text : List ℕ) (found : Option Name)
     → found ≡ first_of (says source.HostText (host_text (host_of row) row (caption_kept k text)) ∷ []) → is_some found ≡ true
-    → unwrap_or found no_name ≡ first_said (from_kind how role row (shown text chosen (caption_kept k text)))
-by_native how role row chosen k text found is some =
-    decided (says source.HostText (host_text (host_of row) row (caption_kept k text)) ∷ []) (from_content how role row text) found is some
+    → unwrap_or found no_name ≡ first_said (from_kind how role row owned (shown text chosen (caption_kept k text)))
+by_native how role row owned chosen k text found is some =
+    decided (says source.HostText (host_text (host_of row) row (caption_kept k text)) ∷ []) (from_content how role row (text ++ owned)) found is some
 
-by_later : (how : How) (role : Option Role) (row : Row) (chosen : Option (List ℕ)) (k : Caption) (text : List ℕ) (found : Option Name)
+by_later : (how : How) (role : Option Role) (row : Row) (owned : List ℕ) (chosen : Option (List ℕ)) (k : Caption) (text : List ℕ) (found : Option Name)
     → found ≡ first_of (says source.HostText (host_text (host_of row) row (caption_kept k text)) ∷ []) → is_some found ≡ false
-    → first_said (from_content how role row text) ≡ first_said (from_kind how role row (shown text chosen (caption_kept k text)))
-by_later how role row chosen k text found is none =
-    undecided (says source.HostText (host_text (host_of row) row (caption_kept k text)) ∷ []) (from_content how role row text) found is none
+    → first_said (from_content how role row (text ++ owned)) ≡ first_said (from_kind how role row owned (shown text chosen (caption_kept k text)))
+by_later how role row owned chosen k text found is none =
+    undecided (says source.HostText (host_text (host_of row) row (caption_kept k text)) ∷ []) (from_content how role row (text ++ owned)) found is none
 
 pub returns-then-is_captioned-clause-text : goal.returns-then-is_captioned-clause-text
 returns-then-is_captioned-clause-text c =
@@ -49,7 +49,7 @@ returns-then-is_captioned-clause-text c =
     let named = held_alike _ _ _ _ _ true c.host_of-host.ensures c.requires.blank (sym c.is_captioned.ensures ∙ c.if-is_captioned.true) in
     sym (take-append-drop c.args.mark content)
     ∙ ap (λ (n : Name). take c.args.mark content ++ n.text)
-    (by_caption c.args.how c.args.role (seen_row c.args.row.now) (text_in c.args.inner.chosen.now) c.args.inner.caption (drop c.args.mark content) named)
+    (by_caption c.args.how c.args.role (seen_row c.args.row.now) c.args.owned (text_in c.args.inner.chosen.now) c.args.inner.caption (drop c.args.mark content) named)
 
 pub returns-then-is_captioned-clause-decides : goal.returns-then-is_captioned-clause-decides
 returns-then-is_captioned-clause-decides c =
@@ -57,7 +57,7 @@ returns-then-is_captioned-clause-decides c =
     let named = held_alike _ _ _ _ _ true c.host_of-host.ensures c.requires.blank (sym c.is_captioned.ensures ∙ c.if-is_captioned.true) in
     let held : Bool → Said = λ b. record { source = source.HostText; is_blank = b } in
     ap held c.requires.blank
-    ∙ ap said_by (by_caption c.args.how c.args.role (seen_row c.args.row.now) (text_in c.args.inner.chosen.now) c.args.inner.caption (drop c.args.mark content) named)
+    ∙ ap said_by (by_caption c.args.how c.args.role (seen_row c.args.row.now) c.args.owned (text_in c.args.inner.chosen.now) c.args.inner.caption (drop c.args.mark content) named)
 
 pub replaced_by-requires-clause-speaks : goal.replaced_by-requires-clause-speaks
 replaced_by-requires-clause-speaks c = found_speaks (says source.HostText c.in_ok-text.text ∷ []) c.unless_blank-native.result c.unless_blank-native.ensures
@@ -69,7 +69,7 @@ returns-then-is_some-clause-text c =
     let none = held_alike _ _ _ _ _ false c.host_of-host.ensures c.requires.blank (sym c.is_captioned.ensures ∙ c.if-is_captioned.false) in
     let found = found_native _ row c.args.inner.caption text c.in_ok-text.text c.unless_blank-native.result c.host_of-host.ensures c.in_ok-text.ensures c.unless_blank-native.ensures none in
     let is =
-    by_native c.args.how c.args.role row (text_in c.args.inner.chosen.now) c.args.inner.caption text c.unless_blank-native.result found (sym c.is_some.ensures ∙ c.if-is_some.true) in
+    by_native c.args.how c.args.role row c.args.owned (text_in c.args.inner.chosen.now) c.args.inner.caption text c.unless_blank-native.result found (sym c.is_some.ensures ∙ c.if-is_some.true) in
     subst (λ (n : Name). OnOk c.replaced_by.result (string_bytes c.replaced_by.new.content ≡ take c.args.mark (string_bytes c.args.content.now) ++ n.text)) is c.replaced_by.ensures.text
 
 pub returns-then-is_some-clause-decides : goal.returns-then-is_some-clause-decides
@@ -79,7 +79,7 @@ returns-then-is_some-clause-decides c =
     let none = held_alike _ _ _ _ _ false c.host_of-host.ensures c.requires.blank (sym c.is_captioned.ensures ∙ c.if-is_captioned.false) in
     let found = found_native _ row c.args.inner.caption text c.in_ok-text.text c.unless_blank-native.result c.host_of-host.ensures c.in_ok-text.ensures c.unless_blank-native.ensures none in
     let is =
-    by_native c.args.how c.args.role row (text_in c.args.inner.chosen.now) c.args.inner.caption text c.unless_blank-native.result found (sym c.is_some.ensures ∙ c.if-is_some.true) in
+    by_native c.args.how c.args.role row c.args.owned (text_in c.args.inner.chosen.now) c.args.inner.caption text c.unless_blank-native.result found (sym c.is_some.ensures ∙ c.if-is_some.true) in
     subst (λ (n : Name). IfOk c.replaced_by.result (λ s. s ≡ said_by n)) is c.replaced_by.ensures.decides
 
 pub returns-clause-text : goal.returns-clause-text
@@ -89,7 +89,7 @@ returns-clause-text c =
     let none = held_alike _ _ _ _ _ false c.host_of-host.ensures c.requires.blank (sym c.is_captioned.ensures ∙ c.if-is_captioned.false) in
     let found = found_native _ row c.args.inner.caption text c.in_ok-text.text c.unless_blank-native.result c.host_of-host.ensures c.in_ok-text.ensures c.unless_blank-native.ensures none in
     let is =
-    by_later c.args.how c.args.role row (text_in c.args.inner.chosen.now) c.args.inner.caption text c.unless_blank-native.result found (sym c.is_some.ensures ∙ c.if-is_some.false) in
+    by_later c.args.how c.args.role row c.args.owned (text_in c.args.inner.chosen.now) c.args.inner.caption text c.unless_blank-native.result found (sym c.is_some.ensures ∙ c.if-is_some.false) in
     subst (λ (n : Name). OnOk c.by_content.result (string_bytes c.by_content.new.content ≡ take c.args.mark (string_bytes c.args.content.now) ++ n.text)) is c.by_content.ensures.text
 
 pub returns-clause-decides : goal.returns-clause-decides
@@ -99,5 +99,5 @@ returns-clause-decides c =
     let none = held_alike _ _ _ _ _ false c.host_of-host.ensures c.requires.blank (sym c.is_captioned.ensures ∙ c.if-is_captioned.false) in
     let found = found_native _ row c.args.inner.caption text c.in_ok-text.text c.unless_blank-native.result c.host_of-host.ensures c.in_ok-text.ensures c.unless_blank-native.ensures none in
     let is =
-    by_later c.args.how c.args.role row (text_in c.args.inner.chosen.now) c.args.inner.caption text c.unless_blank-native.result found (sym c.is_some.ensures ∙ c.if-is_some.false) in
+    by_later c.args.how c.args.role row c.args.owned (text_in c.args.inner.chosen.now) c.args.inner.caption text c.unless_blank-native.result found (sym c.is_some.ensures ∙ c.if-is_some.false) in
     subst (λ (n : Name). IfOk c.by_content.result (λ s. s ≡ said_by n)) is c.by_content.ensures.decides

@@ -1,5 +1,5 @@
 use Rattle.std.proofs.Common.{◌≡◌, map, take}
 use Rattle.acc_tree.proofs.owning.numbers_of.Given as goal
 
-abbrev pub invariant-loop-element : goal.invariant-loop-element
-invariant-loop-element l = l.numbers.items ≡ map (λ o. o.node) (take l.element-index l.elements)
+abbrev pub invariant-loop-item : goal.invariant-loop-item
+invariant-loop-item l = l.numbers.items ≡ map (λ i. i.node) (take l.item-index l.items)

@@ -6,6 +6,7 @@ use Rattle.desk_core.specs.Costs.{edit_judgings, edit_pairs}
 use Rattle.desk_core.specs.Serving.{Agrees, IsTrueTo}
 use Rattle.desk_core.proofs.ReadLaws.{found_is_true}
 use Rattle.desk_core.proofs.EditLaws.{costs_at}
+use Rattle.desk_core.proofs.Costing.{costs_edit, costs_nothing}
 use Rattle.desk_core.proofs.Onward.{decides_so}
 use Rattle.desk_core.proofs.KeptEdits.{decides_edit, decides_no_edit}
 use Rattle.desk_core.proofs.edit_page.edit_page.Goals as goal
@@ -20,28 +21,27 @@ returns-clause-decides g c =
     (λ holds. subst (λ edits. Agrees ⊥ c.decide.result (edit_page book sent.site c.args.caller.now sent.page sent.rev edits site (page_state kept))) c.as_slice.ensures (c.decide.ensures.decided holds))
     c.decide.ensures.edits
 
-pub returns-clause-counted : goal.returns-clause-counted
-returns-clause-counted g c =
-    λ t told sound.
+pub returns-clause-costs : goal.returns-clause-costs
+returns-clause-costs g c =
     let book : Book = g.B.RuleBook.book in
+    let calls = g.B.RuleBook.calls in
     let sent = c.args.sent in
-    let found = c.in_ok-found.ensures.found t told in
     let kept = c.in_ok-found.found.1 in
+    costs_edit book sent.site sent.page sent.rev c.args.edits _ _ _ _ c.in_ok-found.ensures.reads.stays
+    (λ t told sound.
+    let found = c.in_ok-found.ensures.found t told in
     let holds = found_is_true book t sound sent.site sent.page kept found.1 found.2 in
     let cost = costs_at sent.site sent.page t c.in_ok-found.found.0 (page_state kept) (edit_pairs book c.args.edits) found.0.kept found.1 in
-    subst (λ n. sum_by g.B.RuleBook.calls c.decide.new.books ≤ sum_by g.B.RuleBook.calls c.args.books.now + n) (sym cost)
-    (subst (λ edits. sum_by g.B.RuleBook.calls c.decide.new.books ≤ sum_by g.B.RuleBook.calls c.args.books.now + edit_pairs book edits (page_state kept)) c.as_slice.ensures (c.decide.ensures.counted holds))
-
-pub returns-clause-most : goal.returns-clause-most
-returns-clause-most g c =
-    λ t told.
-    let book : Book = g.B.RuleBook.book in
-    let sent = c.args.sent in
+    subst (λ n. sum_by calls c.decide.new.books ≤ sum_by calls c.args.books.now + n) (sym cost)
+    (subst (λ edits. sum_by calls c.decide.new.books ≤ sum_by calls c.args.books.now + edit_pairs book edits (page_state kept)) c.as_slice.ensures (c.decide.ensures.costs.counted holds)))
+    (λ t told.
     let found = c.in_ok-found.ensures.found t told in
-    let kept = c.in_ok-found.found.1 in
     let cost = costs_at sent.site sent.page t c.in_ok-found.found.0 (page_state kept) (edit_judgings book c.args.edits) found.0.kept found.1 in
-    subst (λ n. sum_by g.B.RuleBook.calls c.decide.new.books ≤ sum_by g.B.RuleBook.calls c.args.books.now + n) (sym cost)
-    (subst (λ edits. sum_by g.B.RuleBook.calls c.decide.new.books ≤ sum_by g.B.RuleBook.calls c.args.books.now + edit_judgings book edits (page_state kept)) c.as_slice.ensures c.decide.ensures.most)
+    subst (λ n. sum_by calls c.decide.new.books ≤ sum_by calls c.args.books.now + n) (sym cost)
+    (subst (λ edits. sum_by calls c.decide.new.books ≤ sum_by calls c.args.books.now + edit_judgings book edits (page_state kept)) c.as_slice.ensures c.decide.ensures.costs.at_most))
+
+pub returns-in_err-found-clause-costs : goal.returns-in_err-found-clause-costs
+returns-in_err-found-clause-costs g c = costs_nothing _ _ _ _ _
 
 pub returns-in_err-found-clause-decides : goal.returns-in_err-found-clause-decides
 returns-in_err-found-clause-decides g c =

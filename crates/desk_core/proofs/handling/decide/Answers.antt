@@ -1,5 +1,5 @@
 use Rattle.desk_core.proofs.Arms.{fits_at, decides_at, costs_at, import_at}
-use Rattle.desk_core.proofs.Costing.{costs_put, costs_import, costs_edit}
+use Rattle.desk_core.proofs.Costing.{costs_put, costs_import}
 use Rattle.desk_core.proofs.handling.decide.Goals as goal
 
 pub returns-in-PutSite-clause-decided : goal.returns-in-PutSite-clause-decided
@@ -23,26 +23,23 @@ put_member-requires-clause-user g c = (fits_at c.in-PutMember.is c.requires.fits
 pub returns-in-PutPage-clause-decided : goal.returns-in-PutPage-clause-decided
 returns-in-PutPage-clause-decided g c = decides_at c.in-PutPage.is c.put_page.ensures.decides
 
-pub put_page-requires-clause-site : goal.put_page-requires-clause-site
-put_page-requires-clause-site g c = (fits_at c.in-PutPage.is c.requires.fits).site
-
-pub put_page-requires-clause-page : goal.put_page-requires-clause-page
-put_page-requires-clause-page g c = (fits_at c.in-PutPage.is c.requires.fits).parts.seen.named
+pub put_page-requires-clause-names : goal.put_page-requires-clause-names
+put_page-requires-clause-names g c = record { site = (fits_at c.in-PutPage.is c.requires.fits).site; page = (fits_at c.in-PutPage.is c.requires.fits).parts.seen.named }
 
 pub put_page-requires-clause-address : goal.put_page-requires-clause-address
 put_page-requires-clause-address g c = (fits_at c.in-PutPage.is c.requires.fits).parts.web
 
 pub returns-in-PutPage-clause-counted : goal.returns-in-PutPage-clause-counted
-returns-in-PutPage-clause-counted g c = costs_at c.in-PutPage.is (costs_put _ _ _ _ _ _ _ _ _ c.put_page.ensures.counted)
+returns-in-PutPage-clause-counted g c = costs_at c.in-PutPage.is (costs_put _ _ _ _ _ _ _ _ _ c.put_page.ensures.costs.counted)
+
+pub returns-in-PutPage-clause-others : goal.returns-in-PutPage-clause-others
+returns-in-PutPage-clause-others g c = λ no. c.put_page.ensures.costs.others
 
 pub returns-in-DropPage-clause-decided : goal.returns-in-DropPage-clause-decided
 returns-in-DropPage-clause-decided g c = decides_at c.in-DropPage.is (c.drop_page.ensures _)
 
-pub drop_page-requires-clause-site : goal.drop_page-requires-clause-site
-drop_page-requires-clause-site g c = (fits_at c.in-DropPage.is c.requires.fits).site
-
-pub drop_page-requires-clause-page : goal.drop_page-requires-clause-page
-drop_page-requires-clause-page g c = (fits_at c.in-DropPage.is c.requires.fits).parts.named
+pub drop_page-requires : goal.drop_page-requires
+drop_page-requires g c = record { site = (fits_at c.in-DropPage.is c.requires.fits).site; page = (fits_at c.in-DropPage.is c.requires.fits).parts.named }
 
 pub returns-in-Import-clause-decided : goal.returns-in-Import-clause-decided
 returns-in-Import-clause-decided g c = decides_at c.in-Import.is c.import.ensures.decides
@@ -62,24 +59,17 @@ returns-in-Import-clause-others g c = λ no. absurd (no (import_at c.in-Import.i
 pub returns-in-EditPage-clause-decided : goal.returns-in-EditPage-clause-decided
 returns-in-EditPage-clause-decided g c = decides_at c.in-EditPage.is c.edit_page.ensures.decides
 
-pub edit_page-requires-clause-site : goal.edit_page-requires-clause-site
-edit_page-requires-clause-site g c = (fits_at c.in-EditPage.is c.requires.fits).site
-
-pub edit_page-requires-clause-page : goal.edit_page-requires-clause-page
-edit_page-requires-clause-page g c = (fits_at c.in-EditPage.is c.requires.fits).parts.named
+pub edit_page-requires-clause-names : goal.edit_page-requires-clause-names
+edit_page-requires-clause-names g c = record { site = (fits_at c.in-EditPage.is c.requires.fits).site; page = (fits_at c.in-EditPage.is c.requires.fits).parts.named }
 
 pub returns-in-EditPage-clause-counted : goal.returns-in-EditPage-clause-counted
-returns-in-EditPage-clause-counted g c =
-    costs_at c.in-EditPage.is (costs_edit _ _ _ _ _ _ _ _ _ c.edit_page.ensures.decides.reads.stays c.edit_page.ensures.counted c.edit_page.ensures.most)
+returns-in-EditPage-clause-counted g c = costs_at c.in-EditPage.is c.edit_page.ensures.costs
 
 pub returns-in-Judge-clause-decided : goal.returns-in-Judge-clause-decided
 returns-in-Judge-clause-decided g c = decides_at c.in-Judge.is c.judge.ensures
 
-pub judge-requires-clause-site : goal.judge-requires-clause-site
-judge-requires-clause-site g c = (fits_at c.in-Judge.is c.requires.fits).site
-
-pub judge-requires-clause-page : goal.judge-requires-clause-page
-judge-requires-clause-page g c = (fits_at c.in-Judge.is c.requires.fits).parts.named
+pub judge-requires : goal.judge-requires
+judge-requires g c = record { site = (fits_at c.in-Judge.is c.requires.fits).site; page = (fits_at c.in-Judge.is c.requires.fits).parts.named }
 
 pub returns-in-GetPage-clause-decided : goal.returns-in-GetPage-clause-decided
 returns-in-GetPage-clause-decided g c = decides_at c.in-GetPage.is (c.get_page.ensures _)

@@ -8,7 +8,7 @@ returns g c =
     let book : Book = g.B.RuleBook.book in
     let a = c.args in
     decides_judge book a.site a.caller.now a.page a.said.rule a.said.node a.said.verdict a.said.digest a.said.note _ _ c.in_ok-kept.kept c.decide.result
-    c.requires.site c.requires.page c.in_ok-kept.ensures c.decide.ensures.agrees c.decide.ensures.no_fault c.decide.ensures.adds c.decide.ensures.accepted c.decide.ensures.judges
+    c.requires.site c.requires.page c.in_ok-kept.ensures c.decide.ensures.agrees c.decide.ensures.judges
 
 pub returns-in_err-kept : goal.returns-in_err-kept
 returns-in_err-kept g c =

@@ -14,7 +14,7 @@ returns-clause-decides g c =
     let at = c.in_ok-survey.survey in
     let request : Request = record { caller = c.args.caller.now; command = PutPage sent.site sent.page sent.rev c.args.raw } in
     decides_by book request _ _ _ c.decide.result (put_page book sent.site c.args.caller.now sent.page sent.rev c.args.raw at.site at.current at.judgements at.pages)
-    c.in_ok-survey.ensures.reads c.decide.ensures.decided (put_page_fits book sent.site c.args.caller.now sent.page sent.rev c.args.raw at.site at.current at.judgements at.pages c.requires.site c.requires.page c.requires.address)
+    c.in_ok-survey.ensures.reads c.decide.ensures.decided (put_page_fits book sent.site c.args.caller.now sent.page sent.rev c.args.raw at.site at.current at.judgements at.pages c.requires.names.site c.requires.names.page c.requires.address)
     (put_page_accepts book sent.site c.args.caller.now sent.page sent.rev c.args.raw at.site at.current at.judgements at.pages)
     (λ t told.
     let found = c.in_ok-survey.ensures.found t told in

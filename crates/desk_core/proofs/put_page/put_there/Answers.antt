@@ -1,5 +1,9 @@
-use Rattle.std.proofs.Common.{subst}
+use Rattle.std.proofs.Common.{Option, ap, subst, arith}
+use Rattle.std.specs.Option.{option_map_or}
+use Rattle.snap_tree.specs.declared.fault.TreeFault.{TreeFault}
+use Rattle.snap_tree.specs.Grown.{page_of}
 use Rattle.rule_core.specs.Books.{Book}
+use Rattle.judge_core.specs.Outcomes.{judgings}
 use Rattle.desk_core.specs.Pages.{renewed}
 use Rattle.desk_core.specs.Serving.{Agrees}
 use Rattle.desk_core.proofs.Onward.{agrees_as, agrees_so}
@@ -14,6 +18,14 @@ returns-clause-decided g c =
     agrees_as c.renewed.result _ _
     (put_is book sent.site c.args.caller.now sent.page sent.rev c.args.raw at.site at.current at.judgements at.pages c.requires.room c.requires.revision c.requires.current c.in_ok-tree.tree c.in_ok-tree.ensures.tree.0 c.in_ok-tree.ensures.tree.1)
     (subst (λ js. Agrees ⊥ c.renewed.result (renewed book sent.site c.args.caller.now sent.page at.site.counter js c.in_ok-tree.tree)) c.as_slice-js.ensures c.renewed.ensures.decided)
+
+pub returns-clause-costs : goal.returns-clause-costs
+returns-clause-costs g c =
+    let book : Book = g.B.RuleBook.book in
+    let raw = c.args.raw in
+    let same = ap (judgings book) c.in_ok-tree.ensures.tree.0 in
+    let whole = ap (λ (fault : Option TreeFault). option_map_or (λ _. 0) fault (judgings book (page_of raw))) c.in_ok-tree.ensures.tree.1 in
+    record { counted = omega (arith, c.renewed.ensures.costs.counted, same, whole); others = c.renewed.ensures.costs.others }
 
 pub returns-in_err-tree-clause-decided : goal.returns-in_err-tree-clause-decided
 returns-in_err-tree-clause-decided g c =

@@ -8,7 +8,13 @@ use Rattle.store_tables.specs.Outcomes.{outcomes_shown}
 use Rattle.keep_sql.specs.Reading.{rows_in}
 use Rattle.keep_sql.proofs.Ready.{ready_same}
 use Rattle.keep_sql.proofs.Checking.{unchanged_through, still_recalled, reads_page}
+use Rattle.keep_sql.proofs.Stepping.{steps_then}
 use Rattle.keep_sql.proofs.checks.check_page.Goals as goal
+
+pub returns-clause-steps : goal.returns-clause-steps
+returns-clause-steps g c =
+    let through = steps_then g.S.Store c.args.tx.now.conn c.page_in.new.tx.conn c.judgements_in.new.tx.conn c.in_ok-found.found _ c.in_ok-found.ensures.steps c.in_ok-judgements.ensures.steps in
+    steps_then g.S.Store c.args.tx.now.conn c.judgements_in.new.tx.conn c.kept_outcomes.new.tx.conn c.in_ok-judgements.judgements _ through c.in_ok-outcomes.ensures.steps
 
 pub returns-clause-finds : goal.returns-clause-finds
 returns-clause-finds g c clean ready recalls =

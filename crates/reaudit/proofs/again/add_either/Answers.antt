@@ -12,8 +12,8 @@ returns-then-has_to_judge-clause-counted g c =
     let book = g.B.RuleBook.book in
     let info = c.args.info.now in
     let is : is_affected info (book.means info.no) old c.args.new.now c.args.placed.node ≡ true =
-    sym (judged_here book info old c.args.new.now js c.args.placed.node c.args.placed.known (ap (λ (p : Placed). p.known) placed) c.args.row had)
-    ∙ ap (has_to_judge info c.args.placed.known) (sym c.is_some.ensures) ∙ sym c.has_to_judge.ensures ∙ c.if-has_to_judge.true in
+    sym (judged_here book info old c.args.new.now js c.args.placed.node c.args.placed.langs (ap (λ (p : Placed). p.langs) placed) c.args.placed.known (ap (λ (p : Placed). p.known) placed) c.args.row had)
+    ∙ ap (has_to_judge info c.args.placed.langs c.args.placed.known) (sym c.is_some.ensures) ∙ sym c.has_to_judge.ensures ∙ c.if-has_to_judge.true in
     rw is c.add_judged.ensures.counted
 
 pub returns-then-has_to_judge-clause-row : goal.returns-then-has_to_judge-clause-row
@@ -25,6 +25,6 @@ returns-else-has_to_judge-clause-row g c =
     let book = g.B.RuleBook.book in
     let info = c.args.info.now in
     subst (λ o. OnOk c.add_kept.result (c.add_kept.new.rows.items ≡ c.args.rows.now.items ++ option_to_list o))
-    (kept_here book info (g.met.B.RuleBook.local info contained) old c.args.new.now versions earlier js c.args.placed.node c.args.placed.known (ap (λ (p : Placed). p.known) placed) c.args.row had
-    (ap (has_to_judge info c.args.placed.known) (sym c.is_some.ensures) ∙ sym c.has_to_judge.ensures ∙ c.if-has_to_judge.false))
+    (kept_here book info (g.met.B.RuleBook.local info contained) old c.args.new.now versions earlier js c.args.placed.node c.args.placed.langs (ap (λ (p : Placed). p.langs) placed) c.args.placed.known (ap (λ (p : Placed). p.known) placed) c.args.row had
+    (ap (has_to_judge info c.args.placed.langs c.args.placed.known) (sym c.is_some.ensures) ∙ sym c.has_to_judge.ensures ∙ c.if-has_to_judge.false))
     (c.add_kept.ensures js has)

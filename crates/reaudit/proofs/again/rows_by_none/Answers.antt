@@ -48,7 +48,7 @@ returns-clause-counted g c =
     let test = is_affected info (book.means info.no) old new in
     let some = ap (λ xs. length (filter (λ (p : Placed). test p.node) xs)) list in
     let all = affected_in old new placed c.requires.nodes.placed test in
-    omega (arith, c.placed_rows.ensures.counted old earlier each keeps, some, fewer (λ (p : Placed). test p.node) (λ p. not (is_settled p.known)) placed, all)
+    omega (arith, c.placed_rows.ensures.counted old earlier each keeps, some, fewer (λ (p : Placed). test p.node) (λ p. not (is_settled p.langs p.known)) placed, all)
 
 pub returns-clause-within : goal.returns-clause-within
 returns-clause-within g c =
@@ -57,4 +57,4 @@ returns-clause-within g c =
     let placed = c.args.nodes.now.placed.items in
     let list = ap length (c.as_slice-reached.ensures.value ∙ c.requires.nodes.reached) in
     let all = ap length c.requires.nodes.placed ∙ length-map (rows_of new.trees) (λ (row : Row). placed_of old new row.id) in
-    omega (arith, c.placed_rows.ensures.within, list, at_most (λ p. not (is_settled p.known)) placed, all)
+    omega (arith, c.placed_rows.ensures.within, list, at_most (λ p. not (is_settled p.langs p.known)) placed, all)

@@ -14,4 +14,5 @@ returns-clause-nodes c =
       reached = c.in_ok-reached.ensures ∙ ap reached_by (c.as_slice-3.ensures.value ∙ live) ∙ reached_live marks placed;
       live = live;
       in_order = c.same_nodes-in_order.ensures ∙ (λ i. same_nodes (c.rows.ensures.rows i) (c.rows-2.ensures.rows i));
+      relisted = c.is_relisted-relisted.ensures;
     }

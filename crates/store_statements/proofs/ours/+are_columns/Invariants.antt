@@ -1,4 +1,4 @@
-use Rattle.std.proofs.Common.{length, ℕ}
+use Rattle.std.proofs.Common.{length}
 use Rattle.store_statements.proofs.ours.+are_columns.Given as goal
 
 abbrev pub decreases-are_columns : goal.decreases-are_columns
