@@ -25,15 +25,14 @@
 //!
 //! N is a node's number, or `last`.
 
-use crate::aria::from_table;
 use crate::judgings::{digested, evidence, finally, finding, kind_of_inputs, merged, reason};
-use crate::looks::{cells, looked_up, page_lines};
 use crate::rules::{book, judge, rule, table};
-use crate::snapshots::read;
 use crate::sources::State;
-use crate::trouble::Trouble;
-use crate::values::{address, digits, faulty_lang, first_word, made, tidied};
-use crate::words::cut;
+use fixture_answers::{
+    address, cells, digits, faulty_lang, first_word, from_table, looked_up, made, page_lines, read,
+    tidied,
+};
+use fixture_sketches::{Trouble, cut};
 use snap_tree::Tree;
 use std::alloc::Global;
 

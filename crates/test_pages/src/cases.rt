@@ -1,10 +1,8 @@
 //! Goes through the cases of a file.
 
 use crate::answers::answer;
-use crate::lines::{Step, steps_of};
 use crate::sources::State;
-use crate::tally::{Spot, Tally};
-use crate::trouble::Trouble;
+use fixture_sketches::{Spot, Step, Tally, Trouble, steps_of};
 use std::alloc::Global;
 
 /// Tries all cases of a file.

@@ -1,9 +1,7 @@
 //! What becomes of outcomes: evidence, findings, judgements, merged outcomes.
 
-use crate::lines::Line;
 use crate::rules::{outcome, push_verdict};
-use crate::trouble::Trouble;
-use crate::words::{cut, cut_quoted, number, quoted, unescaped, unquoted};
+use fixture_sketches::{Line, Trouble, cut, cut_quoted, number, quoted, unescaped, unquoted};
 use judge_core::{Judgement, evidence_digest, final_outcome, merge_composite};
 use rule_core::{Auto, Class, Finding, LastLong, Reason, RuleInfo, RuleNo, Verdict, brief, digest};
 use snap_tree::{NodeId, Text};

@@ -5,25 +5,13 @@
 #![tactic(auto)]
 
 mod answers;
-mod aria;
 mod cases;
-mod edits;
 mod judgings;
-mod lines;
-mod looks;
-mod names;
 mod rules;
-mod shown;
-mod sketch;
-mod snapshots;
 mod sources;
-mod tally;
-mod trouble;
-mod values;
-mod words;
 
 use crate::cases::try_file;
-use crate::tally::Tally;
+use fixture_sketches::Tally;
 use std::process::ExitCode;
 use std::{env, fs, io};
 

@@ -1,7 +1,6 @@
 //! What rules say of a page.
 
-use crate::trouble::Trouble;
-use crate::words::{cut, number, push_quoted};
+use fixture_sketches::{Trouble, cut, number, push_quoted};
 use rule_book::{Thirty, infos};
 use rule_core::{Auto, NodeVerdict, RuleBook, RuleInfo, RuleNo, Verdict};
 use snap_tree::{NodeId, Tree};

@@ -10,14 +10,9 @@
 //! | `read` | the page that the bytes are |
 //! | `judged` | judgements, as `16 7 "Hours" passed` |
 
-use crate::edits::edits_of;
 use crate::judgings::judgement;
-use crate::lines::{Line, Step};
-use crate::shown::lines_of;
-use crate::sketch::Sketch;
-use crate::trouble::Trouble;
-use crate::values::words_of;
-use crate::words::{count, cut, number};
+use fixture_answers::words_of;
+use fixture_sketches::{Line, Sketch, Step, Trouble, count, cut, edits_of, lines_of, number};
 use judge_core::Judgement;
 use made_pages::made_page;
 use rule_core::LastLong;

@@ -4,7 +4,7 @@ use std::alloc::{AllocError, AllocFailed};
 
 /// Why a line of a case can't be followed.
 #[derive(Clone, Copy, Debug, PartialEq, Eq)]
-pub(crate) enum Trouble {
+pub enum Trouble {
     /// It isn't in the words that the guide to pages lists.
     NotInForm,
     /// There is no page before it, or the page is refused.
@@ -14,7 +14,7 @@ pub(crate) enum Trouble {
 
 impl Trouble {
     /// What is said in place of an answer.
-    pub(crate) fn said(self) -> &'static str {
+    pub fn said(self) -> &'static str {
         match self {
             Trouble::NotInForm => "a line that isn't in the form",
             Trouble::NoPage => "no page",

@@ -1,15 +1,14 @@
 //! What is said of texts and numbers by themselves.
 
-use crate::trouble::Trouble;
-use crate::words::{cut, number, push_quoted, quoted, unquoted};
 use acc_tree::whole_number;
+use fixture_sketches::{Trouble, cut, number, push_quoted, quoted, unquoted};
 use made_pages::made_pages;
 use snap_tree::{BuildFault, List, Text, blank, langs_fault, next_word, tidy};
 use std::alloc::Global;
 use web_address::{is_web_address, read_address};
 
 /// A text by its words, with one space between; `blank` where it has none.
-pub(crate) fn tidied(alloc: Global, rest: &str) -> Result<String, Trouble> {
+pub fn tidied(alloc: Global, rest: &str) -> Result<String, Trouble> {
     let text = Text::from_string(unquoted(alloc, rest)?);
     let tidied = tidy(alloc, &text)?;
     match (blank(&text), tidied.as_str()) {
@@ -20,7 +19,7 @@ pub(crate) fn tidied(alloc: Global, rest: &str) -> Result<String, Trouble> {
 }
 
 /// The first word of a text, and what stands behind it.
-pub(crate) fn first_word(alloc: Global, rest: &str) -> Result<String, Trouble> {
+pub fn first_word(alloc: Global, rest: &str) -> Result<String, Trouble> {
     let text = unquoted(alloc, rest)?;
     let mut line = String::new(alloc);
     if let Some((word, behind)) = next_word(text.as_str()) {
@@ -32,7 +31,7 @@ pub(crate) fn first_word(alloc: Global, rest: &str) -> Result<String, Trouble> {
 }
 
 /// The words of a line as a list.
-pub(crate) fn words_of(alloc: Global, line: &str) -> Result<List<Text>, Trouble> {
+pub fn words_of(alloc: Global, line: &str) -> Result<List<Text>, Trouble> {
     let mut words = Vec::new(alloc);
     let mut rest = line;
     while let Some((word, behind)) = next_word(rest) {
@@ -43,7 +42,7 @@ pub(crate) fn words_of(alloc: Global, line: &str) -> Result<List<Text>, Trouble>
 }
 
 /// The place of the first of some words that breaks the form of a list of language subtags.
-pub(crate) fn faulty_lang(alloc: Global, rest: &str) -> Result<String, Trouble> {
+pub fn faulty_lang(alloc: Global, rest: &str) -> Result<String, Trouble> {
     match langs_fault(&words_of(alloc, rest)?) {
         Some(place) => Ok(format!(in alloc; "{place}")?),
         None => Ok(String::new(alloc)),
@@ -51,7 +50,7 @@ pub(crate) fn faulty_lang(alloc: Global, rest: &str) -> Result<String, Trouble> 
 }
 
 /// The number that a text is in digits.
-pub(crate) fn digits(alloc: Global, rest: &str) -> Result<String, Trouble> {
+pub fn digits(alloc: Global, rest: &str) -> Result<String, Trouble> {
     let text = unquoted(alloc, rest)?;
     match whole_number(text.as_str()) {
         Some(number) => Ok(format!(in alloc; "{number}")?),
@@ -60,7 +59,7 @@ pub(crate) fn digits(alloc: Global, rest: &str) -> Result<String, Trouble> {
 }
 
 /// How many nodes the pages of a seed have together, and how many pages there are.
-pub(crate) fn made(alloc: Global, rest: &str) -> Result<String, Trouble> {
+pub fn made(alloc: Global, rest: &str) -> Result<String, Trouble> {
     let (seed, pages) = cut(rest, ' ');
     let trees = match made_pages(alloc, number(seed)?, number(pages)?) {
         Ok(trees) => trees,
@@ -76,7 +75,7 @@ pub(crate) fn made(alloc: Global, rest: &str) -> Result<String, Trouble> {
 }
 
 /// The web address that a text stands for; `itself` where it is one.
-pub(crate) fn address(alloc: Global, rest: &str) -> Result<String, Trouble> {
+pub fn address(alloc: Global, rest: &str) -> Result<String, Trouble> {
     let text = unquoted(alloc, rest)?;
     let is_one = is_web_address(alloc, text.as_str())?;
     match read_address(alloc, text.as_str())? {

@@ -3,19 +3,18 @@
 ghost use Rattle.std.specs.Prelude.{◌≤◌};
 
 use crate::aria::flags;
-use crate::trouble::Trouble;
-use crate::words::{push_number, push_quoted, push_word};
 use acc_name::name;
 use acc_tree::{
     decorative, explicit_role, exposed, follows, implicit_role, included, items, owned, owned_by,
     role, sight_of,
 };
 use aria_tables::Role;
+use fixture_sketches::{Trouble, push_number, push_quoted, push_word};
 use snap_tree::{NodeId, OutOfMemory, Tree};
 use std::alloc::Global;
 
 /// The name of a node and the clause that gives it, as `"Go" Content`; `out of memory` where it is too long.
-pub(crate) fn name_of(alloc: Global, tree: &Tree, node: NodeId) -> Result<String, Trouble> {
+pub fn name_of(alloc: Global, tree: &Tree, node: NodeId) -> Result<String, Trouble> {
     let mut line = String::new(alloc);
     match name(alloc, tree, node) {
         Err(OutOfMemory) => line.push_str(Trouble::OutOfMemory.said())?,
@@ -29,7 +28,7 @@ pub(crate) fn name_of(alloc: Global, tree: &Tree, node: NodeId) -> Result<String
 }
 
 /// `yes` where a node has a name, be it empty; `out of memory` where it is too long.
-pub(crate) fn is_named(alloc: Global, tree: &Tree, node: NodeId) -> Result<String, Trouble> {
+pub fn is_named(alloc: Global, tree: &Tree, node: NodeId) -> Result<String, Trouble> {
     let said = match name(alloc, tree, node) {
         Err(OutOfMemory) => Trouble::OutOfMemory.said(),
         Ok(_) => "yes",
@@ -42,7 +41,7 @@ fn word_of(role: Option<Role>) -> &'static str {
 }
 
 /// The explicit role of a node, the implicit one, and its role; `-` for none.
-pub(crate) fn roles(alloc: Global, tree: &Tree, node: NodeId) -> Result<String, Trouble> {
+pub fn roles(alloc: Global, tree: &Tree, node: NodeId) -> Result<String, Trouble> {
     let mut line = String::from_str(alloc, word_of(explicit_role(tree, node)))?;
     push_word(&mut line, word_of(implicit_role(tree, node)))?;
     push_word(&mut line, word_of(role(tree, node)))?;
@@ -50,7 +49,7 @@ pub(crate) fn roles(alloc: Global, tree: &Tree, node: NodeId) -> Result<String, 
 }
 
 /// Whether a node is exposed, included and decorative.
-pub(crate) fn standing(alloc: Global, tree: &Tree, node: NodeId) -> Result<String, Trouble> {
+pub fn standing(alloc: Global, tree: &Tree, node: NodeId) -> Result<String, Trouble> {
     flags(
         alloc,
         &[
@@ -62,7 +61,7 @@ pub(crate) fn standing(alloc: Global, tree: &Tree, node: NodeId) -> Result<Strin
 }
 
 /// The numbers of the nodes that a node owns.
-pub(crate) fn owns(alloc: Global, tree: &Tree, node: NodeId) -> Result<String, Trouble> {
+pub fn owns(alloc: Global, tree: &Tree, node: NodeId) -> Result<String, Trouble> {
     let mut line = String::new(alloc);
     for found in owned(alloc, tree, node)?.as_slice() {
         push_number(alloc, &mut line, found.0)?;
@@ -72,12 +71,7 @@ pub(crate) fn owns(alloc: Global, tree: &Tree, node: NodeId) -> Result<String, T
 
 /// What a node owns where aria-owns is followed so many times, 0 or 1, each with how many times one may still follow
 /// from there on, as `5:1`.
-pub(crate) fn items_of(
-    alloc: Global,
-    tree: &Tree,
-    node: NodeId,
-    number: u8,
-) -> Result<String, Trouble>
+pub fn items_of(alloc: Global, tree: &Tree, node: NodeId, number: u8) -> Result<String, Trouble>
     requires { number ≤ 1 }
 {
     let mut line = String::new(alloc);
@@ -90,7 +84,7 @@ pub(crate) fn items_of(
 }
 
 /// The numbers of the nodes that a node follows by aria-owns.
-pub(crate) fn followed(alloc: Global, tree: &Tree, node: NodeId) -> Result<String, Trouble> {
+pub fn followed(alloc: Global, tree: &Tree, node: NodeId) -> Result<String, Trouble> {
     let mut line = String::new(alloc);
     let Some(row) = tree.node(node) else {
         return Ok(line);
@@ -102,7 +96,7 @@ pub(crate) fn followed(alloc: Global, tree: &Tree, node: NodeId) -> Result<Strin
 }
 
 /// What a node owns where groups and row groups are looked through, with their roles.
-pub(crate) fn owns_through(alloc: Global, tree: &Tree, node: NodeId) -> Result<String, Trouble> {
+pub fn owns_through(alloc: Global, tree: &Tree, node: NodeId) -> Result<String, Trouble> {
     let mut line = String::new(alloc);
     let Some(sight) = sight_of(tree, node) else {
         return Ok(line);
@@ -117,7 +111,7 @@ pub(crate) fn owns_through(alloc: Global, tree: &Tree, node: NodeId) -> Result<S
 
 /// What is above a node: whether it is in a section, in a list, hidden and disabled, and the numbers of the
 /// nearest table and the nearest label.
-pub(crate) fn above(alloc: Global, tree: &Tree, node: NodeId) -> Result<String, Trouble> {
+pub fn above(alloc: Global, tree: &Tree, node: NodeId) -> Result<String, Trouble> {
     let Some(sight) = sight_of(tree, node) else {
         return Ok(String::new(alloc));
     };

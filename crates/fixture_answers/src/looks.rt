@@ -3,20 +3,21 @@
 use crate::names::{
     above, followed, is_named, items_of, name_of, owns, owns_through, roles, standing,
 };
-use crate::shown::{line_of, lines_of, number_of};
-use crate::trouble::Trouble;
-use crate::words::{cut, number, push_number, push_quoted, push_word, quoted, unquoted};
 use acc_tree::{
     Attribute, aboves, aria_attrs, attr, first_found, has, is_blank_at, labels_of, text_at,
 };
 use aria_tables::{AriaAttr, Role};
+use fixture_sketches::{
+    Trouble, cut, line_of, lines_of, number, number_of, push_number, push_quoted, push_word,
+    quoted, unquoted,
+};
 use rule_sights::{row_of, sight_as, sight_of_html, sight_with};
 use rules_tables::{Area, cell_places};
 use snap_tree::{NodeId, Text, Tree};
 use std::alloc::Global;
 
 /// What a step finds in a page; nothing where it finds none. The same has to be found in a copy.
-pub(crate) fn looked_up(
+pub fn looked_up(
     alloc: Global,
     tree: &Tree,
     word: &str,
@@ -245,7 +246,7 @@ fn attribute(alloc: Global, tree: &Tree, node: NodeId, name: &str) -> Result<Str
 }
 
 /// Where the cells of a table are placed: a line for each, with the rows and the columns that it covers.
-pub(crate) fn cells(alloc: Global, tree: &Tree, rest: &str) -> Result<Vec<String>, Trouble> {
+pub fn cells(alloc: Global, tree: &Tree, rest: &str) -> Result<Vec<String>, Trouble> {
     let mut lines = Vec::new(alloc);
     for place in cell_places(alloc, tree, NodeId(number(rest)?))?.as_slice() {
         let NodeId(cell) = place.cell;
@@ -261,7 +262,7 @@ pub(crate) fn cells(alloc: Global, tree: &Tree, rest: &str) -> Result<Vec<String
 }
 
 /// The lines of a page, where a copy and copies of its rows have the same.
-pub(crate) fn page_lines(alloc: Global, tree: &Tree) -> Result<Vec<String>, Trouble> {
+pub fn page_lines(alloc: Global, tree: &Tree) -> Result<Vec<String>, Trouble> {
     let mut lines = lines_of(alloc, tree.rows())?;
     let copied = lines_of(alloc, tree.copy()?.rows())?;
     let rows = copied_lines(alloc, tree)?;

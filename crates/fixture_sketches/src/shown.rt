@@ -6,7 +6,7 @@ use snap_tree::{Attr, Body, Facts, NodeId, Row, Space};
 use std::alloc::Global;
 
 /// A line for each row: its number, its parent's, and the node.
-pub(crate) fn lines_of(alloc: Global, rows: &[Row]) -> Result<Vec<String>, Trouble> {
+pub fn lines_of(alloc: Global, rows: &[Row]) -> Result<Vec<String>, Trouble> {
     let mut lines = Vec::new(alloc);
     for row in rows {
         lines.push(line_of(alloc, row)?)?;
@@ -15,7 +15,7 @@ pub(crate) fn lines_of(alloc: Global, rows: &[Row]) -> Result<Vec<String>, Troub
 }
 
 /// The line of a row, as `7 in 5 <input id="q" !rvf>`.
-pub(crate) fn line_of(alloc: Global, row: &Row) -> Result<String, Trouble> {
+pub fn line_of(alloc: Global, row: &Row) -> Result<String, Trouble> {
     let NodeId(number) = row.id;
     let parent = number_of(row.parent);
     let mut line = format!(in alloc; "{number} in {parent} ")?;
@@ -50,7 +50,7 @@ fn push_tag_end(line: &mut String) -> Result<(), Trouble> {
 }
 
 /// The number of a node; 0 where there is none.
-pub(crate) fn number_of(node: Option<NodeId>) -> u32 {
+pub fn number_of(node: Option<NodeId>) -> u32 {
     match node {
         Some(NodeId(number)) => number,
         None => 0,

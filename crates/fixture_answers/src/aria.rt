@@ -1,12 +1,11 @@
 //! What ARIA's tables say of roles, attributes and values.
 
-use crate::trouble::Trouble;
-use crate::words::{cut, push_word, unquoted};
 use aria_tables::{
     AriaAttr, Role, allowed_owned, attr_of, is_among, is_global, is_landmark, is_later,
     is_reference, looks_through, named_from_content, required_states, role_of, same_role,
     value_kind, value_ok,
 };
+use fixture_sketches::{Trouble, cut, push_word, unquoted};
 use std::alloc::Global;
 
 fn role_in(word: &str) -> Result<Role, Trouble> {
@@ -22,7 +21,7 @@ fn yes(is_so: bool) -> &'static str {
 }
 
 /// The words of the flags that hold.
-pub(crate) fn flags(alloc: Global, flags: &[(bool, &str)]) -> Result<String, Trouble> {
+pub fn flags(alloc: Global, flags: &[(bool, &str)]) -> Result<String, Trouble> {
     let mut line = String::new(alloc);
     for (is_so, word) in flags {
         if *is_so {
@@ -33,12 +32,7 @@ pub(crate) fn flags(alloc: Global, flags: &[(bool, &str)]) -> Result<String, Tro
 }
 
 /// What the tables answer to a question behind `aria-table`.
-pub(crate) fn from_table(
-    alloc: Global,
-    bytes: &[u8],
-    word: &str,
-    rest: &str,
-) -> Result<String, Trouble> {
+pub fn from_table(alloc: Global, bytes: &[u8], word: &str, rest: &str) -> Result<String, Trouble> {
     match word {
         "role" => role(alloc, rest),
         "attribute" => attribute(alloc, rest),

@@ -6,18 +6,18 @@ use std::alloc::Global;
 
 /// How many expectations of a file held, how many didn't, and a line for each of these.
 #[derive(Drop)]
-pub(crate) struct Tally {
+pub struct Tally {
     alloc: Global,
-    pub(crate) passed: u64,
-    pub(crate) failed: u64,
-    pub(crate) said: String,
+    pub passed: u64,
+    pub failed: u64,
+    pub said: String,
 }
 
 /// Where an expectation stands: the file, and the line of the table's row that is filled in, or 0.
 #[derive(Clone, Copy)]
-pub(crate) struct Spot<'a> {
-    pub(crate) file: &'a str,
-    pub(crate) row: usize,
+pub struct Spot<'a> {
+    pub file: &'a str,
+    pub row: usize,
 }
 
 // What is shown of a line at the most.
@@ -25,7 +25,7 @@ const SHOWN: usize = 300;
 
 impl Tally {
     /// No expectation yet.
-    pub(crate) fn new(alloc: Global) -> Self {
+    pub fn new(alloc: Global) -> Self {
         Tally {
             alloc,
             passed: 0,
@@ -35,7 +35,7 @@ impl Tally {
     }
 
     /// Holds what was expected at a line against what came, line by line.
-    pub(crate) fn compare(
+    pub fn compare(
         &mut self,
         spot: Spot<'_>,
         at: usize,
@@ -55,7 +55,7 @@ impl Tally {
     }
 
     /// Says that one thing was expected at a line and another came.
-    pub(crate) fn miss(
+    pub fn miss(
         &mut self,
         spot: Spot<'_>,
         at: usize,

@@ -18,7 +18,7 @@ struct Inserting {
 
 /// The edits that lines are: `set 2 class "x y"`, `drop 2 class`, `text 6 "Go"`, `facts 5 rv` or `facts 5 none`,
 /// `remove 7`, `move 5 to 7 at 1`, and `insert in 2 at 0` with the rows indented below it, or behind `:` in one line.
-pub(crate) fn edits_of(alloc: Global, lines: &[Line]) -> Result<Vec<Edit>, Trouble> {
+pub fn edits_of(alloc: Global, lines: &[Line]) -> Result<Vec<Edit>, Trouble> {
     let mut edits = Vec::new(alloc);
     let mut open = None;
     for line in lines {

@@ -7,7 +7,7 @@ use std::alloc::Global;
 
 /// The rows of a page, as far as its lines are read.
 #[derive(Drop)]
-pub(crate) struct Sketch {
+pub struct Sketch {
     alloc: Global,
     rows: Vec<Row>,
     // the numbers of the nodes that stand one within the other, from the first of their line on
@@ -24,7 +24,7 @@ struct Given {
 
 impl Sketch {
     /// A page without a line.
-    pub(crate) fn new(alloc: Global) -> Self {
+    pub fn new(alloc: Global) -> Self {
         Sketch {
             alloc,
             rows: Vec::new(alloc),
@@ -34,14 +34,14 @@ impl Sketch {
     }
 
     /// The rows of the lines.
-    pub(crate) fn into_rows(self) -> Vec<Row> {
+    pub fn into_rows(self) -> Vec<Row> {
         let Sketch { rows, .. } = self;
         rows
     }
 
     /// Reads one line: nodes of which each stands within the one before it, the first within the nearest line
     /// above that is indented less.
-    pub(crate) fn line(&mut self, line: &str) -> Result<(), Trouble> {
+    pub fn line(&mut self, line: &str) -> Result<(), Trouble> {
         let nodes = line.trim_start();
         let indented = line.len().saturating_sub(nodes.len());
         if self.open.len() < indented / 2 {
@@ -145,7 +145,7 @@ fn cut_facts(text: &str) -> Result<(Facts, &str), Trouble> {
 }
 
 /// The facts that letters say: r for rendered, v for visible, f for focusable, t for tabbable.
-pub(crate) fn facts(letters: &str) -> Result<Facts, Trouble> {
+pub fn facts(letters: &str) -> Result<Facts, Trouble> {
     let mut facts = Facts {
         rendered: false,
         visible: false,

@@ -1,6 +1,6 @@
 //! What is said of bytes as a snapshot.
 
-use crate::trouble::Trouble;
+use fixture_sketches::Trouble;
 use serde_json::Value;
 use snap_json::{SnapFault, raw_of, read_kept, read_raw, read_snapshot, rows_of, write_snapshot};
 use snap_tree::{List, Raw, Row, Tree};
@@ -8,7 +8,7 @@ use std::alloc::Global;
 
 /// What is said of bytes that are sent: as a snapshot, as a list of rows, as a page, as a snapshot that was kept; or
 /// how the page that they are is written.
-pub(crate) fn read(alloc: Global, bytes: &[u8], word: &str) -> Result<String, Trouble> {
+pub fn read(alloc: Global, bytes: &[u8], word: &str) -> Result<String, Trouble> {
     match word {
         "sent" => sent(alloc, bytes),
         "rows" => rows(alloc, bytes),

@@ -4,7 +4,7 @@ use crate::trouble::Trouble;
 use std::alloc::Global;
 
 /// A text up to the first of a sign, and what stands behind it; all and nothing where it has none.
-pub(crate) fn cut(text: &str, sign: char) -> (&str, &str) {
+pub fn cut(text: &str, sign: char) -> (&str, &str) {
     match text.split_once(sign) {
         Some(parts) => parts,
         None => (text, ""),
@@ -12,7 +12,7 @@ pub(crate) fn cut(text: &str, sign: char) -> (&str, &str) {
 }
 
 /// The number that a text is in decimal digits.
-pub(crate) fn number(text: &str) -> Result<u32, Trouble> {
+pub fn number(text: &str) -> Result<u32, Trouble> {
     match text.trim().parse::<u32>() {
         Ok(number) => Ok(number),
         Err(_) => Err(Trouble::NotInForm),
@@ -20,7 +20,7 @@ pub(crate) fn number(text: &str) -> Result<u32, Trouble> {
 }
 
 /// A count that a text is in decimal digits.
-pub(crate) fn count(text: &str) -> Result<usize, Trouble> {
+pub fn count(text: &str) -> Result<usize, Trouble> {
     match text.trim().parse::<usize>() {
         Ok(count) => Ok(count),
         Err(_) => Err(Trouble::NotInForm),
@@ -29,7 +29,7 @@ pub(crate) fn count(text: &str) -> Result<usize, Trouble> {
 
 /// What stands between the quote that a text begins with and the next, and what stands behind that. A quote
 /// behind `\` ends nothing.
-pub(crate) fn cut_quoted(text: &str) -> Option<(&str, &str)> {
+pub fn cut_quoted(text: &str) -> Option<(&str, &str)> {
     let inside = text.strip_prefix('"')?;
     let (before, behind) = inside.split_once('"')?;
     if !before.contains('\\') {
@@ -47,7 +47,7 @@ pub(crate) fn cut_quoted(text: &str) -> Option<(&str, &str)> {
 }
 
 /// The text that one in quotes says, which is all of the given text.
-pub(crate) fn unquoted(alloc: Global, text: &str) -> Result<String, Trouble> {
+pub fn unquoted(alloc: Global, text: &str) -> Result<String, Trouble> {
     match cut_quoted(text.trim()) {
         Some((inside, "")) => unescaped(alloc, inside),
         _ => Err(Trouble::NotInForm),
@@ -65,7 +65,7 @@ enum Place {
 }
 
 /// A text with its escapes read: `\n`, `\t`, `\r`, `\u{..}`, and any other sign behind `\` as itself.
-pub(crate) fn unescaped(alloc: Global, raw: &str) -> Result<String, Trouble> {
+pub fn unescaped(alloc: Global, raw: &str) -> Result<String, Trouble> {
     if !raw.contains('\\') {
         return Ok(String::from_str(alloc, raw)?);
     }
@@ -111,7 +111,7 @@ fn longer(code: u32, sign: char) -> u32 {
 }
 
 /// Adds a text in quotes, as `unquoted` reads it.
-pub(crate) fn push_quoted(alloc: Global, line: &mut String, text: &str) -> Result<(), Trouble> {
+pub fn push_quoted(alloc: Global, line: &mut String, text: &str) -> Result<(), Trouble> {
     line.push('"')?;
     for sign in text.chars() {
         push_escaped(alloc, line, sign)?;
@@ -148,14 +148,14 @@ fn push_code(alloc: Global, line: &mut String, sign: char) -> Result<(), Trouble
 }
 
 /// A text in quotes.
-pub(crate) fn quoted(alloc: Global, text: &str) -> Result<String, Trouble> {
+pub fn quoted(alloc: Global, text: &str) -> Result<String, Trouble> {
     let mut line = String::new(alloc);
     push_quoted(alloc, &mut line, text)?;
     Ok(line)
 }
 
 /// Adds a number, behind a space where it isn't the first word.
-pub(crate) fn push_number(alloc: Global, line: &mut String, number: u32) -> Result<(), Trouble> {
+pub fn push_number(alloc: Global, line: &mut String, number: u32) -> Result<(), Trouble> {
     if !line.is_empty() {
         line.push(' ')?;
     }
@@ -165,7 +165,7 @@ pub(crate) fn push_number(alloc: Global, line: &mut String, number: u32) -> Resu
 }
 
 /// Adds a word, behind a space where it isn't the first.
-pub(crate) fn push_word(line: &mut String, word: &str) -> Result<(), Trouble> {
+pub fn push_word(line: &mut String, word: &str) -> Result<(), Trouble> {
     if !line.is_empty() {
         line.push(' ')?;
     }

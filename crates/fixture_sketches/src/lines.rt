@@ -6,21 +6,21 @@ use std::alloc::Global;
 
 /// A line of a file: its number, counted from 1, and its text without the white space at its end.
 #[derive(Drop)]
-pub(crate) struct Line {
-    pub(crate) at: usize,
-    pub(crate) text: String,
+pub struct Line {
+    pub at: usize,
+    pub text: String,
 }
 
 /// A step of a case: its words, and the lines of its block with the indentation that they have in it.
 #[derive(Drop)]
-pub(crate) struct Step {
-    pub(crate) at: usize,
-    pub(crate) words: String,
-    pub(crate) block: Vec<Line>,
+pub struct Step {
+    pub at: usize,
+    pub words: String,
+    pub block: Vec<Line>,
 }
 
 /// The steps of a case, in which each `$1`, `$2` .. stands for the cell of a row of its table.
-pub(crate) fn steps_of(
+pub fn steps_of(
     alloc: Global,
     lines: &[(usize, &str)],
     cells: &[&str],
