@@ -1,7 +1,6 @@
-//! What is said of a page that is written as text: names, roles and what else is looked up in it, of bytes as a
-//! snapshot, of texts and numbers, and by ARIA's tables.
+//! Says what is looked up in a page, in bytes, in texts and in ARIA's tables, as lines that a case is held against.
 //!
-//! Each answer is a line, or some, that a case of a file is held against. Start with [`looked_up`].
+//! Start with [`looked_up`].
 #![tactic(auto)]
 
 mod aria;

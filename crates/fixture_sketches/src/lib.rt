@@ -1,8 +1,7 @@
-//! Pages that are written as text: the cases and steps of a file, elements and texts as rows, edits of a page, and how
-//! rows are written again.
+//! Reads pages that are written as text, with their cases, steps and edits, and writes rows as such lines.
 //!
-//! A page stands in lines that a person reads and writes. Start with [`steps_of`] for the lines of a case, with
-//! [`Sketch`] for a page, with [`edits_of`] for edits, and with [`Tally`] for what holds.
+//! Start with [`steps_of`] for the lines of a case, with [`Sketch`] for a page, with [`edits_of`] for edits, and with
+//! [`Tally`] for what holds.
 #![tactic(auto)]
 
 mod edits;
