@@ -29,16 +29,16 @@ fn drop_home(alloc: Global) -> Result<Change, Unasked>
 }
 
 // Whether the page can't be dropped.
-fn fails_to_drop<K: Keeper>(alloc: Global, keeper: &mut K) -> Result<bool, Fail> {
+fn fails_to_drop<S: Alter>(alloc: Global, keeper: &mut SqlKeeper<S>) -> Result<bool, Fail> {
     let change = drop_home(alloc)?;
     let dropped = keeper.apply(alloc, &Batch { change });
     Ok(matches!(dropped, Err(KeepFault::Failed)))
 }
 
 // Whether those that read fail so, and dropping the page too or not.
-fn all_fail<K: Keeper>(
+fn all_fail<S: Alter>(
     alloc: Global,
-    keeper: &mut K,
+    keeper: &mut SqlKeeper<S>,
     wanted: Failing,
     drops: bool,
 ) -> Result<bool, Fail> {
