@@ -92,16 +92,16 @@ def test_completion(line: str, wanted: set[str]) -> None:
 
 
 def test_installed(tmp_path: pathlib.Path) -> None:
-    """`pip install` puts the package into a virtual environment that sees Debian's packages, with no network."""
+    """`pip install .` puts the package into a virtual environment that sees Debian's packages, with no network."""
     copy = tmp_path / "clone"
-    files = subprocess.run(["git", "-c", f"safe.directory={ROOT}", "ls-files", "-z", "silvervole", "pyproject.toml", "README.md"], cwd=ROOT, capture_output=True,
+    files = subprocess.run(["git", "-c", f"safe.directory={ROOT}", "ls-files", "-z", "silvervole", "deploy", "pyproject.toml", "README.md"], cwd=ROOT, capture_output=True,
                            text=True, check=True).stdout.split("\0")
     for name in filter(None, files):
         (copy / name).parent.mkdir(parents=True, exist_ok=True)
         (copy / name).write_bytes((ROOT / name).read_bytes())
     env = {**plain_environment(), "PIP_NO_INDEX": "1", "PIP_DISABLE_PIP_VERSION_CHECK": "1"}
     subprocess.run(["/usr/bin/python3", "-m", "venv", "--system-site-packages", tmp_path / "venv"], check=True, env=env)
-    subprocess.run([tmp_path / "venv" / "bin" / "pip", "install", "--quiet", "--no-build-isolation", copy], check=True, env=env)
+    subprocess.run([tmp_path / "venv" / "bin" / "pip", "install", "--quiet", copy], check=True, env=env)
     command = tmp_path / "venv" / "bin" / "silvervole"
     desk_env = {**env, **desk(tmp_path)}
     done = subprocess.run([command, "check", shop_file(tmp_path), "--html", tmp_path / "found.html"], capture_output=True, text=True, check=False,
@@ -111,3 +111,11 @@ def test_installed(tmp_path: pathlib.Path) -> None:
     place = subprocess.run([tmp_path / "venv" / "bin" / "python", "-c", "import silvervole; print(silvervole.__file__)"], capture_output=True, text=True,
                            check=True, cwd=tmp_path).stdout
     assert place.startswith(os.path.realpath(tmp_path / "venv")) or place.startswith(str(tmp_path / "venv"))
+
+
+def test_asks_for_what_builds_it() -> None:
+    """With another Python than Debian's, in an environment without them, pip is told to fetch what builds the package."""
+    for prefix, wanted in (("/usr", "[]"), ("/opt/python", "['setuptools>=66', 'wheel']")):
+        asked = f"import sys; sys.base_prefix = {prefix!r}; sys.path.append({str(ROOT / 'deploy')!r}); import backend; print(backend.required())"
+        done = subprocess.run(["/usr/bin/python3", "-I", "-S", "-B", "-c", asked], capture_output=True, text=True, check=True)
+        assert done.stdout.strip() == wanted
