@@ -144,7 +144,8 @@ def test_report() -> None:
              str(graph.value(graph.value(one, earl.test), title)), str(graph.value(graph.value(one, earl.result), earl.outcome)).partition("#")[2])
             for one in assertions}
     assert len(assertions) == len(said) == len(results)
-    assert said == {(one.case.address, one.case.rule, one.case.rule_name, "untested" if isinstance(one.outcome, Stop) else one.outcome.actual) for one in results}
+    assert said == {(one.case.address, one.case.rule, one.case.rule_name, one.outcome.actual if isinstance(one.outcome, Graded) else "untested")
+                    for one in results}
     assert {graph.value(one, earl.mode) for one in assertions} == {earl.automatic}
     assertor, = {graph.value(one, earl.assertedBy) for one in assertions}
     assert (assertor, rdflib.RDF.type, earl.Assertor) in graph and str(graph.value(assertor, doap.name)) == "Silvervole"

@@ -4,7 +4,7 @@ from __future__ import annotations
 import concurrent.futures
 import dataclasses
 import queue
-from typing import Any, Iterator, Sequence
+from typing import Any, Generator, Sequence
 
 from silvervole.collect.browser import Browsers, kill_browser, start_browser
 from silvervole.collect.ends import End, Stop, first_line
@@ -70,8 +70,7 @@ class Worker:
         """A case's page in the browser, which is started where there is none."""
         place = place_of(page_of(case, self.folder))
         if self.browser is None:
-            self.browser = start_browser(self.options.viewport)
-            self.browser.execute_cdp_cmd("Page.addScriptToEvaluateOnNewDocument", {"source": STAY})
+            self.browser = start_browser(self.options.viewport, scripts=(STAY,))
         from selenium.common.exceptions import WebDriverException
         from urllib3.exceptions import HTTPError
         try:
@@ -96,7 +95,7 @@ class Worker:
             browser.quit()
 
 
-def collected(cases: Sequence[Case], folder: str, options: Options, jobs: int) -> Iterator[Tried]:
+def collected(cases: Sequence[Case], folder: str, options: Options, jobs: int) -> Generator[Tried, None, None]:
     """The pages of cases, each as soon as it is there, from so many browsers beside each other."""
     browsers = Browsers()
     waiting: queue.SimpleQueue[Case] = queue.SimpleQueue()

@@ -44,7 +44,7 @@ def report(results: Sequence[Result], table: RuleTable) -> bytes:
 def assertion(result: Result, table: RuleTable) -> dict[str, Any]:
     """What is asserted of a case: the page by its address as it was published, the rule by its own page."""
     case, outcome = result.case, result.outcome
-    told = {"outcome": "earl:untested", "description": outcome.line} if isinstance(outcome, Stop) else {"outcome": f"earl:{outcome.actual}"}
+    told = {"outcome": "earl:untested", "info": outcome.line} if isinstance(outcome, Stop) else {"outcome": f"earl:{outcome.actual}"}
     return {
         "@type": "Assertion",
         "assertedBy": SOFTWARE,

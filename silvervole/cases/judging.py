@@ -4,7 +4,6 @@ Nothing else here asks the program, and `judged` takes as many cases as the prog
 """
 from __future__ import annotations
 
-import contextlib
 import enum
 from dataclasses import dataclass
 from typing import Sequence
@@ -43,9 +42,10 @@ def judged_alone(case: Case, snapshot: bytes) -> Graded | Stop:
     """What the desk says of one case, by an audit of its page."""
     try:
         audit = Audit(snapshot)
-        with contextlib.ExitStack() as stack:
-            stack.callback(audit.end)
+        try:
             return graded(case, read_report(audit.report(), "what the desk wrote"))
+        finally:
+            audit.end()
     except Stop as stop:
         return stop
 

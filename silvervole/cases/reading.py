@@ -9,6 +9,7 @@ import urllib.parse
 from dataclasses import dataclass
 from typing import Any
 
+from silvervole import __version__
 from silvervole.collect.ends import End, Stop
 from silvervole.view.files import read
 
@@ -76,7 +77,8 @@ def fetch(place: str) -> bytes:
     import http.client  # only here, since they load slowly
     import urllib.request
     try:
-        with urllib.request.urlopen(place, timeout=FETCH_SECONDS) as answer:
+        request = urllib.request.Request(place, headers={"User-Agent": f"silvervole/{__version__}"})
+        with urllib.request.urlopen(request, timeout=FETCH_SECONDS) as answer:
             return bytes(answer.read())
     except (OSError, ValueError, http.client.HTTPException) as error:
         raise Stop(End.LOAD, f"{place} doesn't load: {error}") from None

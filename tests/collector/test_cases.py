@@ -5,12 +5,16 @@ import json
 import os
 import pathlib
 import re
+import signal
+import subprocess
+import time
 
 import pytest
 
 from silvervole.collect.ends import End
 from silvervole.view.rules import read_rules
 
+from ..processes import children, is_alive
 from ..standin import at_terminal, desk
 from ..support import ROOT, expect, run, same
 from .server import ANSWERS, HTML, Answer, ServePages, html
@@ -43,7 +47,8 @@ def test_pages(serve_pages: ServePages, tmp_path: pathlib.Path) -> None:
     same("the sums", lines[-1].split()[:6], ["total", "4", "4", "0", "0", "2"])
     for name in MOVING:
         snapshot = json.loads((out / "c487ae" / f"{name}.html.json").read_bytes())
-        expect(f"{name} stays where it is", snapshot["url"] == f"https://cases.example/{name}.html" and any(row.get("text") == "old" for row in snapshot["nodes"]))
+        same(f"the address of {name}", snapshot["url"], f"https://cases.example/{name}.html")
+        expect(f"{name} stays where it is", any(row.get("text") == "old" for row in snapshot["nodes"]))
     outcomes = [one["result"]["outcome"] for one in json.loads((tmp_path / "earl").read_bytes())["@graph"][1:]]
     same("the report", outcomes, ["earl:failed"] * 3 + ["earl:untested", "earl:failed", "earl:untested"])
 
@@ -70,10 +75,28 @@ def test_progress(tmp_path: pathlib.Path) -> None:
     expect("it is told", code == 0 and "0 of 1 checked; page.html" in text and "1 consistent" in text, text)
 
 
+def test_interrupt(base: str, tmp_path: pathlib.Path) -> None:
+    """An interrupt closes the browsers, and is one line."""
+    (tmp_path / "list").write_text(listed("never", "never?2", "never?3"), encoding="utf-8")
+    command = subprocess.Popen([COMMAND, tmp_path / "list", base, "--jobs", "2"], stdin=subprocess.DEVNULL, stdout=subprocess.PIPE, stderr=subprocess.PIPE,
+                               env=desk(tmp_path))
+    begun = time.monotonic() + 60
+    while len(children(command.pid)) < 8 and time.monotonic() < begun:
+        time.sleep(0.2)
+    started = children(command.pid)
+    os.kill(command.pid, signal.SIGINT)
+    out, err = command.communicate()
+    same("the status and the line", (command.returncode, out, err), (End.INTERRUPTED, b"", b"cases: interrupted\n"))
+    end = time.monotonic() + 20
+    while any(map(is_alive, started)) and time.monotonic() < end:
+        time.sleep(0.2)
+    same("processes that are left", list(filter(is_alive, started)), [])
+
+
 @pytest.mark.desk
-def test_own_cases() -> None:
+def test_own_cases(tmp_path: pathlib.Path) -> None:
     """Of the cases of the repository those come out otherwise that its README names with their reasons; the rules that the desk hasn't are named."""
-    code, text, err = run(CASES / "testcases.json", "--jobs", str(os.cpu_count() or 1), program=COMMAND)
+    code, text, err = run(CASES / "testcases.json", "--timeout", "600", "--earl", tmp_path / "earl", program=COMMAND)
     out = text.decode("utf-8")
     rules = read_rules().rules
     readme = (CASES / "README.md").read_text(encoding="utf-8")
@@ -84,4 +107,7 @@ def test_own_cases() -> None:
     given = json.loads((CASES / "testcases.json").read_bytes())["testcases"]
     others = list(dict.fromkeys(case["ruleId"] for case in given if case["ruleId"] not in rules))
     expect("the rules that the desk hasn't", not others or f"rules that the desk hasn't: {', '.join(others)}\n" in out, out)
+    outcomes = [one["result"]["outcome"] for one in json.loads((tmp_path / "earl").read_bytes())["@graph"][1:]]
+    sums = list(map(int, out.splitlines()[-1].split()[1:6]))
+    same("the report counts as the table does", [len(outcomes), outcomes.count("earl:cantTell"), outcomes.count("earl:untested")], [sums[0], sums[2], sums[4]])
     same("a row for each rule", re.findall(r"^([0-9a-z]{6})  ", out, re.MULTILINE), list(rules))
