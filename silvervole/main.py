@@ -40,6 +40,8 @@ WORDS = {
     "send": Word("silvervole.send.command", "sends the next version of a page to the desk",
                  "silvervole send --desk http://127.0.0.1:8080 --caller ann acme/home page.json"),
     "serve": Word("silvervole.serve.command", "serves the desk over HTTP", "silvervole serve desk.db --port 8080"),
+    "cases": Word("silvervole.cases.command", "tries test cases of ACT rules, and says how the desk fares",
+                  "silvervole cases testcases.json --earl report.jsonld"),
     "init": Word("silvervole.settings.command", "writes silvervole.toml, the settings of check", "silvervole init https://www.example.org/"),
 }
 

@@ -77,8 +77,8 @@ def chromium_options(tools: Tools, viewport: tuple[int, int], arguments: Sequenc
     return options
 
 
-def start_browser(viewport: tuple[int, int] = VIEWPORT, arguments: Sequence[str] = ()) -> Any:
-    """A browser with an empty profile of its own, whose pages have the size of the viewport."""
+def start_browser(viewport: tuple[int, int] = VIEWPORT, arguments: Sequence[str] = (), scripts: Sequence[str] = ()) -> Any:
+    """A browser with an empty profile of its own, whose pages have the size of the viewport; the scripts run in each before its own."""
     tools = find_tools()
     from selenium.common.exceptions import WebDriverException
     from selenium.webdriver.chrome.service import Service
@@ -92,7 +92,7 @@ def start_browser(viewport: tuple[int, int] = VIEWPORT, arguments: Sequence[str]
         # A window's size includes the browser's own bars, which differ; this is the page's.
         browser.execute_cdp_cmd("Emulation.setDeviceMetricsOverride", {
             "width": viewport[0], "height": viewport[1], "deviceScaleFactor": 1, "mobile": False})
-        for source in (CLOSED_DIALOGS, INTERNALS.read_text(encoding="utf-8")):
+        for source in (CLOSED_DIALOGS, INTERNALS.read_text(encoding="utf-8"), *scripts):
             browser.execute_cdp_cmd("Page.addScriptToEvaluateOnNewDocument", {"source": source})
         browser.execute_cdp_cmd("Page.setLifecycleEventsEnabled", {"enabled": True})
     except WebDriverException as error:
