@@ -1,13 +1,14 @@
 """What all tests by pytest share: what is left out and why, a browser, a made folder, and the count of what was expected."""
 from __future__ import annotations
 
+import contextlib
 import tempfile
 from collections import Counter
 from typing import Any, Iterator
 
 import pytest
 
-from silvervole.collect.browser import find_tools, start_browser
+from silvervole.collect.browser import find_tools, kill_browser, start_browser
 from silvervole.collect.ends import Stop, quiet_libraries
 
 from .support import DESK, ROOT, Checks
@@ -48,17 +49,56 @@ def pytest_terminal_summary(terminalreporter: Any) -> None:
     terminalreporter.write_line(f"{met:,} expectations were met")
 
 
+class Shared:
+    """A Chromium for all tests that open their pages in one, begun anew where its tab crashed or it ended; each process of tests has its own."""
+
+    def __init__(self) -> None:
+        self.started: Any = None
+
+    def get(self) -> Any:
+        """The browser, which answers."""
+        if self.started is not None and not self.answers():
+            kill_browser(self.started)
+            self.end()
+        if self.started is None:
+            self.started = start_browser()
+        return self.started
+
+    def end(self) -> None:
+        """Ends the browser, where it hasn't ended, and its driver."""
+        from selenium.common.exceptions import WebDriverException
+        if self.started is not None:
+            with contextlib.suppress(WebDriverException, OSError):
+                self.started.quit()
+            self.started = None
+
+    def answers(self) -> bool:
+        """Whether its tab does what it is told."""
+        from selenium.common.exceptions import WebDriverException
+        try:
+            self.started.get("about:blank")
+            return True
+        except (WebDriverException, OSError):
+            return False
+
+
 @pytest.fixture(scope="session")
-def browser() -> Iterator[Any]:
-    """A Chromium for all tests that open their pages in one; each process of tests has its own."""
+def shared() -> Iterator[Shared]:
+    """The browser of all tests of this process."""
     try:
         find_tools()
     except Stop as stop:
         pytest.skip(stop.line)
     quiet_libraries()
-    started = start_browser()
-    yield started
-    started.quit()
+    made = Shared()
+    yield made
+    made.end()
+
+
+@pytest.fixture
+def browser(shared: Shared) -> Any:
+    """A Chromium that other tests used before."""
+    return shared.get()
 
 
 @pytest.fixture
