@@ -2,6 +2,7 @@
 from __future__ import annotations
 
 import contextlib
+import signal
 import tempfile
 from collections import Counter
 from typing import Any, Iterator
@@ -12,6 +13,11 @@ from silvervole.collect.browser import find_tools, kill_browser, start_browser
 from silvervole.collect.ends import Stop, quiet_libraries
 
 from .support import DESK, ROOT, Checks
+
+
+def pytest_configure() -> None:
+    """What a test starts is to be interrupted, also where a shell runs the tests in the background, which ignores interrupts."""
+    signal.signal(signal.SIGINT, signal.default_int_handler)
 
 
 def pytest_collection_modifyitems(items: list[pytest.Item]) -> None:
