@@ -1,14 +1,15 @@
 //! The accessibility audit desk, as a program: `act_desk STORE COMMAND ..`. What a command does stands in `desk_run`, and
 //! over a store in `store_run`, over any source, sinks, keeper, door and books of rules. The adapters over standard input,
-//! output and error and over TCP, and what stands here, are the trusted edge.
+//! output and error, over TCP and over a file, and what stands here, are the trusted edge.
 #![tactic(auto)]
 
 use desk_run::{Found, StorePlace, Task, made_books, read_arguments, run, tell};
 use keep_core::MemoryKeeper;
+use keep_sql::SqlKeeper;
 use snap_tree::List;
-use sqlite::Unknown;
+use sqlite::{Connection, Error, ErrorCode, File, FileStore};
 use std::process::ExitCode;
-use store_run::run_file;
+use store_run::run_store;
 use streams::{Reader, Sink, Writer};
 use tcp_door::{Patience, TcpDoor};
 
@@ -34,9 +35,13 @@ fn main(rt: HostRuntime) -> ExitCode {
                 &mut books,
             )
         }
-        StorePlace::File { path } => run_file(
-            &rt, &rt, &path, Unknown, &words, &mut input, &mut out, &mut err, &mut door, &mut books,
-        ),
+        StorePlace::File { path } => match opened(&rt, path.as_str()) {
+            Ok(mut kept) => run_store(
+                &rt, alloc, &words, &mut input, &mut out, &mut err, &mut kept, &mut door,
+                &mut books,
+            ),
+            Err(found) => return ending(&mut out, &mut err, &found),
+        },
     };
     ExitCode::from(number)
 }
@@ -44,4 +49,13 @@ fn main(rt: HostRuntime) -> ExitCode {
 // The program ends by what is found before a run.
 fn ending<O: Sink, E: Sink>(out: &mut O, err: &mut E, found: &Found) -> ExitCode {
     ExitCode::from(tell(out, err, found).number())
+}
+
+// A keeper over the file of this name, which is made where there is none.
+fn opened(rt: &HostRuntime, path: &str) -> Result<SqlKeeper<FileStore<File>>, Found> {
+    match Connection::open(rt, path) {
+        Ok(conn) => Ok(SqlKeeper::new(conn)),
+        Err(Error::SqliteFailure(ErrorCode::OutOfMemory)) => Err(Found::NoMemory),
+        Err(_) => Err(Found::StoreFault),
+    }
 }

@@ -16,10 +16,10 @@ use Rattle.desk_core.specs.declared.refusal.Refusal.{Refusal}
 use Rattle.desk_core.specs.declared.refusal.Refusal.TheVariants.{KeeperFault, OutOfMemory}
 use Rattle.desk_core.specs.declared.reply.Reply.{Reply}
 use Rattle.desk_core.specs.declared.reply.Reply.TheVariants.{Refused}
-use Rattle.desk_core.specs.State.{State, state_of, site_at}
-use Rattle.desk_core.specs.Steps.{Request, site_of}
+use Rattle.desk_core.specs.State.{State, state_of}
+use Rattle.desk_core.specs.Steps.{Request}
 use Rattle.desk_core.specs.Fitting.{FitsRequest}
-use Rattle.desk_core.specs.Costs.{IsImport, IsEdit, UsesFirst, Costs, command_judgings, most_judgings}
+use Rattle.desk_core.specs.Costs.{IsImport, UsesFirst, Costs}
 use Rattle.desk_core.specs.Runs.{Answers}
 use Rattle.desk_core.specs.Serving as machine
 use Rattle.http_messages.specs.declared.item.Sent.{Sent}
@@ -35,15 +35,11 @@ use Rattle.http_replies.specs.declared.answer.Answer.TheVariants.{Misread, Misas
 use Rattle.http_replies.specs.Made.{is_made}
 use Rattle.http_replies.specs.Answers.{answer_bytes, no_memory}
 use Rattle.desk_http.specs.Printed.{PrintsReply}
-use Rattle.desk_http.specs.Answering.{as_request, GetsRefusal, AnswersMessage, message_judgings, sent_most, sent_alone, AsksForEdits, MessageGets, Gets, Refuses, MessageSpares}
+use Rattle.desk_http.specs.Answering.{as_request, GetsRefusal, AnswersMessage, message_judgings, MessageGets, Gets, Refuses, MessageSpares}
 use Rattle.desk_http.specs.Desk.{Moment}
-use Rattle.desk_http.specs.Serving.{OthersRest, JudgesAtMost, MessageJudges, AnsweredBy, Settles, Responds, RespondsTo, IsEither, WritesAll, ServesItem}
+use Rattle.desk_http.specs.Serving.{OthersRest, AnsweredBy, Settles, Responds, RespondsTo, IsEither, WritesAll, ServesItem}
 use Rattle.desk_http.proofs.Moments.{told_at}
 use Rattle.desk_http.proofs.Quiet.{unmade_keeps, unmade_stays}
-
--- no book judged
-judges_none : (most : State → ℕ) (Edits : Type 0) (alone : ℕ) (here : Moment) → JudgesAtMost most Edits alone here here
-judges_none most Edits alone here = record { told = λ s t was is. omega arith; untold = λ none. omega arith }
 
 -- ---- a request
 
@@ -67,7 +63,6 @@ replied book q closes old new reply bytes served costs others printed = record {
   reply = reply;
   bytes_are = printed;
   told = λ t is. let s = served.told t is in (s.0, s.1, λ sound. let z = s.2 sound in (z.0, (z.1, costs.told s.0 t s.1 is sound)));
-  counted = record { told = costs.most; untold = costs.untold };
   never_falls = served.never_falls;
   failed = served.failed;
   refused = served.refused;
@@ -99,7 +94,6 @@ unprinted book q closes old new reply bytes fits unmade served costs others full
             let z = s.2 sound in
             (z.0, (answers_full book (state_of s.0) (state_of t) q reply old.faults new.faults fits unmade z.1, costs.told s.0 t s.1 is sound)),
       );
-  counted = record { told = costs.most; untold = costs.untold };
   never_falls = served.never_falls;
   failed = no_fault old.faults new.faults;
   refused = λ refusal same t is.
@@ -124,7 +118,6 @@ unhandled book q closes here bytes full = record {
   reply = Refused OutOfMemory;
   bytes_are = full;
   told = λ t is. (t, is, λ sound. (sound, (inr (refl, inr refl), omega arith)));
-  counted = judges_none (λ state. most_judgings book q.command (site_at (site_of q.command) state)) (IsEdit q.command) (command_judgings book q.command None) here;
   never_falls = omega arith;
   failed = no_fault here.faults here.faults;
   refused = λ refusal same t is. is;
@@ -143,7 +136,6 @@ stays : (book : Book) (came : Sent) (a : Answer) (here : Moment) → ((s : Table
     Settles book came a here here
 stays book came a here answers gets = record {
   told = λ t is. (t, is, λ sound. (sound, answers t));
-  counted = judges_none (λ state. sent_most book state came) (AsksForEdits book.infos came) (sent_alone book came) here;
   never_falls = omega arith;
   gets = gets;
   refused = λ refuses t is. is;
@@ -223,7 +215,6 @@ asked_so book m asked closes old new bytes made so = record {
             let s = so.told t is in
             let P : Result Asked RequestFault → Type 0 = λ r. ByRequest book r (Replied so.reply) old new s.0 t in
             (s.0, s.1, λ sound. let z = s.2 sound in (z.0, subst P made ((so.reply, refl, z.1.0), z.1.1)));
-        counted = let P : Result Asked RequestFault → Type 0 = λ r. MessageJudges book r old new in subst P made so.counted;
         never_falls = so.never_falls;
         gets = let P : Result Asked RequestFault → Type 0 = λ r. MessageGets r (Replied so.reply) old.faults new.faults in subst P made (so.reply, refl, so.failed);
         refused = refused_as so.reply old.tables new.tables so.refused;

@@ -1,5 +1,5 @@
 -- What is told of tables, over one call after another.
-use Rattle.std.proofs.Common.{◌+◌, ◌≤◌, List, [], ◌∷◌, ◌++◌, Option, refl, ◌∙◌, subst, arith}
+use Rattle.std.proofs.Common.{◌+◌, ◌≤◌, List, [], ◌∷◌, ◌++◌, Option, refl, ◌∙◌, arith}
 use Rattle.rule_core.specs.Books.{Book}
 use Rattle.keep_core.specs.Tables.{Tables}
 use Rattle.desk_core.specs.State.{state_of}
@@ -7,7 +7,7 @@ use Rattle.http_messages.specs.declared.item.Item.{Item}
 use Rattle.http_replies.specs.declared.answer.Answer.{Answer}
 use Rattle.desk_http.specs.Answering.{sent_judgings, Refuses, SparesOthers}
 use Rattle.desk_http.specs.Desk.{Moment}
-use Rattle.desk_http.specs.Serving.{KeepsSound, OfSound, AnsweredBy, Settles, Run, SettlesEach, SettlesAll}
+use Rattle.desk_http.specs.Serving.{KeepsSound, OfSound, AnsweredBy, Settles, Run, SettlesAll}
 use Rattle.desk_http.proofs.Runs.{runs_join, runs_one, all_get_join, all_get_one, all_front, all_back}
 
 pub of_sound_join : (book : Book) (Q R S : Tables → Tables → Type 0) (k0 k1 k3 : Option Tables) → ((s m t : Tables) → Q s m → R m t → S s t) →
@@ -50,28 +50,18 @@ run_one book i a old new s t order (answered, few) = record {
 run_none : (book : Book) (m : Moment) → OfSound book (Run book [] [] m m) m.tables m.tables
 run_none book m t is = (t, is, λ sound. (sound, record { most = 0; runs = (refl, omega arith, refl); few = omega arith }))
 
--- ---- each by itself
-
-each_join : (book : Book) (is js : List Item) (said bs : List Answer) (m0 m1 m3 : Moment) →
-    SettlesEach book is said m0 m1 → SettlesEach book js bs m1 m3 → SettlesEach book (is ++ js) (said ++ bs) m0 m3
-each_join book [] js [] bs m0 m1 m3 same then = let P : Moment → Type 0 = λ m. SettlesEach book js bs m m3 in subst P same then
-each_join book (i ∷ is) js (a ∷ said) bs m0 m1 m3 (mid, one, rest) then = (mid, one, each_join book is js said bs mid m1 m3 rest then)
-each_join book [] js (a ∷ said) bs m0 m1 m3 all then = absurd all
-each_join book (i ∷ is) js [] bs m0 m1 m3 all then = absurd all
-
 -- ---- all that is said of items
 
 -- nothing was answered
 pub settles_none : (book : Book) (m : Moment) → SettlesAll book [] [] m m
 settles_none book m =
-    let same : m.faults ≤ m.faults = omega arith in record { told = run_none book m; each = refl; get = same; refused = λ all t is. is; others = λ all. refl }
+    let same : m.faults ≤ m.faults = omega arith in record { told = run_none book m; get = same; refused = λ all t is. is; others = λ all. refl }
 
 settles_one : (book : Book) (i : Item) (a : Answer) (old new : Moment) → Settles book i.sent a old new → SettlesAll book (i ∷ []) (a ∷ []) old new
 settles_one book i a old new one = record {
   told =
       of_sound_weaken book (AnsweredBy book i.sent a old new) (Run book (i ∷ []) (a ∷ []) old new) old.tables new.tables
       (λ (s t : Tables). run_one book i a old new s t one.never_falls) one.told;
-  each = (new, one, refl);
   get = all_get_one book.infos i a old.faults new.faults one.never_falls one.gets;
   refused = λ all. one.refused all.0;
   others = λ all. one.others all.0;
@@ -84,7 +74,6 @@ settles_join book is js said bs m0 m1 m3 first then = record {
   told =
       of_sound_join book (Run book is said m0 m1) (Run book js bs m1 m3) (Run book (is ++ js) (said ++ bs) m0 m3) m0.tables m1.tables m3.tables
       (λ (s m t : Tables). run_join book is js said bs m0 m1 m3 s m t) first.told then.told;
-  each = each_join book is js said bs m0 m1 m3 first.each then.each;
   get = all_get_join book.infos is js said bs m0.faults m1.faults m1.faults m3.faults first.get (omega arith) then.get;
   refused = λ all t told. first.refused (all_front Refuses said bs all) t (then.refused (all_back Refuses said bs all) t told);
   others =

@@ -1,7 +1,7 @@
 ghost use Rattle.std.specs.Prelude.{◌≡◌, ◌<◌, length, map, IfOk, IfErr};
 ghost use Rattle.std.specs.String.{string_bytes};
 ghost use Rattle.std.specs.Vec.Iter.{into_iter_items};
-ghost use Rattle.desk_run.specs.Arguments.{IsRefusal, Places, Starts};
+ghost use Rattle.desk_run.specs.Arguments.{IsRefusal, Starts};
 
 use audit_run::Found;
 use snap_tree::{List, OutOfMemory, Text};
@@ -43,23 +43,20 @@ pub fn read_arguments<R: Env + AllocGlobal>(rt: &R) -> Result<Task, Found>
     Ok(Task { store, words })
 }
 
-// The place that the second argument names.
+// The place that the second argument names: `-` is the program's memory, and all else a file.
 fn place_named<R: Env + AllocGlobal>(rt: &R) -> Result<StorePlace, Found>
     ensures { IfErr result IsRefusal }
 {
     let mut name = [0; MOST_PATH];
     match rt.arg(1, &mut name) {
-        Ok(size) => store_named(rt.alloc(), &name[..size]),
+        Ok(size) => place_at(rt.alloc(), &name[..size]),
         Err(FillError::TooLong) => Err(Found::StoreFault),
         Err(FillError::NotPresent) => Err(Found::Usage),
     }
 }
 
-/// The store of a name: `-` is the program's memory, and all else a file. A name that is no text is a fault of the
-/// store.
-pub fn store_named(alloc: Global, name: &[u8]) -> Result<StorePlace, Found>
-    ensures place { Places name.now result }
-    ensures refused { IfErr result IsRefusal }
+fn place_at(alloc: Global, name: &[u8]) -> Result<StorePlace, Found>
+    ensures { IfErr result IsRefusal }
 {
     let Ok(name) = from_utf8(name) else {
         return Err(Found::StoreFault);

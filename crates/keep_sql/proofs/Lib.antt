@@ -6,6 +6,6 @@ pub mod Changed
 pub mod Over
 pub mod FitLemmas
 pub mod KeepLemmas
-pub mod PrepareLemmas
 pub mod Noting
+pub mod PrepareLemmas
 pub mod Restart

@@ -1,5 +1,5 @@
 -- The edition of this keeper, noted where none is.
-use Rattle.std.proofs.Common.{◌≡◌, inl, inr, ℕ, pos, List, [], ◌∷◌, map, Some, None, refl, sym, ap, ◌∙◌}
+use Rattle.std.proofs.Common.{◌≡◌, inl, inr, ℕ, pos, List, [], ◌∷◌, map, Some, None, refl, sym, ap, subst, ◌∙◌}
 use Rattle.sqlite_value.specs.declared.value.Value.TheVariants.{Int}
 use Rattle.sqlite_value.specs.Order.{Row, column}
 use Rattle.named_rows.specs.ByName.{put_row}
@@ -8,7 +8,7 @@ use Rattle.sqlite_trees.specs.Tree.{Trees}
 use Rattle.sqlite.specs.Effect.{Database}
 use Rattle.sqlite.specs.State.{State}
 use Rattle.store_statements.specs.Stored.{Stored, stored, editions_in, editions_at}
-use Rattle.store_statements.specs.Changes.{IsStore, IsReady, AddsEdition}
+use Rattle.store_statements.specs.Changes.{IsStore, AddsEdition}
 use Rattle.store_statements.specs.Making.{nothing}
 use Rattle.keep_core.specs.declared.limits.TheConstants.{MOST_REVISION}
 use Rattle.store_tables.specs.Cells.{number_in}
@@ -17,7 +17,6 @@ use Rattle.store_tables.proofs.Steps.{some_same, none_some, both_read}
 use Rattle.keep_sql.specs.Reading.{rows_in, edition_in}
 use Rattle.keep_sql.specs.Preparing.{Notes, NotesOurs}
 use Rattle.keep_sql.proofs.Ready.{store_same}
-use Rattle.keep_sql.proofs.PrepareLemmas.{six_of, notes_left}
 
 number_stays : (n : ℕ) (rows : List Row) → last_number (Some n) rows ≡ Some None → ⊥
 number_stays n [] is = none_some n (sym (some_same (Some n) None is))
@@ -50,8 +49,8 @@ pub notes_found : (old new : State) (number : ℕ) → IsStore old → edition_i
 notes_found old new number store found same = record { store = store_same old new same store; edition = ap (λ (d : Database). edition_shown (editions_at (stored d.trees))) same ∙ found; made = inl same }
 
 -- ours, noted in a transaction of which these trees were committed
-pub ours_left : (old mid : State) (db : Trees) → edition_in old ≡ Some None → IsReady mid → AddsEdition (pos 2) (rows_in old) (rows_in mid) → db ≡ mid.now.trees → NotesOurs old db
-ours_left old mid db none ready adds is = (none, notes_left (rows_in old) mid db ready adds is)
+pub ours_left : (old mid : State) (db : Trees) → edition_in old ≡ Some None → AddsEdition (pos 2) (rows_in old) (rows_in mid) → db ≡ mid.now.trees → NotesOurs old db
+ours_left old mid db none adds is = (none, subst (λ (t : Trees). AddsEdition (pos 2) (rows_in old) (stored t)) (sym is) adds)
 
 pub notes_ours : (old new : State) → IsStore new → edition_in old ≡ Some None → AddsEdition (pos 2) (rows_in old) (rows_in new) → Notes old new 2
-notes_ours old new store none adds = record { store = store; edition = none_noted old new none adds; made = inr (refl, (none, (adds, six_of new store))) }
+notes_ours old new store none adds = record { store = store; edition = none_noted old new none adds; made = inr (refl, (none, adds)) }

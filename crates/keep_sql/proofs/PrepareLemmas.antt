@@ -13,15 +13,15 @@ use Rattle.sqlite.proofs.StateLemmas.{survives_weaker}
 use Rattle.sql_rows.specs.Tables.{Rise}
 use Rattle.store_statements.specs.Schema.{schema_of, the_schema}
 use Rattle.store_statements.specs.Stored.{Stored, stored, editions_at}
-use Rattle.store_statements.specs.Changes.{IsStore, IsReady, AddsEdition}
+use Rattle.store_statements.specs.Changes.{IsStore, AddsEdition}
 use Rattle.store_statements.specs.Making.{nothing}
 use Rattle.store_statements.specs.Opening.{OpensAgain}
 use Rattle.store_tables.specs.Editions.{edition_shown}
 use Rattle.store_tables.specs.Told.{tables_in}
 use Rattle.keep_sql.specs.Reading.{rows_in, edition_in}
-use Rattle.keep_sql.specs.Preparing.{IsSound, IsBare, HasNone, HasSix, NotesIn, IsPrepared, Prepares, Notes, NotesOurs}
+use Rattle.keep_sql.specs.Preparing.{IsSound, IsBare, HasNone, HasSix, IsPrepared, Prepares, Notes, NotesOurs}
 use Rattle.keep_sql.specs.declared.keeper.Prepared.TheVariants.{Ready, OtherEdition}
-use Rattle.keep_sql.specs.Keeper.{Keeper, first_of, held, told, LeftBy, LeftShut, Leaves, LeavesPrepared, MadeOf, Across, Between, StartsFrom, IsToldOf, FoundEdition, StaysStored}
+use Rattle.keep_sql.specs.Keeper.{Keeper, first_of, held, told, LeftBy, LeftShut, Leaves, LeavesPrepared, MadeOf, Across, Between, IsToldOf, FoundEdition, StaysStored}
 use Rattle.keep_sql.proofs.KeepLemmas.{told_rows}
 
 none_of : (s : State) → IsBare s → HasNone s.now.trees
@@ -37,18 +37,14 @@ store_of s h ours = record {
 six_of : (s : State) → IsStore s → HasSix s.now.trees
 six_of s h = subst (λ (k : Schema). IsDatabase (record { schema = k; trees = s.now.trees })) h.schema_is h.sound
 
--- what was committed of a transaction in which the edition was noted
-pub notes_left : (rows : Stored) (mid : State) (db : Trees) → IsReady mid → AddsEdition (pos 2) rows (rows_in mid) → db ≡ mid.now.trees → NotesIn rows db
-notes_left rows mid db ready adds is = subst (NotesIn rows) (sym is) (adds, six_of mid ready.store)
-
 -- ---- the transaction
 
 module _ (old new : State) (sound : HasCleanDisk old → IsSound old) where
   -- of a store without tables
-  pub left_of_none : old.now.schema ≡ schema_of [] → Survives old new (λ db. IsBare old → NotesIn nothing db) → Survives old new (IsPrepared old.now.trees)
-  left_of_none bare h = survives_weaker old new (λ db. IsBare old → NotesIn nothing db) (IsPrepared old.now.trees) (λ clean db made. by (sound (omega (arith, clean, h.clean))) db made) h
+  pub left_of_none : old.now.schema ≡ schema_of [] → Survives old new (λ db. IsBare old → AddsEdition (pos 2) nothing (stored db)) → Survives old new (IsPrepared old.now.trees)
+  left_of_none bare h = survives_weaker old new (λ db. IsBare old → AddsEdition (pos 2) nothing (stored db)) (IsPrepared old.now.trees) (λ clean db made. by (sound (omega (arith, clean, h.clean))) db made) h
     where
-      by : IsSound old → (db : Trees) → (IsBare old → NotesIn nothing db) → IsPrepared old.now.trees db
+      by : IsSound old → (db : Trees) → (IsBare old → AddsEdition (pos 2) nothing (stored db)) → IsPrepared old.now.trees db
       by s db made = let b : IsBare old = record { schema_is = bare; database = s.database } in inl (none_of old b, made b)
 
   -- and of one with the six
@@ -58,8 +54,8 @@ module _ (old new : State) (sound : HasCleanDisk old → IsSound old) where
       by : IsSound old → (db : Trees) → (IsStore old → NotesOurs old db) → IsPrepared old.now.trees db
       by s db made = let mine = store_of old s ours in let first = made mine in inr (six_of old mine, first.0, first.1)
 
-pub prepares_none : (old new : State) → IsBare old → IsStore new → AddsEdition (pos 2) nothing (rows_in new) → Prepares 2 old.now.trees new.now.trees
-prepares_none old new bare store made = inl (refl, inl (none_of old bare, (made, six_of new store)))
+pub prepares_none : (old new : State) → IsBare old → AddsEdition (pos 2) nothing (rows_in new) → Prepares 2 old.now.trees new.now.trees
+prepares_none old new bare made = inl (refl, inl (none_of old bare, made))
 
 prepares_six : (old new : State) (number : ℕ) → IsStore old → Notes old new number → Prepares number old.now.trees new.now.trees
 prepares_six old new number mine h = by h.made
@@ -92,14 +88,14 @@ module _ (old mid new : State) (again : OpensAgain old mid) (rows : HasCleanDisk
   from_old number made clean is_open = subst (λ (t : Trees). Prepares number t new.now.trees) (rows (clean_mid clean)) (made clean is_open)
 
   pub told_prepared : (HasCleanDisk new → IsTrue new.is_open → Prepares 2 mid.now.trees new.now.trees) → IsToldOf old new
-  told_prepared made clean is_open = (omega (arith, clean_mid clean, again.clean), by (from_old 2 made clean is_open))
+  told_prepared made clean is_open = by (from_old 2 made clean is_open)
     where
       now_told : told new ≡ tables_in (rows_in new)
       now_told = told_rows new clean is_open
 
-      by : Prepares 2 old.now.trees new.now.trees → StartsFrom (told new) old.now.trees
-      by (inl (one, inl (none, adds))) = inl (none, now_told ∙ edition_told nothing (rows_in new) adds.0)
-      by (inl (one, inr (six, unnoted, adds))) = inr (six, now_told ∙ edition_told (rows_in old) (rows_in new) adds.0)
+      by : Prepares 2 old.now.trees new.now.trees → (HasNone old.now.trees × (told new ≡ Some [])) ⊎ (HasSix old.now.trees × (told new ≡ tables_in (rows_in old)))
+      by (inl (one, inl (none, adds))) = inl (none, now_told ∙ edition_told nothing (rows_in new) adds)
+      by (inl (one, inr (six, unnoted, adds))) = inr (six, now_told ∙ edition_told (rows_in old) (rows_in new) adds)
       by (inr (six, same)) = inr (six, now_told ∙ ap (λ (t : Trees). tables_in (stored t)) same)
 
   -- the edition that it had noted

@@ -13,8 +13,8 @@ use Rattle.store_statements.specs.Making.{nothing}
 use Rattle.store_tables.specs.Told.{tables_in}
 use Rattle.store_tables.proofs.Steps.{some_same}
 use Rattle.keep_sql.specs.Reading.{rows_in}
-use Rattle.keep_sql.specs.Preparing.{IsPrepared}
-use Rattle.keep_sql.specs.Keeper.{Keeper, told, told_of, held, LeftBy, Leaves, TellsChanged, LeavesTables, MadeOf, Across, StartsFrom, IsToldOf}
+use Rattle.keep_sql.specs.Preparing.{HasNone, HasSix, IsPrepared}
+use Rattle.keep_sql.specs.Keeper.{Keeper, told, told_of, held, LeftBy, Leaves, TellsChanged, LeavesTables, MadeOf, Across, IsToldOf}
 use Rattle.keep_sql.specs.Restart.{AreSound, AllSound, TellsSound, AsksSound, StartsAgain}
 use Rattle.keep_sql.proofs.KeepLemmas.{told_is}
 use Rattle.keep_sql.proofs.PrepareLemmas.{edition_told}
@@ -46,15 +46,15 @@ module _ (Sound : Tables → Type 0) where
     starts : (old new : Option (Held S)) → Sound [] → IfSome old (λ conn. AreSound Sound (state g conn).now.trees) → Across g IsToldOf old new → (t : Tables) → told_of g new ≡ Some t → Sound t
     starts None new empty left across t is = absurd (let never : None ≡ Some t = ap (told_of g) (sym across) ∙ is in cc)
     starts (Some a) None empty left across t is = absurd across
-    starts (Some a) (Some b) empty left across t is = let now = told_is (state g b) t is in by (across now.clean now.is_open).1
+    starts (Some a) (Some b) empty left across t is = let now = told_is (state g b) t is in by (across now.clean now.is_open)
       where
-        by : StartsFrom (told (state g b)) (state g a).now.trees → Sound t
+        by : (HasNone (state g a).now.trees × (told (state g b) ≡ Some [])) ⊎ (HasSix (state g a).now.trees × (told (state g b) ≡ tables_in (rows_in (state g a)))) → Sound t
         by (inl none) = subst Sound (some_same [] t (sym none.1 ∙ is)) empty
         by (inr six) = left t (sym six.1 ∙ is)
 
     prepared_of : (a : Held S) → Sound [] → AreSound Sound (state g a).now.trees → (db : Trees) → IsPrepared (state g a).now.trees db → AreSound Sound db
-    prepared_of a empty left db (inl made) = λ t is. subst Sound (some_same [] t (sym (edition_told nothing (stored db) made.1.0) ∙ is)) empty
-    prepared_of a empty left db (inr made) = λ t is. left t (sym (edition_told (rows_in (state g a)) (stored db) made.2.0) ∙ is)
+    prepared_of a empty left db (inl made) = λ t is. subst Sound (some_same [] t (sym (edition_told nothing (stored db) made.1) ∙ is)) empty
+    prepared_of a empty left db (inr made) = λ t is. left t (sym (edition_told (rows_in (state g a)) (stored db) made.2) ∙ is)
 
     prepared_left : (old : Option (Held S)) → Sound [] → IfSome old (λ conn. AreSound Sound (state g conn).now.trees) → AllSound Sound (MadeOf g old)
     prepared_left None empty left = λ db made. absurd made

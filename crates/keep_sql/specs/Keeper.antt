@@ -117,13 +117,9 @@ module _ {S : Type 0} (g : Ghosts S) where
   abbrev pub Between : (State → State → Type 0) → Option (Held S) → Option (Held S) → Type 0
   Between P old new = IfSome old (λ a. IfSome new (λ b. P (state g a) (state g b)))
 
--- what is told of a store that was prepared: nothing kept, where it had no tables, or what its rows told
-abbrev pub StartsFrom : Option Tables → Trees → Type 0
-StartsFrom tables db = (HasNone db × (tables ≡ Some [])) ⊎ (HasSix db × (tables ≡ tables_in (stored db)))
-
--- so it is of a store that is ready, whose disk had returned what was written before too
+-- of a store that is ready empty tables are told, where it had none, or what its rows told
 abbrev pub IsToldOf : State → State → Type 0
-IsToldOf old new = HasCleanDisk new → IsTrue new.is_open → HasCleanDisk old × StartsFrom (told new) old.now.trees
+IsToldOf old new = HasCleanDisk new → IsTrue new.is_open → (HasNone old.now.trees × (told new ≡ Some [])) ⊎ (HasSix old.now.trees × (told new ≡ tables_in (rows_in old)))
 
 -- and what it had noted: where it is ready no edition, or 2, and else this number
 abbrev pub FoundEdition : Prepared → State → State → Type 0

@@ -30,16 +30,12 @@ HasNone db = IsDatabase (record { schema = schema_of []; trees = db })
 abbrev pub HasSix : Trees → Type 0
 HasSix db = IsDatabase (record { schema = the_schema; trees = db })
 
--- in the six tables these rows stand, and the edition 2
-abbrev pub NotesIn : Stored → Trees → Type 0
-NotesIn rows db = AddsEdition (pos 2) rows (stored db) × HasSix db
-
 -- the one transaction: a store without tables gets the six, and in them the edition 2 and no other row; one that has them,
 -- and notes no edition, notes 2 beside what it has
 abbrev pub IsPrepared : Trees → Trees → Type 0
 IsPrepared old new =
-    (HasNone old × NotesIn nothing new)
-    ⊎ (HasSix old × (edition_shown (editions_at (stored old)) ≡ Some None) × NotesIn (stored old) new)
+    (HasNone old × AddsEdition (pos 2) nothing (stored new))
+    ⊎ (HasSix old × (edition_shown (editions_at (stored old)) ≡ Some None) × AddsEdition (pos 2) (stored old) (stored new))
 
 -- the edition that is found: 2, once that was made, or that of a store with the six tables, which stays
 abbrev pub Prepares : ℕ → Trees → Trees → Type 0
@@ -53,7 +49,7 @@ KeepsOnErr g old new result = HasCleanDisk (state g new) → IsTrue (state g new
 
 -- of a store with the six tables, in which no edition is noted, ours was
 abbrev pub NotesOurs : State → Trees → Type 0
-NotesOurs s db = (edition_in s ≡ Some None) × NotesIn (rows_in s) db
+NotesOurs s db = (edition_in s ≡ Some None) × AddsEdition (pos 2) (rows_in s) (stored db)
 
 -- in a transaction: an edition was found among the rows, or none was, and ours is noted
 abbrev pub NotesInside : Stored → State → Option ℕ → Type 0

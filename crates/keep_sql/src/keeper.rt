@@ -1,6 +1,6 @@
 //! The keeper.
 
-ghost use Rattle.std.specs.Prelude.{◌≡◌, ◌≢◌, ◌≤◌, false, Ok as ok, None, Some, IfOk, IfSome, IsSome, OnOk, is_some};
+ghost use Rattle.std.specs.Prelude.{◌≡◌, ◌≢◌, ◌≤◌, false, Ok as ok, None, Some, IfOk, IfSome, IsSome, OnOk};
 ghost use Rattle.counts.specs.Counts.{Rose};
 ghost use Rattle.keep_core.specs.declared.fault.KeepFault.TheVariants as keep;
 ghost use Rattle.keep_core.specs.Tables.{site_of, page_of, heads_of, judgements_of, outcomes_of};
@@ -96,13 +96,6 @@ impl<S: Alter> SqlKeeper<S> {
 }
 
 impl<S: Alter + Drop> SqlKeeper<S> {
-    /// Whether it was prepared, and is ready.
-    pub fn is_ready(&self) -> bool
-        ensures { result ≡ is_some self.now.ready }
-    {
-        self.ready.is_some()
-    }
-
     /// Prepares the store: it is opened anew, gets its tables where it has none, and the edition 2 where none is
     /// noted. Where the answer isn't Ready the keeper isn't ready afterwards, whatever it was before.
     ///

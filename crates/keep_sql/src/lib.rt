@@ -10,11 +10,9 @@ mod checks;
 mod fitting;
 mod keeper;
 mod known;
-mod laws;
 mod preparing;
 mod reads;
 mod writes;
 
 pub use calls::{read_heads, read_judgements, read_outcomes, read_page, read_site};
 pub use keeper::{Prepared, SqlKeeper};
-pub use laws::laws_of_telling;

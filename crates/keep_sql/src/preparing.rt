@@ -8,11 +8,12 @@ ghost use Rattle.sqlite.specs.State.{HasCleanDisk, Survives};
 ghost use Rattle.sql_rows.specs.Inside.{Steps};
 ghost use Rattle.sql_rows.specs.Stores as rows;
 ghost use Rattle.store_statements.specs.Schema.{schema_of};
+ghost use Rattle.store_statements.specs.Stored.{stored};
 ghost use Rattle.store_statements.specs.Changes.{IsStore, IsReady, AddsEdition};
 ghost use Rattle.store_statements.specs.Making.{HasTables, nothing};
 ghost use Rattle.store_statements.specs.Opening.{OpensAgain};
 ghost use Rattle.keep_sql.specs.Reading.{ReadsInside, LeavesInside, edition_in, rows_in};
-ghost use Rattle.keep_sql.specs.Preparing.{KeepsOnErr, IsBare, IsSound, IsPrepared, Prepares, Notes, NotesIn, NotesOurs, NotesInside, NotesStore};
+ghost use Rattle.keep_sql.specs.Preparing.{KeepsOnErr, IsBare, IsSound, IsPrepared, Prepares, Notes, NotesOurs, NotesInside, NotesStore};
 
 use sqlite::{Alter, Connection, Transaction};
 use sqlite_schema::schema::Schema;
@@ -60,14 +61,13 @@ fn make_inside<S: Alter>(tx: &mut Transaction<'_, S>) -> Result<(), StoreFault>
 }
 
 // Makes the tables of a store that has none, and notes its edition, as one transaction.
-#[tactic(auto, using(crate::proofs::PrepareLemmas::notes_left))]
 fn make_store<S: Alter>(conn: &mut Connection<S>) -> Result<(), StoreFault>
     requires idle { conn.old.in_transaction ≡ false }
     ensures idle { conn.new.in_transaction ≡ false }
     ensures made { HasCleanDisk (state S.Store conn.new) → IsBare (state S.Store conn.old)
         → OnOk result (IsStore (state S.Store conn.new) × AddsEdition (pos 2) nothing (rows_in (state S.Store conn.new))) }
     ensures kept { KeepsOnErr S.Store conn.old conn.new result }
-    ensures crash { Survives (state S.Store conn.old) (state S.Store conn.new) (λ db. IsBare (state S.Store conn.old) → NotesIn nothing db) }
+    ensures crash { Survives (state S.Store conn.old) (state S.Store conn.new) (λ db. IsBare (state S.Store conn.old) → AddsEdition (pos 2) nothing (stored db)) }
 {
     let _idle = conn.is_autocommit();
     let mut tx = conn.transaction();

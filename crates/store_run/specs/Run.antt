@@ -4,8 +4,7 @@ use Rattle.counts.specs.Counts.{Rose}
 use Rattle.sqlite_trees.specs.declared.store.Store.{Ghosts}
 use Rattle.rule_core.specs.Books.{Book}
 use Rattle.streams.specs.Told.{Outside}
-use Rattle.keep_sql.specs.declared.keeper.Prepared.TheVariants.{Ready}
-use Rattle.keep_sql.specs.Keeper.{Keeper, tables, held, HasEdition, Across, Between, LeavesPrepared, IsToldOf, FoundEdition, StaysStored}
+use Rattle.keep_sql.specs.Keeper.{Keeper, tables, HasEdition}
 use Rattle.desk_http.specs.Desk.{Desk}
 use Rattle.desk_run.specs.Run.{Runs}
 use Rattle.store_run.specs.declared.refusal.StoreRefusal.{StoreRefusal}
@@ -30,32 +29,21 @@ module _ {S : Type 0} (g : Ghosts S) where
   RefusalCause StoreFault old new = Rose old.faults new.faults
   RefusalCause NoMemory old new = Unit {0}
 
-  -- The store is refused. Its rows stay, and a crash leaves what it could leave before or what preparing makes in one
-  -- transaction.
+  -- the store is refused
   pub record IsRefused {L : Type 0} (keeper keeper' : Keeper S) (old new : Outside) (before now : Desk L) (number : ℕ) : Type 0 where
     pub refusal : StoreRefusal
     pub cause : RefusalCause refusal keeper keeper'
-    pub stays : Between g StaysStored (held keeper) keeper'.waiting
-    pub crash : LeavesPrepared g keeper keeper'
     pub untouched : IsUntouched old new before now
     pub told : TellsRefusal refusal old.err new.err number
 
-  -- A store was prepared, and nothing else was done with it. It tells what its rows told before, or nothing where it had no
-  -- tables; it had noted no edition, or 2; and a crash leaves what it could leave before or what that one transaction makes.
-  pub record IsMadeReady (keeper now : Keeper S) : Type 0 where
-    pub ready : IsSome now.ready
-    pub edition : HasEdition g 2 now.ready
-    pub told : Across g IsToldOf (held keeper) now.ready
-    pub found : Across g (FoundEdition Ready) (held keeper) (held now)
-    pub crash : LeavesPrepared g keeper now
-    pub quiet : now.faults ≡ keeper.faults
-
-  -- the store is made ready, and is run over as it is then
-  pub record IsRunOver {L : Type 0} (book : Book) (words : List (List ℕ)) (keeper : Keeper S) (old new : Outside) (before now : Desk L) (number : ℕ) : Type 0 where
+  -- the store is ready, and is run over as it is then
+  pub record IsRunOver {L : Type 0} (book : Book) (words : List (List ℕ)) (old new : Outside) (before now : Desk L) (number : ℕ) : Type 0 where
     pub prepared : Keeper S
-    pub made_ready : IsMadeReady keeper prepared
+    pub ready : IsSome prepared.ready
+    pub edition : HasEdition g 2 prepared.ready
+    pub never_falls : before.faults ≤ prepared.faults
     pub runs : Runs book words old new (record before { tables = tables g prepared; faults = prepared.faults }) now number
 
   abbrev pub RunsStore : {L : Type 0} → Book → List (List ℕ) → Keeper S → Keeper S → Outside → Outside → Desk L → Desk L → ℕ → Type 0
   RunsStore book words keeper keeper' old new before now number =
-      IsRunOver book words keeper old new before now number ⊎ IsRefused keeper keeper' old new before now number
+      IsRunOver book words old new before now number ⊎ IsRefused keeper keeper' old new before now number

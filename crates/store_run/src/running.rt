@@ -15,8 +15,7 @@ use std::alloc::Global;
 use std::thread::Threads;
 use streams::{Sink, Source};
 
-/// Prepares a store, and then does what `run` does over it, with the same status. The run starts from what the store's rows
-/// told before, or from nothing where it had no tables.
+/// Prepares a store, and then does what `run` does over it, with the same status.
 ///
 /// Where the store's rows are of another edition than 2 nothing is done but that `err` says `edition fault` and its number,
 /// and the status is 9. Where the store can't be prepared it is 6, with the line `store fault`, and 8 for want of memory,
