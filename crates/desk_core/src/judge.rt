@@ -160,11 +160,13 @@ fn added<B: RuleBook>(
         });
     }
     let outcomes = outcomes_with(alloc, book, &judgement, js, found)?;
+    let mut judgements = Vec::with_capacity(alloc, 1)?;
+    judgements.push(judgement)?;
     Ok(Decided {
-        change: Some(Change::AddJudgement {
+        change: Some(Change::AddJudgements {
             site,
             page,
-            judgement,
+            judgements: List::from_vec(judgements),
             outcomes,
         }),
         reply,

@@ -1,4 +1,5 @@
 pub mod Desk
+pub mod Refreshed
 pub mod Serve
 pub mod Generate
 pub mod Show

@@ -6,6 +6,7 @@
 mod arguments;
 mod books;
 mod generate;
+mod refreshing;
 mod running;
 mod serve;
 mod show;

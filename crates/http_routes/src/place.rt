@@ -19,6 +19,7 @@ pub(crate) enum Resource {
     SiteEarl,
     SiteCsv,
     Import,
+    Languages,
     Member,
     Page,
     PageReport,
@@ -99,6 +100,7 @@ fn router(alloc: Global) -> Result<Router<Resource>, InsertError>
         Resource::Judgements,
     )?;
     router.insert("/sites/{site}/pages/{page}/outcomes", Resource::Outcomes)?;
+    router.insert("/sites/{site}/languages", Resource::Languages)?;
     Ok(router)
 }
 

@@ -10,3 +10,4 @@ pub mod Marking
 mod Live
 pub mod SameRows
 pub mod ListChanges
+pub mod Halves
