@@ -13,7 +13,7 @@ pub enum Found {
     ReadFault,
     /// The input is no snapshot: the line that names the fault.
     NotSnapshot { line: Text },
-    /// The store can't be opened, read or refreshed.
+    /// The store can't be opened, or can't be read.
     StoreFault,
     /// The door met a fault.
     ListenFault,

@@ -16,7 +16,7 @@ pub enum Status {
     WriteFault,
     /// The input is no snapshot.
     SnapshotFault,
-    /// The store can't be opened, read or refreshed.
+    /// The store can't be opened, or can't be read.
     StoreFault,
     /// The door met a fault.
     ListenFault,

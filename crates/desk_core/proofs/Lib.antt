@@ -29,7 +29,3 @@ pub mod Evidence
 pub mod Again
 pub mod Refusing
 pub mod Revisions
-pub mod NewOutcomes
-pub mod LanguageLaws
-pub mod Refreshing
-pub mod Freshened

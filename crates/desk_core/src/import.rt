@@ -1,5 +1,4 @@
-ghost use Rattle.std.specs.Prelude.{◌≡◌, ◌<◌, length, map, true, None, is_none, IsTrue, IfOk, IfErr, OnOk};
-ghost use Rattle.snap_tree.specs.Langs.{AreLangs};
+ghost use Rattle.std.specs.Prelude.{◌≡◌, ◌<◌, length, true, None, is_none, IsTrue, IfErr, OnOk};
 ghost use Rattle.audit.specs.Pages.{pages_judgings};
 ghost use Rattle.keep_core.specs.Names.{is_name};
 ghost use Rattle.desk_core.specs.declared.command.Command.TheVariants.{Import};
@@ -11,7 +10,7 @@ ghost use Rattle.desk_core.specs.Fitting.{FitsEntries};
 ghost use Rattle.desk_core.specs.Steps.{asked_by};
 ghost use Rattle.desk_core.specs.Costs.{import_judgings, JudgeAtMost};
 ghost use Rattle.desk_core.specs.InHand.{import_arrived};
-ghost use Rattle.desk_core.specs.Placing.{entries_of, new_among, current_of, is_stale, stale_among, work_listed, puts_by, storing_all};
+ghost use Rattle.desk_core.specs.Placing.{entries_of, new_among, current_of, is_stale, stale_among, puts_by, storing_all};
 ghost use Rattle.desk_core.specs.Serving.{Agrees, Decides, Stands};
 ghost use Rattle.desk_core.specs.Told.{told_of};
 
@@ -20,16 +19,15 @@ use crate::building::build_all;
 use crate::built::{Built, heads_from, put_all};
 use crate::command::Entry;
 use crate::decided::Decided;
-use crate::listed::work_listed;
 use crate::placed::Placed;
 use crate::refusal::{Limit, Refusal};
 use crate::reply::Reply;
 use crate::room::{due, has_revisions, has_room_for};
 use crate::store::stored_all;
-use audit::{PageWork, audit_pages, busy};
+use audit::{audit_pages, busy};
 use keep_core::{Change, Keeper};
 use rule_core::RuleBook;
-use snap_tree::{List, OutOfMemory, Text};
+use snap_tree::{List, Text};
 use std::alloc::Global;
 use std::collections::VecDeque;
 use std::thread::Threads;
@@ -66,8 +64,7 @@ fn decide<R: Threads + Sync, B: RuleBook + Send>(
     site: Text,
     arrival: Arrival,
 ) -> Result<Decided, Refusal>
-    requires some { 0 < length books.old }
-    requires languages { AreLangs arrival.languages }
+    requires { 0 < length books.old }
     ensures decided { Agrees ⊥ result (import_arrived B.book site caller.now arrival) }
     ensures counted { JudgeAtMost B.calls (import_judgings B.book (entries_of arrival.placed)) books.old books.new }
 {
@@ -140,7 +137,6 @@ fn import_there<R: Threads + Sync, B: RuleBook + Send>(
     arrival: Arrival,
 ) -> Result<Decided, Refusal>
     requires some { 0 < length books.old }
-    requires languages { AreLangs arrival.languages }
     requires room { has_room_for (new_among arrival.placed) arrival.pages ≡ true }
     requires revisions { has_revisions arrival.counter (length arrival.placed) ≡ true }
     requires fresh { stale_among arrival.placed ≡ None }
@@ -152,8 +148,7 @@ fn import_there<R: Threads + Sync, B: RuleBook + Send>(
     let placed = VecDeque::from_vec(arrival.placed.into_vec());
     let works = build_all(rt, &alloc, busy(books.len(), placed.len()), placed)?;
     let works = List::from_vec(works);
-    let built = Built { heads, works };
-    store_all(rt, alloc, books, site, &arrival.languages, counter, built)
+    store_all(rt, alloc, books, site, counter, Built { heads, works })
 }
 
 // Pages that are put at once, with what is said of them.
@@ -163,17 +158,14 @@ fn store_all<R: Threads + Sync, B: RuleBook + Send>(
     alloc: Global,
     books: &mut [B],
     site: Text,
-    languages: &List<Text>,
     counter: u64,
     built: Built,
 ) -> Result<Decided, Refusal>
-    requires some { 0 < length books.old }
-    requires languages { AreLangs languages.now }
-    ensures decided { Agrees ⊥ result (storing_all B.book site counter (puts_by B.book languages.now built.heads built.works)) }
+    requires { 0 < length books.old }
+    ensures decided { Agrees ⊥ result (storing_all B.book site counter (puts_by B.book built.heads built.works)) }
     ensures counted { JudgeAtMost B.calls (pages_judgings B.book built.works) books.old books.new }
 {
-    let listed = works_listed(alloc, languages, built.works.as_slice())?;
-    let outcomes = audit_pages(rt, alloc, books, listed.as_slice())?;
+    let outcomes = audit_pages(rt, alloc, books, built.works.as_slice())?;
     let pages = put_all(alloc, built, outcomes)?;
     let told = stored_all(alloc, &books[0], pages.as_slice())?;
     Ok(Decided {
@@ -186,20 +178,4 @@ fn store_all<R: Threads + Sync, B: RuleBook + Send>(
             pages: List::from_vec(told),
         },
     })
-}
-
-// The pages that were built, with the languages of their site.
-fn works_listed(
-    alloc: Global,
-    languages: &List<Text>,
-    works: &[PageWork],
-) -> Result<Vec<PageWork>, OutOfMemory>
-    requires { AreLangs languages.now }
-    ensures { IfOk result (λ all. all.items ≡ map (work_listed languages.now) works.now) }
-{
-    let mut all = Vec::with_capacity(alloc, works.len())?;
-    for work in works {
-        all.push(work_listed(alloc, languages, work)?)?;
-    }
-    Ok(all)
 }

@@ -160,13 +160,11 @@ fn added<B: RuleBook>(
         });
     }
     let outcomes = outcomes_with(alloc, book, &judgement, js, found)?;
-    let mut judgements = Vec::with_capacity(alloc, 1)?;
-    judgements.push(judgement)?;
     Ok(Decided {
-        change: Some(Change::AddJudgements {
+        change: Some(Change::AddJudgement {
             site,
             page,
-            judgements: List::from_vec(judgements),
+            judgement,
             outcomes,
         }),
         reply,

@@ -15,16 +15,13 @@ mod handling;
 mod import;
 mod judge;
 mod laws;
-mod languages;
 mod limits;
-mod listed;
 mod look;
 mod members;
 mod page_state;
 mod placed;
 mod put_page;
 mod reads;
-mod refresh;
 mod refusal;
 mod renewing;
 mod reply;
@@ -39,10 +36,9 @@ pub use command::{Command, Entry};
 pub use decided::Decided;
 pub use handling::handle;
 pub use laws::{
-    laws_of_refresh, laws_of_requests, laws_of_revisions, laws_of_sites, laws_of_soundness, laws_of_views,
+    laws_of_requests, laws_of_revisions, laws_of_sites, laws_of_soundness, laws_of_views,
 };
-pub use limits::{MOST_BATCH, MOST_ENTRIES, MOST_NOTE, MOST_PAGES, laws_of_limits};
+pub use limits::{MOST_ENTRIES, MOST_NOTE, MOST_PAGES, laws_of_limits};
 pub use page_state::PageState;
-pub use refresh::{edition_of, refresh};
 pub use refusal::{Limit, Needed, Refusal};
 pub use reply::{Reply, Sheet, Stored, Summary};

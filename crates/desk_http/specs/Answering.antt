@@ -10,7 +10,7 @@ use Rattle.desk_core.specs.declared.reply.Reply.{Reply}
 use Rattle.desk_core.specs.declared.reply.Reply.TheVariants as reply
 use Rattle.desk_core.specs.State.{State, site_at}
 use Rattle.desk_core.specs.Steps.{Request, site_of}
-use Rattle.desk_core.specs.Costs.{IsOfMany, command_judgings}
+use Rattle.desk_core.specs.Costs.{IsImport, command_judgings}
 use Rattle.desk_core.specs.Runs as machine
 use Rattle.http_messages.specs.declared.item.Sent.{Sent}
 use Rattle.http_messages.specs.declared.item.Sent.TheVariants.{Asked, Refused}
@@ -72,10 +72,10 @@ Refuses (Misread fault) = Unit {0}
 Refuses (Misasked fault) = Unit {0}
 Refuses (Replied r) = (refusal : Refusal) × (r ≡ reply.Refused refusal)
 
--- it asks for nothing of many pages
+-- it asks for no import
 abbrev pub MessageSpares : Result command.Asked RequestFault → Type 0
 MessageSpares (Err fault) = Unit {0}
-MessageSpares (Ok asked) = IsOfMany asked.command → ⊥
+MessageSpares (Ok asked) = IsImport asked.command → ⊥
 
 abbrev pub SparesOthers : List RuleInfo → Sent → Type 0
 SparesOthers infos (Refused fault) = Unit {0}

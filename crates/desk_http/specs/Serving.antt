@@ -16,7 +16,7 @@ use Rattle.desk_core.specs.declared.reply.Reply.{Reply}
 use Rattle.desk_core.specs.declared.reply.Reply.TheVariants.{Refused}
 use Rattle.desk_core.specs.State.{state_of, site_at}
 use Rattle.desk_core.specs.Steps.{Request, site_of}
-use Rattle.desk_core.specs.Costs.{IsOfMany, command_judgings}
+use Rattle.desk_core.specs.Costs.{IsImport, command_judgings}
 use Rattle.desk_core.specs.Runs.{Answers}
 use Rattle.desk_core.specs.Soundness.{IsSound}
 use Rattle.http_messages.specs.Talk.{going, Talk}
@@ -33,14 +33,13 @@ use Rattle.desk_http.specs.declared.link_end.LinkEnd.TheVariants as end
 
 -- ---- what is kept
 
--- tables that were sound are sound, and the edition is as it was
+-- tables that were sound are sound
 abbrev pub KeepsSound : Book → Option Tables → Option Tables → Type 0
-KeepsSound book old new = (t : Tables) → new ≡ Some t → (s : Tables) × (old ≡ Some s) × (t.edition ≡ s.edition) × (IsSound book s → IsSound book t)
+KeepsSound book old new = (t : Tables) → new ≡ Some t → (s : Tables) × (old ≡ Some s) × (IsSound book s → IsSound book t)
 
--- tables that were sound are sound, the edition is as it was, and this holds of those before and those after
+-- tables that were sound are sound, and this holds of those before and those after
 abbrev pub OfSound : Book → (Tables → Tables → Type 0) → Option Tables → Option Tables → Type 0
-OfSound book Q old new =
-    (t : Tables) → new ≡ Some t → (s : Tables) × (old ≡ Some s) × (t.edition ≡ s.edition) × (IsSound book s → IsSound book t × Q s t)
+OfSound book Q old new = (t : Tables) → new ≡ Some t → (s : Tables) × (old ≡ Some s) × (IsSound book s → IsSound book t × Q s t)
 
 -- ---- one thing that came
 
@@ -55,7 +54,7 @@ AnsweredBy book sent answer old new s t =
     × (sum new.calls ≤ sum old.calls + sent_judgings book (state_of s) sent)
 
 -- It was answered so: as the machine does where the tables were sound; and whatever is kept, a refusal is the one that is due and
--- leaves the tables, and only what is of many pages uses other books than the first.
+-- leaves the tables, and only an import uses other books than the first.
 pub record Settles (book : Book) (sent : Sent) (answer : Answer) (old new : Moment) : Type 0 where
   pub told : OfSound book (AnsweredBy book sent answer old new) old.tables new.tables
   pub never_falls : old.faults ≤ new.faults
@@ -83,7 +82,7 @@ pub record RespondsTo (book : Book) (request : Request) (closes : Bool) (old new
   pub never_falls : old.faults ≤ new.faults
   pub failed : reply ≡ Refused KeeperFault → Rose old.faults new.faults
   pub refused : (refusal : Refusal) → reply ≡ Refused refusal → Stays old.tables new.tables
-  pub others : (IsOfMany request.command → ⊥) → OthersRest old.calls new.calls
+  pub others : (IsImport request.command → ⊥) → OthersRest old.calls new.calls
 
 -- these bytes, or those for want of memory
 abbrev pub IsEither : List ℕ → List ℕ → List ℕ → Type 0

@@ -7,23 +7,23 @@ use Rattle.desk_words.specs.declared.command.ProgramCommand.TheVariants.{Audit, 
 use Rattle.audit_run.specs.declared.status.Status.{Status}
 use Rattle.streams.specs.Told.{Input, Outside}
 use Rattle.streams.specs.Streams.{NoFaults}
-use Rattle.desk_http.specs.Desk.{Desk, beside_door}
-use Rattle.desk_run.specs.Desk.{SameDoor, OnlyJudged}
+use Rattle.desk_http.specs.Desk.{Desk}
+use Rattle.desk_run.specs.Desk.{OnlyJudged}
 use Rattle.audit_run.specs.Telling.{Writing}
 use Rattle.audit_run.specs.Audit.{AuditCause, AuditBound, AuditComplete}
 use Rattle.desk_run.specs.Serve.{ServeCause, ServeBound, ServeComplete}
 use Rattle.desk_run.specs.Generate.{OnlyMade, GenerateCause, GenerateBound, GenerateComplete}
-use Rattle.desk_run.specs.Show.{ShowCause, ShowBound, ShowComplete}
+use Rattle.desk_run.specs.Show.{OnlyRead, ShowCause, ShowBound, ShowComplete}
 
 -- Why a command ends with a status, and what it writes then. An audit uses the first book and nothing else of
 -- the desk. The others don't read the input: a serve uses all of the desk, a generate its books, and a site is
--- shown from the tables, which are refreshed before.
+-- shown from the tables.
 abbrev pub CommandCause : {L : Type 0} → ProgramCommand → Book → Input → Input → Desk L → Desk L → Status → Writing → Type 0
 CommandCause Audit book old new before now status writing = AuditCause book old new status writing × OnlyJudged 1 before now
 CommandCause (Serve serving) book old new before now status writing = (new ≡ old) × ServeCause book serving before now status writing
 CommandCause (Generate g) book old new before now status writing = (new ≡ old) × (GenerateCause book g status writing × OnlyMade book g before now)
 CommandCause (Show s) book old new before now status writing =
-    (new ≡ old) × (ShowCause book s (beside_door before) (beside_door now) status writing × SameDoor before now)
+    (new ≡ old) × (ShowCause book s now.tables before.faults now.faults status writing × OnlyRead before now)
 
 -- the statuses that can come of it whatever the objects outside do, and those that can come without faults
 abbrev pub CommandBound : {L : Type 0} → ProgramCommand → Outside → Desk L → Status → Type 0

@@ -1,5 +1,4 @@
 pub mod Desk
-pub mod Refreshed
 pub mod Serve
 pub mod Generate
 pub mod Show

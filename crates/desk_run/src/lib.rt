@@ -6,7 +6,6 @@
 mod arguments;
 mod books;
 mod generate;
-mod refreshing;
 mod running;
 mod serve;
 mod show;

@@ -22,9 +22,6 @@ use streams::{Sink, Source};
 
 /// Does what the words say, and gives the number of the status.
 ///
-/// `serve`, `report`, `earl` and `csv` first see to it that what is kept was found by the rules of the book, as `refresh`
-/// has it: `serve` by the books that it serves with, the others by all.
-///
 /// `audit` reads one snapshot from `input` to its end, judges it by the first book, and writes its text report
 /// on `out`. `serve` listens at the door and serves its connections over the keeper, with as many of the
 /// books as it has workers. `generate` makes pages, audits them with all books, and writes one line. `report`,
@@ -77,7 +74,7 @@ fn find<R: Threads + Sync, I: Source, K: Keeper, D: Door, B: RuleBook + Send>(
         Ok(Some(ProgramCommand::Audit)) => audit_by_first(alloc, input, books),
         Ok(Some(ProgramCommand::Serve(serving))) => serve(rt, alloc, serving, keeper, door, books),
         Ok(Some(ProgramCommand::Generate(generating))) => generate(rt, alloc, generating, books),
-        Ok(Some(ProgramCommand::Show(showing))) => show(rt, alloc, &showing, keeper, books),
+        Ok(Some(ProgramCommand::Show(showing))) => show(alloc, &showing, keeper, &books[0]),
         Ok(None) => Found::Usage,
         Err(OutOfMemory) => Found::NoMemory,
     }

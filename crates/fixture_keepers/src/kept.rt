@@ -58,10 +58,6 @@ fn add_site(out: &mut String, site: &Site) -> Result<(), Wrong> {
     for member in site.members.as_slice() {
         add_member(out, member.user.as_str(), member.role)?;
     }
-    for language in site.languages.as_slice() {
-        add(out, "language ", language.as_str())?;
-        add(out, "\n", "")?;
-    }
     Ok(())
 }
 
@@ -152,14 +148,6 @@ pub fn judgements_of<K: Keeper>(
 ) -> Result<List<Judgement>, Wrong> {
     match keeper.judgements(alloc, site, page) {
         Ok(judgements) => Ok(judgements),
-        Err(fault) => Err(wrong_of(fault)),
-    }
-}
-
-/// The edition that a keeper answers.
-pub fn kept_edition<K: Keeper>(alloc: Global, keeper: &mut K) -> Result<u64, Wrong> {
-    match keeper.edition(alloc) {
-        Ok(edition) => Ok(edition),
         Err(fault) => Err(wrong_of(fault)),
     }
 }

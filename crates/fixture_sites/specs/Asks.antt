@@ -29,7 +29,6 @@ view_of site page view.Names = command.GetNames site page
 abbrev pub command_of : List ℕ → Ask → Command
 command_of site ask.NewSite = command.PutSite site
 command_of site (ask.Role user role) = command.PutMember site user.now role
-command_of site (ask.Languages words) = command.PutLanguages site (map (λ w. w.now) words.now)
 command_of site (ask.Put page rev nodes) = command.PutPage site page.now rev (sketched nodes.now)
 command_of site (ask.Alter page rev alters) = command.EditPage site page.now rev (map edit_of alters.now)
 command_of site (ask.Gone page rev) = command.DropPage site page.now rev

@@ -33,7 +33,6 @@ why_of refusal.OutOfMemory = why.OutOfMemory
 abbrev pub kind_of : Reply → Kind
 kind_of (reply.Site site) = kind.Site
 kind_of (reply.Member user role) = kind.Member role
-kind_of (reply.Languages languages pages) = kind.Languages languages pages
 kind_of (reply.Stored stored) = kind.Stored stored.rev stored.summary
 kind_of (reply.Page page) = kind.Page page.head.rev (length (rows_of page.tree.trees))
 kind_of (reply.Dropped page) = kind.Dropped
@@ -62,7 +61,6 @@ refused_name other = []
 abbrev pub name_in : Reply → List ℕ
 name_in (reply.Site site) = site
 name_in (reply.Member user role) = user
-name_in (reply.Languages languages pages) = []
 name_in (reply.Stored stored) = stored.page
 name_in (reply.Page page) = page.head.page
 name_in (reply.Dropped page) = page

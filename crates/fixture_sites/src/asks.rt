@@ -42,8 +42,6 @@ pub enum Ask {
     NewSite,
     /// The role of a user.
     Role(&'static str, Option<MemberRole>),
-    /// These language subtags are put in the place of the site's.
-    Languages(&'static [&'static str]),
     /// A page of these nodes is put at a revision.
     Put(&'static str, u64, Nodes),
     Alter(&'static str, u64, &'static [Alter]),
@@ -95,23 +93,6 @@ fn member_of(
 {
     let user = Text::from_str(alloc, user)?;
     Ok(Command::PutMember { site, user, role })
-}
-
-fn texts_of(alloc: Global, words: &[&str]) -> Result<List<Text>, OutOfMemory>
-    ensures { IfOk result (λ texts. texts ≡ map (λ w. w.now) words.now) }
-{
-    let mut texts = Vec::new(alloc);
-    for word in words {
-        texts.push(Text::from_str(alloc, word)?)?;
-    }
-    Ok(List::from_vec(texts))
-}
-
-fn languages_of(alloc: Global, site: Text, words: &[&str]) -> Result<Command, OutOfMemory>
-    ensures { IfOk result (λ c. c ≡ command.PutLanguages site (map (λ w. w.now) words.now)) }
-{
-    let languages = texts_of(alloc, words)?;
-    Ok(Command::PutLanguages { site, languages })
 }
 
 fn put_of(
@@ -203,7 +184,6 @@ pub fn command_of(alloc: Global, site: &str, ask: Ask) -> Result<Command, OutOfM
     match ask {
         Ask::NewSite => Ok(Command::PutSite { site }),
         Ask::Role(user, role) => member_of(alloc, site, user, role),
-        Ask::Languages(words) => languages_of(alloc, site, words),
         Ask::Put(page, rev, nodes) => put_of(alloc, site, page, rev, nodes),
         Ask::Alter(page, rev, alters) => alter_of(alloc, site, page, rev, alters),
         Ask::Gone(page, rev) => drop_of(alloc, site, page, rev),

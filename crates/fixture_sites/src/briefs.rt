@@ -37,8 +37,6 @@ pub enum Why {
 pub enum Kind {
     Site,
     Member(Option<MemberRole>),
-    /// How many languages the site has now, and how many pages.
-    Languages { languages: u32, pages: u32 },
     /// The page's new revision, and what its outcomes come to.
     Stored(u64, Summary),
     Page { rev: u64, nodes: usize },
@@ -100,10 +98,6 @@ fn kind_of(reply: &Reply) -> Kind
     match reply {
         Reply::Site { .. } => Kind::Site,
         Reply::Member { role, .. } => Kind::Member(*role),
-        Reply::Languages { languages, pages } => Kind::Languages {
-            languages: *languages,
-            pages: *pages,
-        },
         Reply::Stored(stored) => Kind::Stored(stored.rev, stored.summary),
         Reply::Page(page) => Kind::Page {
             rev: page.head.rev,
@@ -168,7 +162,6 @@ fn name_in(reply: &Reply) -> &str
     match reply {
         Reply::Site { site } => site.as_str(),
         Reply::Member { user, .. } => user.as_str(),
-        Reply::Languages { .. } => "",
         Reply::Stored(stored) => stored.page.as_str(),
         Reply::Page(page) => page.head.page.as_str(),
         Reply::Dropped { page } => page.as_str(),

@@ -2,7 +2,6 @@ ghost use Rattle.std.specs.Prelude.{◌≡◌, IsTrue, IfOk};
 ghost use Rattle.std.specs.List.{All, AllPairs, list_any};
 ghost use Rattle.std.specs.Option.{option_copied};
 ghost use Rattle.std.specs.Str.{bytes_eq};
-ghost use Rattle.snap_tree.specs.Langs.{AreLangs};
 ghost use Rattle.rule_core.specs.Infos.{has_atomic, info_of};
 ghost use Rattle.desk_core.specs.Fitting.{FitsRev, FitsPut, FitsJudging, FitsEntry, FitsEntries, FitsParts, FitsRequest};
 ghost use Rattle.desk_core.specs.Steps.{site_of};
@@ -13,7 +12,7 @@ use desk_core::{Command, Entry, MOST_ENTRIES, MOST_NOTE};
 use judge_core::infos_of;
 use keep_core::{MOST_REVISION, is_name};
 use rule_core::{RuleBook, RuleInfo, RuleNo};
-use snap_tree::{List, OutOfMemory, Text, langs_fault};
+use snap_tree::{List, OutOfMemory, Text};
 use std::alloc::Global;
 use web_address::is_web_address;
 
@@ -28,12 +27,6 @@ fn is_put(alloc: Global, page: &Text, rev: u64, address: &Text) -> Result<bool, 
 {
     let is_web = is_web_address(alloc, address.as_str())?;
     Ok(is_seen(page, rev) && is_web)
-}
-
-fn are_langs(languages: &List<Text>) -> bool
-    ensures { IsTrue result → AreLangs languages.now }
-{
-    langs_fault(languages).is_none()
 }
 
 fn has_page(entries: &[Entry], page: &Text) -> bool
@@ -104,7 +97,6 @@ fn site_of(command: &Command) -> &Text
     match command {
         Command::PutSite { site } => site,
         Command::PutMember { site, .. } => site,
-        Command::PutLanguages { site, .. } => site,
         Command::PutPage { site, .. } => site,
         Command::GetPage { site, .. } => site,
         Command::DropPage { site, .. } => site,
@@ -132,7 +124,6 @@ fn have_fit_parts<B: RuleBook>(
     match command {
         Command::PutSite { .. } => Ok(true),
         Command::PutMember { user, .. } => Ok(is_name(user)),
-        Command::PutLanguages { languages, .. } => Ok(are_langs(languages)),
         Command::PutPage { page, rev, raw, .. } => is_put(alloc, page, *rev, &raw.address),
         Command::GetPage { page, .. } => Ok(is_name(page)),
         Command::DropPage { page, rev, .. } => Ok(is_seen(page, *rev)),

@@ -1,7 +1,6 @@
 ghost use Rattle.std.specs.Prelude.{◌≡◌, [], ◌∷◌, IsTrue, IfOk};
 ghost use Rattle.keep_core.specs.Fits.{FitsSite};
 ghost use Rattle.keep_core.specs.Names.{is_name};
-ghost use Rattle.keep_core.specs.Tables.{no_tables};
 ghost use Rattle.keep_core.specs.declared.member.MemberRole.TheVariants.{Owner};
 
 use crate::asks::Nodes;
@@ -55,7 +54,7 @@ fn owners(alloc: Global, user: Text) -> Result<List<Member>, OutOfMemory>
 /// A site of this name, owner and counter, which has no other member. `Unfit` where one of them doesn't fit.
 pub fn site_at(alloc: Global, name: &str, owner: &str, counter: u64) -> Result<Site, Unasked>
     ensures fits { IfOk result FitsSite }
-    ensures site { IfOk result (λ site. site ≡ record { name = name.now; counter = counter; members = record { user = owner.now; role = Owner } ∷ []; languages = [] }) }
+    ensures site { IfOk result (λ site. site ≡ record { name = name.now; counter = counter; members = record { user = owner.now; role = Owner } ∷ [] }) }
 {
     if MOST_REVISION < counter {
         return Err(Unasked::Unfit);
@@ -67,13 +66,12 @@ pub fn site_at(alloc: Global, name: &str, owner: &str, counter: u64) -> Result<S
         name,
         counter,
         members,
-        languages: List::from_vec(Vec::new(alloc)),
     })
 }
 
 /// A keeper of nothing, of whose calls these fail. Fails only for want of memory.
 pub fn keeper_failing(alloc: Global, calls: &[u64]) -> Result<MemoryKeeper, OutOfMemory>
-    ensures { IfOk result (λ k. k ≡ record { tables = no_tables; fails = calls.now; calls = 0; faults = 0 }) }
+    ensures { IfOk result (λ k. k ≡ record { tables = []; fails = calls.now; calls = 0; faults = 0 }) }
 {
     let fails = Vec::from_slice(alloc, calls)?;
     Ok(MemoryKeeper::new(alloc, List::from_vec(fails)))

@@ -89,12 +89,11 @@ fn about_sink(alloc: Global, line: u64, sink: &mut Sink, rest: &str) -> Result<(
     }
 }
 
-/// The step that a line says which begins with `prepares`, `judgements`, `edition` or `reads`.
+/// The step that a line says which begins with `prepares`, `judgements` or `reads`.
 pub(crate) fn step_of(alloc: Global, line: u64, word: &str, rest: &str) -> Result<Step, Wrong> {
     match word {
         "prepares" => Ok(Step::Prepare(line, prepares_of(line, rest)?)),
         "judgements" => judged_of(alloc, line, rest),
-        "edition" => Ok(Step::Edition(line, number(line, rest)?)),
         _ => reads_of(alloc, line, rest),
     }
 }

@@ -167,7 +167,7 @@ impl Reader {
             "judgings" | "ends" => self.about_talk(word, rest),
             "run" => self.begin_run(rest),
             "kept" => self.begin_kept(rest),
-            "prepares" | "reads" | "judgements" | "edition" => self.add_step(word, rest),
+            "prepares" | "reads" | "judgements" => self.add_step(word, rest),
             _ => self.about_run(word, rest),
         }
     }

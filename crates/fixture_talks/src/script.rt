@@ -49,8 +49,6 @@ pub enum Step {
     Prepare(u64, Prepares),
     Reads(Reads),
     Judged(Judged),
-    /// The edition that is kept.
-    Edition(u64, u64),
 }
 
 /// A script: what its first line says, what is done first in each case, and the cases.

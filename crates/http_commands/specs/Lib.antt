@@ -2,7 +2,6 @@ pub mod Shapes
 pub mod Revisions
 pub mod Roles
 pub mod Entries
-pub mod Languages
 pub mod Edits
 pub mod EditLists
 pub mod Judging

@@ -12,7 +12,6 @@ mod command;
 mod edits;
 mod entries;
 mod judging;
-mod languages;
 mod request;
 mod revision;
 mod roles;

@@ -17,7 +17,6 @@ use Rattle.http_replies.specs.Answers.{reply_body}
 pub made_is_body : (infos : List RuleInfo) (r : Reply) → is_made r ≡ true → made_text infos r ≡ reply_body infos r
 made_is_body infos (reply.Site site) made = refl
 made_is_body infos (reply.Member user held) made = refl
-made_is_body infos (reply.Languages languages pages) made = refl
 made_is_body infos (reply.Stored s) made = refl
 made_is_body infos (reply.Dropped page) made = refl
 made_is_body infos (reply.Imported pages) made = refl

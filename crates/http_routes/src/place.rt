@@ -19,7 +19,6 @@ pub(crate) enum Resource {
     SiteEarl,
     SiteCsv,
     Import,
-    Languages,
     Member,
     Page,
     PageReport,
@@ -100,7 +99,6 @@ fn router(alloc: Global) -> Result<Router<Resource>, InsertError>
         Resource::Judgements,
     )?;
     router.insert("/sites/{site}/pages/{page}/outcomes", Resource::Outcomes)?;
-    router.insert("/sites/{site}/languages", Resource::Languages)?;
     Ok(router)
 }
 

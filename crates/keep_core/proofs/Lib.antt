@@ -1,4 +1,3 @@
 pub mod Fitting
 pub mod Making
-pub mod Outcomes
 pub mod Telling

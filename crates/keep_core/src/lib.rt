@@ -1,8 +1,8 @@
 //! What the desk keeps: sites with their members, pages with their revisions, judgements and outcomes, and
 //! the trait of what keeps them.
 //!
-//! Start with [`Keeper`]. Contracts see what it keeps as tables, nested by site and page, with an edition; a
-//! keeper may tell them or not. [`MemoryKeeper`] keeps them in memory and always tells them.
+//! Start with [`Keeper`]. Contracts see what it keeps as tables, nested by site and page; a keeper may
+//! tell them or not. [`MemoryKeeper`] keeps them in memory and always tells them.
 #![tactic(auto)]
 
 mod change;
@@ -12,7 +12,6 @@ mod fault;
 mod keeper;
 mod laws;
 mod limits;
-mod listed;
 mod lookups;
 mod member;
 mod memory;
@@ -26,10 +25,9 @@ pub use fault::KeepFault;
 pub use keeper::Keeper;
 pub use laws::laws_of_changes;
 pub use limits::{MOST_NAME, MOST_REVISION, laws_of_limits};
-pub use listed::listed;
 pub use member::{Member, MemberRole};
 pub use memory::MemoryKeeper;
 pub use names::is_name;
-pub use page::{Page, PageHead, PageOutcomes, PagePut, SitePage};
+pub use page::{Page, PageHead, PagePut, SitePage};
 pub use site::Site;
-pub use tables::{KeptPage, KeptSite, Tables};
+pub use tables::{KeptPage, KeptSite};

@@ -10,4 +10,3 @@ pub mod Marking
 mod Live
 pub mod SameRows
 pub mod ListChanges
-pub mod Halves

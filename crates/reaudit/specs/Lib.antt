@@ -7,4 +7,3 @@ pub mod Nodes
 pub mod Again
 pub mod SameRows
 pub mod Relisted
-pub mod Pages

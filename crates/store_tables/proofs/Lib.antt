@@ -31,12 +31,3 @@ pub mod Tells
 pub mod Stepping
 pub mod Rewritten
 pub mod Remembered
-pub mod TablesTold
-pub mod EditionStays
-pub mod EditionSet
-pub mod Audited
-pub mod Refreshed
-pub mod RefreshedForth
-pub mod LanguageRows
-pub mod Relisted
-pub mod RelistedForth

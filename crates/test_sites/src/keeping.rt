@@ -161,11 +161,10 @@ fn add_judgement(alloc: Global) -> Result<Change, Unasked>
     let outcomes = Outcomes {
         rows: List::from_vec(Vec::new(alloc)),
     };
-    let judgements = one(alloc, judgement)?;
-    Ok(Change::AddJudgements {
+    Ok(Change::AddJudgement {
         site,
         page,
-        judgements,
+        judgement,
         outcomes,
     })
 }
@@ -273,13 +272,11 @@ fn copies_are_equal(rt: HostRuntime) -> Result<(), Fail> {
     Ok(())
 }
 
-// Whether each of the eight calls fails, in the order of the trait.
-fn failing(alloc: Global, keeper: &mut MemoryKeeper) -> Result<[bool; 8], Fail> {
+// Whether each of the six calls fails, in the order of the trait.
+fn failing(alloc: Global, keeper: &mut MemoryKeeper) -> Result<[bool; 6], Fail> {
     let site = Text::from_str(alloc, "s")?;
     let page = Text::from_str(alloc, "p")?;
     let change = put_site(alloc)?;
-    let edition_fails = keeper.edition(alloc).is_err();
-    let sites_fails = keeper.sites(alloc).is_err();
     let site_fails = keeper.site(alloc, &site).is_err();
     let load_fails = keeper.load(alloc, &site, &page).is_err();
     let list_fails = keeper.list(alloc, &site).is_err();
@@ -287,8 +284,6 @@ fn failing(alloc: Global, keeper: &mut MemoryKeeper) -> Result<[bool; 8], Fail> 
     let outcomes_fails = keeper.outcomes(alloc, &site, &page).is_err();
     let apply_fails = keeper.apply(alloc, &Batch { change }).is_err();
     Ok([
-        edition_fails,
-        sites_fails,
         site_fails,
         load_fails,
         list_fails,
@@ -309,16 +304,14 @@ fn fails_alone(alloc: Global, named: u64) -> Result<bool, Fail> {
         named == 4,
         named == 5,
         named == 6,
-        named == 7,
-        named == 8,
     ];
     let seen = look(alloc, &mut keeper, "s", "p")?;
-    Ok(fails == wanted && (seen == NOTHING) == (named == 8))
+    Ok(fails == wanted && (seen == NOTHING) == (named == 6))
 }
 
 #[test]
 fn the_calls_that_the_list_names_fail(rt: HostRuntime) -> Result<(), Fail> {
-    for named in 1..9 {
+    for named in 1..7 {
         if !fails_alone(rt.alloc(), named)? {
             return Err(Fail::from(named));
         }

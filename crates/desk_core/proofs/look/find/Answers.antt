@@ -1,15 +1,15 @@
 use Rattle.std.proofs.Common.{◌≡◌, Option, Some, Result, Ok, Err, IfSome, sym, subst, ◌∙◌, refl}
 use Rattle.keep_core.specs.declared.site.Site.{Site}
+use Rattle.keep_core.specs.Fits.{FitsPage}
 use Rattle.desk_core.specs.declared.refusal.Refusal.{Refusal}
 use Rattle.desk_core.specs.declared.refusal.Refusal.TheVariants.{NoPage}
 use Rattle.desk_core.specs.State.{PageState}
-use Rattle.desk_core.specs.Serving.{FitsListed}
 use Rattle.desk_core.proofs.Ways.{followed}
 use Rattle.desk_core.proofs.Onward.{thence, only_read}
 use Rattle.desk_core.proofs.look.find.Goals as goal
 
-fitting : (found : Option PageState) (p : PageState) → found ≡ Some p → IfSome found (λ q. FitsListed q.page) → FitsListed p.page
-fitting found p is fits = let P : Option PageState → Type 0 = λ o. IfSome o (λ q. FitsListed q.page) in subst P is fits
+fitting : (found : Option PageState) (p : PageState) → found ≡ Some p → IfSome found (λ q. FitsPage q.page) → FitsPage p.page
+fitting found p is fits = let P : Option PageState → Type 0 = λ o. IfSome o (λ q. FitsPage q.page) in subst P is fits
 
 pub returns-in-Some : goal.returns-in-Some
 returns-in-Some g c =
