@@ -126,6 +126,28 @@ def found_words():
     return listing("aria-labelledby", " ".join("a" * 32_000), count=3)
 
 
+def long_text(page, body):
+    page.words(page.element(body, "p", [("id", "t")]), "a" * 65_536)
+
+
+def naming_a_long_text():
+    """One button with as many references to the longest text as the greatest weight allows."""
+    page, body = begun()
+    page.element(body, "button", [("aria-labelledby", repeated("t", 2 * 96))], "rvft")
+    long_text(page, body)
+    return page
+
+
+def children_naming_a_long_text():
+    """A button whose children have as many references to the longest text as the greatest weight allows."""
+    page, body = begun()
+    button = page.element(body, "button", (), "rvft")
+    for _ in range(96):
+        page.element(button, "span", [("aria-labelledby", "t")])
+    long_text(page, body)
+    return page
+
+
 # ---- aria-owns
 
 def owning_one_text():
@@ -395,6 +417,8 @@ PAGES = [
     (unnamed_headers, 2, "4,900 cells with long headers, 4,900 headers"),
     # lists
     (found_words, 2, "aria-labelledby, 32,000 words found"),
+    (naming_a_long_text, 2, "a button that names a text of 65,536 bytes 96 times"),
+    (children_naming_a_long_text, 2, "a button with 96 children that each name such a text"),
     (lambda: listing("aria-labelledby", repeated("x")), 2, "aria-labelledby, 120 long lists, none found"),
     (lambda: listing("aria-describedby", repeated("x")), 2, "aria-describedby, 120 long lists, none found"),
     (lambda: listing("aria-owns", repeated("x")), 2, "aria-owns, 120 long lists, none found"),

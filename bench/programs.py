@@ -2,7 +2,7 @@
 
 They are no crates of the repository, since they promise nothing that the gate could hold them to. Each is
 proved and built here, as a crate beside a copy of the others, where a source is newer than what was built last
-or another kit built it. That takes some minutes.
+or another kit built it. That takes some minutes. So is the crate of bench/sites, which serving stands on.
 """
 import glob
 import os
@@ -37,6 +37,19 @@ def least(told):
     return found
 
 
+# The crate that stands only here, and those that it stands on.
+SITES = "fixture_sites"
+SITES_OVER = "snap_tree fixture_pages snap_edit web_address rule_core judge_core keep_core desk_core"
+
+
+def copy_sites(crates):
+    """Makes the crate of bench/sites in a folder of crates."""
+    for path in glob.glob(f"{HERE}/sites/**/*.in", recursive=True):
+        to = f"{crates}/{SITES}/{os.path.relpath(path, f'{HERE}/sites').removesuffix('.in')}"
+        os.makedirs(os.path.dirname(to), exist_ok=True)
+        shutil.copy(path, to)
+
+
 class Program:
     """A program that measures, by its name and the crates that it stands on; its sources are files `NAME.rt.in`."""
 
@@ -53,7 +66,7 @@ class Program:
             return False
         with open(self.kit_path) as file:
             built_by = file.read()
-        sources = [*self.sources, *glob.glob(f"{ROOT}/crates/*/src/**", recursive=True)]
+        sources = [*self.sources, *glob.glob(f"{HERE}/sites/**", recursive=True), *glob.glob(f"{ROOT}/crates/*/src/**", recursive=True)]
         return built_by == kit() and os.path.getmtime(self.path) > max(map(os.path.getmtime, sources))
 
     def build(self):
@@ -62,7 +75,8 @@ class Program:
             shutil.copytree(f"{ROOT}/crates", f"{copy}/crates", ignore=shutil.ignore_patterns("out"))
             shutil.copy(f"{ROOT}/HANDLES", copy)
             with open(f"{ROOT}/crates.txt") as listed, open(f"{copy}/crates.txt", "w") as to:
-                to.write(f"{listed.read()}{self.name}: {self.crates}\n")
+                to.write(f"{listed.read()}{SITES}: {SITES_OVER}\n{self.name}: {self.crates}\n")
+            copy_sites(f"{copy}/crates")
             crate = f"{copy}/crates/{self.name}"
             os.makedirs(f"{crate}/src")
             for source in self.sources:

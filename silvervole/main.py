@@ -42,6 +42,8 @@ WORDS = {
     "serve": Word("silvervole.serve.command", "serves the desk over HTTP", "silvervole serve desk.db --port 8080"),
     "cases": Word("silvervole.cases.command", "tries test cases of ACT rules, and says how the desk fares",
                   "silvervole cases testcases.json --earl report.jsonld"),
+    "earl": Word("silvervole.earl.command", "gives judgements of another tool, as EARL, to the desk",
+                 "silvervole earl --desk http://127.0.0.1:8080 --caller bob acme/home judged.jsonld"),
     "init": Word("silvervole.settings.command", "writes silvervole.toml, the settings of check", "silvervole init https://www.example.org/"),
 }
 

@@ -11,9 +11,9 @@ from typing import Iterator
 ROOT = pathlib.Path(__file__).resolve().parent.parent
 FOLDERS = ("bench", "collector", "deploy", "silvervole", "tests", "tools")
 # The Debian package of each module that isn't Python's own, and what comes along with another one.
-PACKAGES = {"argcomplete": "python3-argcomplete", "attr": "python3-sarif-python-om", "brotli": "python3-brotli",
-            "jinja2": "python3-jinja2", "jsonschema": "python3-jsonschema", "junitparser": "python3-junitparser", "markupsafe": "python3-jinja2",
-            "pytest": "python3-pytest", "rdflib": "python3-rdflib", "rich": "python3-rich",
+PACKAGES = {"argcomplete": "python3-argcomplete", "attr": "python3-sarif-python-om", "brotli": "python3-brotli", "cssselect": "python3-cssselect",
+            "jinja2": "python3-jinja2", "jsonschema": "python3-jsonschema", "junitparser": "python3-junitparser", "lxml": "python3-lxml",
+            "markupsafe": "python3-jinja2", "pytest": "python3-pytest", "rdflib": "python3-rdflib", "rich": "python3-rich",
             "sarif_om": "python3-sarif-python-om", "selenium": "python3-selenium", "setuptools": "python3-setuptools",
             "trio": "python3-selenium", "trio_websocket": "python3-selenium", "urllib3": "python3-selenium", "yaml": "python3-yaml"}
 ASKED = re.compile(r"apt-get install (?:-y )?((?:[a-z0-9][a-z0-9+.-]+ ?)+)")

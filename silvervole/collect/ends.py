@@ -46,6 +46,7 @@ class End(enum.IntEnum):
     SIGN_IN = 22
     OWN_FAULT = 70
     DESK = 23
+    REVISION = 24
     INTERRUPTED = 130
 
 

@@ -11,7 +11,7 @@ from .signing_in import SOURCES
 MOST_BYTES = 8_388_608
 NAMES = {
     "NoCaller": "it doesn't know who asks: name yourself by --caller, or sign in at its proxy",
-    "NotAllowed": "your role there doesn't allow it: that of an {needed} is needed",
+    "NotAllowed": "your role there doesn't allow it: that of {needed} is needed",
     "OtherSite": "the request looks like another site's",
     "NoSite": "it has no such site",
     "NoPage": "it has no such page",
@@ -19,6 +19,10 @@ NAMES = {
     "PageLimit": "the site is full: its limit of {limit} is reached",
     "StaleRevision": "the page was changed by somebody else, to revision {current}",
     "TreeFault": "the page's rows make no tree: fault {fault} at node {node}",
+    "NoTarget": "the rule has no outcome there",
+    "NotOpen": "the rule tells by itself: {automatic}",
+    "SameHand": "you sent the revision that is kept, and nobody judges their own work",
+    "EvidenceMoved": "the page's evidence is another by now",
     "OutOfMemory": "it is out of memory",
     "KeeperFault": "what keeps its sites met a fault",
     "DeskAway": "the desk is away",
@@ -45,11 +49,17 @@ class Refused(Stop):
     def words(self) -> str:
         """What the refusal means."""
         try:
-            known = NAMES[self.name].format(**self.members)
+            known = NAMES[self.name].format(**{name: with_article(value) if name == "needed" else value for name, value in self.members.items()})
         except KeyError:
             known = STATUSES.get(self.status, "")
         page = f"page {self.members['page']}: " if "page" in self.members else ""
         return page + (known or self.name or "nothing more is said")
+
+
+def with_article(role: object) -> str:
+    """A role as a sentence has it."""
+    text = str(role)
+    return text if text.startswith("another") else f"{'an' if text[:1] in 'aeiou' else 'a'} {text}"
 
 
 def members_of(body: bytes) -> dict[str, Any]:

@@ -59,6 +59,14 @@ def sizes(proxy: Proxy) -> None:
     link.close()
 
 
+def methods(proxy: Proxy) -> None:
+    """Methods that no route has don't come to the desk, whose reply to HEAD has a body."""
+    for method in ("HEAD", "OPTIONS", "PATCH"):
+        wanted = "" if method == "HEAD" else refused(7, "WrongMethod")
+        same(f"the method {method}", ask(proxy, f"{method} /sites/acme/report", None, basic("ann")).brief, (405, wanted))
+    same("another route's method", ask(proxy, "DELETE /sites/acme/report", None, basic("ann")).brief, (405, refused(7, "WrongMethod")))
+
+
 def head(line: str, length: int = 0) -> bytes:
     """The head of a request of ann's."""
     return f"{line} HTTP/1.1\r\nhost: desk\r\nauthorization: {basic('ann')['authorization']}\r\ncontent-length: {length}\r\n\r\n".encode()
@@ -131,6 +139,7 @@ def test_basic(desk: Serving, proxy: Proxy) -> None:
     """All of the example with TLS and HTTP basic."""
     let_in(proxy)
     sizes(proxy)
+    methods(proxy)
     slow_and_cut(proxy)
     at_once(proxy)
     desk.end()

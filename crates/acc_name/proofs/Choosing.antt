@@ -4,6 +4,7 @@ use Rattle.aria_tables.specs.declared.role.Role.{Role}
 use Rattle.texts.specs.Words.{blank}
 use Rattle.acc_name.specs.declared.named.How.{How}
 use Rattle.acc_name.specs.declared.named.Name.{Name}
+use Rattle.acc_name.specs.declared.named.NameSource.{NameSource}
 use Rattle.acc_name.specs.declared.named.NameSource.TheVariants as source
 use Rattle.acc_name.specs.Names.{no_name, says, first_said, asks_content, content_of}
 use Rattle.acc_name.specs.Voices.{first_of}
@@ -32,6 +33,14 @@ decided names later (Some name) is some = ap (λ o. unwrap_or o (first_said late
 pub undecided : (names later : List Name) (found : Option Name) → found ≡ first_of names → is_some found ≡ false → first_said later ≡ first_said (names ++ later)
 undecided names later None is some = ap (λ o. unwrap_or o (first_said later)) is ∙ sym (split_first names later)
 undecided names later (Some name) is some = cc
+
+-- a text that isn't blank decides before all later ones
+pub says_decides : (from : NameSource) (text : List ℕ) (later : List Name) → blank text ≡ false → says from text ≡ first_said (says from text ∷ later)
+says_decides from text later h = rw h refl
+
+-- a blank text leaves it to the later ones
+pub says_passes : (from : NameSource) (text : List ℕ) (later : List Name) → blank text ≡ true → first_said later ≡ first_said (says from text ∷ later)
+says_passes from text later h = rw h refl
 
 -- the last ones decide
 pub decided_last : (names : List Name) → unwrap_or (first_of names) no_name ≡ first_said names

@@ -10,3 +10,4 @@ pub mod Trimmed
 pub mod SaidAgain
 pub mod ToldAgain
 pub mod NamedAgain
+mod Unnamed

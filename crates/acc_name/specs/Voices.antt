@@ -1,5 +1,5 @@
 -- What is held of names in the making.
-use Rattle.std.specs.Prelude.{ℕ, List, [], ◌∷◌, ◌++◌, Bool, false, if◌then◌else◌, ◌||◌, Option, Some, None, option_map, String}
+use Rattle.std.specs.Prelude.{ℕ, ◌+◌, length, List, [], ◌∷◌, ◌++◌, Bool, false, if◌then◌else◌, ◌||◌, Option, Some, None, option_map, String}
 use Rattle.std.specs.String.{string_bytes}
 use Rattle.std.specs.declared.alloc.Global.{Global}
 use Rattle.aria_tables.specs.declared.role.Role.{Role}
@@ -8,6 +8,7 @@ use Rattle.snap_tree.specs.declared.row.NodeId.{NodeId}
 use Rattle.snap_tree.specs.declared.row.Row.{Row}
 use Rattle.texts.specs.Words.{blank}
 use Rattle.acc_tree.specs.declared.above.Above.{Above}
+use Rattle.aria_tables.specs.declared.attr.AriaAttr.TheVariants as aria
 use Rattle.acc_tree.specs.declared.attributes.Attribute.TheVariants as attribute
 use Rattle.acc_tree.specs.Seen.{seen_row, seen, text_at}
 use Rattle.acc_tree.specs.Sights.{Sight}
@@ -24,7 +25,7 @@ use Rattle.acc_name.specs.declared.named.How.{How}
 use Rattle.acc_name.specs.declared.named.NameSource.TheVariants as source
 use Rattle.acc_name.specs.Captions.{caption_kept}
 use Rattle.acc_name.specs.Hosts.{host_of, host_text, caption_of}
-use Rattle.acc_name.specs.Names.{Asked, Heard, says, is_select, content_of, placeholder_of, said, told_of}
+use Rattle.acc_name.specs.Names.{Asked, Heard, says, is_select, value_of, content_of, placeholder_of, said, told_of}
 
 -- the bytes of a string that may be there
 abbrev pub text_in : Option (String Global) → Option (List ℕ)
@@ -83,3 +84,18 @@ from_content how role row content =
 abbrev pub from_kind : How → Option Role → Row → List ℕ → Heard → List Name
 from_kind how role row owned inner =
     says source.HostText (host_text (host_of row) row inner.caption) ∷ from_content how role row (inner.content ++ owned)
+
+-- an element's clauses from its labels on
+abbrev pub from_labels : Told → How → Option Role → Row → Heard → List Name
+from_labels told how role row inner = says source.HostLabel told.labels ∷ from_kind how role row told.owned inner
+
+-- an element's clauses from its value on
+abbrev pub from_value : Told → How → Option Role → Row → Heard → List Name
+from_value told how role row inner =
+    says source.HostText (value_of how role row inner.chosen)
+    ∷ says source.AriaLabel (text_at (attribute.Aria aria.Label) row)
+    ∷ from_labels told how role row inner
+
+-- how many bytes of text references say
+abbrev pub told_length : Told → ℕ
+told_length told = length told.labelled_by + length told.labels + length told.owned

@@ -6,7 +6,7 @@ ghost use Rattle.acc_tree.specs.declared.attributes.Attribute.TheVariants as att
 ghost use Rattle.acc_tree.specs.Seen.{seen_row, text_at};
 ghost use Rattle.acc_name.specs.declared.named.NameSource.TheVariants as source;
 ghost use Rattle.acc_name.specs.Names.{no_name, says, first_said, is_inner, is_shown, is_silent, placeholder_of, value_of, by_clauses, said};
-ghost use Rattle.acc_name.specs.Voices.{text_in, told_within, first_of, said_by, from_content, from_kind};
+ghost use Rattle.acc_name.specs.Voices.{text_in, told_within, first_of, said_by, from_content, from_kind, from_labels, from_value};
 
 use crate::captions::is_captioned;
 use crate::heard::Inner;
@@ -65,46 +65,19 @@ fn by_hints(alloc: Global, row: &Row) -> Result<Option<Name>, OutOfMemory>
     Ok(unless_blank(NameSource::Placeholder, placeholder))
 }
 
-// The attribute aria-label, and then the labels.
-fn by_label(alloc: Global, labels: Text, row: &Row) -> Result<Option<Name>, OutOfMemory>
-    ensures { IfOk result (λ name. name ≡ first_of (
-        says source.AriaLabel (text_at (attribute.Aria aria.Label) (seen_row row.now))
-        ∷ says source.HostLabel labels
-        ∷ [])) }
-{
-    let label = copied_at(alloc, row, Attribute::Aria(AriaAttr::Label))?;
-    if !blank(&label) {
-        return Ok(Some(Name {
-            text: label,
-            source: NameSource::AriaLabel,
-        }));
-    }
-    Ok(unless_blank(NameSource::HostLabel, labels))
-}
-
-// The clauses that come before the text of the element's kind.
-fn before_kind(
+// The value, where one is spoken in place of content, and then the attribute aria-label.
+fn by_value(
     alloc: Global,
-    labelled_by: Text,
-    labels: Text,
     how: How,
     role: Option<Role>,
     row: &Row,
     chosen: &Option<String>,
 ) -> Result<Option<Name>, OutOfMemory>
     ensures { IfOk result (λ name. name ≡ first_of (
-        says source.LabelledBy labelled_by
-        ∷ says source.HostText (value_of how role (seen_row row.now) (text_in chosen.now))
+        says source.HostText (value_of how role (seen_row row.now) (text_in chosen.now))
         ∷ says source.AriaLabel (text_at (attribute.Aria aria.Label) (seen_row row.now))
-        ∷ says source.HostLabel labels
         ∷ [])) }
 {
-    if !blank(&labelled_by) {
-        return Ok(Some(Name {
-            text: labelled_by,
-            source: NameSource::LabelledBy,
-        }));
-    }
     let value = value_of(alloc, how, role, row, chosen)?;
     if !blank(&value) {
         return Ok(Some(Name {
@@ -112,7 +85,8 @@ fn before_kind(
             source: NameSource::HostText,
         }));
     }
-    by_label(alloc, labels, row)
+    let label = copied_at(alloc, row, Attribute::Aria(AriaAttr::Label))?;
+    Ok(unless_blank(NameSource::AriaLabel, label))
 }
 
 // Puts a text in the place of what the children say.
@@ -153,17 +127,17 @@ fn by_content(
     how: How,
     role: Option<Role>,
     row: &Row,
-    owned: Text,
+    owned: &Text,
     is_blank: bool,
     mark: usize,
     content: &mut String,
 ) -> Result<Said, OutOfMemory>
     requires boundary { IsCharBoundary (string_bytes content.old) mark }
     requires blank { is_blank ≡ blank (drop mark (string_bytes content.old)) }
-    ensures text { OnOk result (string_bytes content.new ≡ take mark (string_bytes content.old) ++ (first_said (from_content how role (seen_row row.now) (drop mark (string_bytes content.old) ++ owned))).text) }
-    ensures decides { IfOk result (λ s. s ≡ said_by (first_said (from_content how role (seen_row row.now) (drop mark (string_bytes content.old) ++ owned)))) }
+    ensures text { OnOk result (string_bytes content.new ≡ take mark (string_bytes content.old) ++ (first_said (from_content how role (seen_row row.now) (drop mark (string_bytes content.old) ++ owned.now))).text) }
+    ensures decides { IfOk result (λ s. s ≡ said_by (first_said (from_content how role (seen_row row.now) (drop mark (string_bytes content.old) ++ owned.now)))) }
 {
-    let counts = asks_content(how, role) & !(is_blank & blank(&owned));
+    let counts = asks_content(how, role) & !(is_blank & blank(owned));
     if counts {
         content.push_str(owned.as_str())?;
         return Ok(Said {
@@ -181,15 +155,15 @@ fn by_kind(
     how: How,
     role: Option<Role>,
     row: &Row,
-    owned: Text,
+    owned: &Text,
     inner: Inner<'_>,
     mark: usize,
     content: &mut String,
 ) -> Result<Said, OutOfMemory>
     requires boundary { IsCharBoundary (string_bytes content.old) mark }
     requires blank { inner.is_blank ≡ blank (drop mark (string_bytes content.old)) }
-    ensures text { OnOk result (string_bytes content.new ≡ take mark (string_bytes content.old) ++ (first_said (from_kind how role (seen_row row.now) owned (told_within inner.entry (drop mark (string_bytes content.old))))).text) }
-    ensures decides { IfOk result (λ s. s ≡ said_by (first_said (from_kind how role (seen_row row.now) owned (told_within inner.entry (drop mark (string_bytes content.old)))))) }
+    ensures text { OnOk result (string_bytes content.new ≡ take mark (string_bytes content.old) ++ (first_said (from_kind how role (seen_row row.now) owned.now (told_within inner.entry (drop mark (string_bytes content.old))))).text) }
+    ensures decides { IfOk result (λ s. s ≡ said_by (first_said (from_kind how role (seen_row row.now) owned.now (told_within inner.entry (drop mark (string_bytes content.old)))))) }
 {
     let Inner {
         caption,
@@ -211,9 +185,11 @@ fn by_kind(
     by_content(alloc, how, role, row, owned, is_blank, mark, content)
 }
 
-fn by_clauses(
+// The labels, and then the text of the element's kind with the clauses after it.
+#[tactic(auto, using(crate::proofs::Choosing::says_decides, crate::proofs::Choosing::says_passes))]
+fn by_labels(
     alloc: Global,
-    told: Told,
+    told: &Told,
     how: How,
     role: Option<Role>,
     row: &Row,
@@ -223,19 +199,62 @@ fn by_clauses(
 ) -> Result<Said, OutOfMemory>
     requires boundary { IsCharBoundary (string_bytes content.old) mark }
     requires blank { inner.is_blank ≡ blank (drop mark (string_bytes content.old)) }
-    ensures text { OnOk result (string_bytes content.new ≡ take mark (string_bytes content.old) ++ (by_clauses told how role (seen_row row.now) (told_within inner.entry (drop mark (string_bytes content.old)))).text) }
-    ensures decides { IfOk result (λ s. s ≡ said_by (by_clauses told how role (seen_row row.now) (told_within inner.entry (drop mark (string_bytes content.old))))) }
+    ensures text { OnOk result (string_bytes content.new ≡ take mark (string_bytes content.old) ++ (first_said (from_labels told.now how role (seen_row row.now) (told_within inner.entry (drop mark (string_bytes content.old))))).text) }
+    ensures decides { IfOk result (λ s. s ≡ said_by (first_said (from_labels told.now how role (seen_row row.now) (told_within inner.entry (drop mark (string_bytes content.old)))))) }
 {
-    let Told {
-        labelled_by,
-        labels,
-        owned,
-    } = told;
-    let earlier = before_kind(alloc, labelled_by, labels, how, role, row, inner.chosen)?;
-    if earlier.is_some() {
-        return replaced_by(content, mark, earlier);
+    let labels = &told.labels;
+    if !blank(labels) {
+        let source = NameSource::HostLabel;
+        return replaced(content, mark, source, labels.as_str(), false);
     }
-    by_kind(alloc, how, role, row, owned, inner, mark, content)
+    by_kind(alloc, how, role, row, &told.owned, inner, mark, content)
+}
+
+// The value and the attribute aria-label, and then the labels with the clauses after them.
+fn by_own(
+    alloc: Global,
+    told: &Told,
+    how: How,
+    role: Option<Role>,
+    row: &Row,
+    inner: Inner<'_>,
+    mark: usize,
+    content: &mut String,
+) -> Result<Said, OutOfMemory>
+    requires boundary { IsCharBoundary (string_bytes content.old) mark }
+    requires blank { inner.is_blank ≡ blank (drop mark (string_bytes content.old)) }
+    ensures text { OnOk result (string_bytes content.new ≡ take mark (string_bytes content.old) ++ (first_said (from_value told.now how role (seen_row row.now) (told_within inner.entry (drop mark (string_bytes content.old))))).text) }
+    ensures decides { IfOk result (λ s. s ≡ said_by (first_said (from_value told.now how role (seen_row row.now) (told_within inner.entry (drop mark (string_bytes content.old)))))) }
+{
+    let own = by_value(alloc, how, role, row, inner.chosen)?;
+    if own.is_some() {
+        return replaced_by(content, mark, own);
+    }
+    by_labels(alloc, told, how, role, row, inner, mark, content)
+}
+
+#[tactic(auto, using(crate::proofs::Choosing::says_decides, crate::proofs::Choosing::says_passes))]
+fn by_clauses(
+    alloc: Global,
+    told: &Told,
+    how: How,
+    role: Option<Role>,
+    row: &Row,
+    inner: Inner<'_>,
+    mark: usize,
+    content: &mut String,
+) -> Result<Said, OutOfMemory>
+    requires boundary { IsCharBoundary (string_bytes content.old) mark }
+    requires blank { inner.is_blank ≡ blank (drop mark (string_bytes content.old)) }
+    ensures text { OnOk result (string_bytes content.new ≡ take mark (string_bytes content.old) ++ (by_clauses told.now how role (seen_row row.now) (told_within inner.entry (drop mark (string_bytes content.old)))).text) }
+    ensures decides { IfOk result (λ s. s ≡ said_by (by_clauses told.now how role (seen_row row.now) (told_within inner.entry (drop mark (string_bytes content.old))))) }
+{
+    let labelled_by = &told.labelled_by;
+    if !blank(labelled_by) {
+        let source = NameSource::LabelledBy;
+        return replaced(content, mark, source, labelled_by.as_str(), false);
+    }
+    by_own(alloc, told, how, role, row, inner, mark, content)
 }
 
 fn is_inner(how: How) -> bool
@@ -264,7 +283,7 @@ fn is_silent(node: NodeId, hidden: bool, how: How, row: &Row) -> bool
 pub(crate) fn say(
     alloc: Global,
     scope: Scope,
-    told: Told,
+    told: &Told,
     how: How,
     role: Option<Role>,
     row: &Row,
@@ -274,8 +293,8 @@ pub(crate) fn say(
 ) -> Result<Said, OutOfMemory>
     requires boundary { IsCharBoundary (string_bytes content.old) mark }
     requires blank { inner.is_blank ≡ blank (drop mark (string_bytes content.old)) }
-    ensures text { OnOk result (string_bytes content.new ≡ take mark (string_bytes content.old) ++ (said scope.node scope.hidden told how role (seen_row row.now) (told_within inner.entry (drop mark (string_bytes content.old)))).text) }
-    ensures decides { IfOk result (λ s. s ≡ said_by (said scope.node scope.hidden told how role (seen_row row.now) (told_within inner.entry (drop mark (string_bytes content.old))))) }
+    ensures text { OnOk result (string_bytes content.new ≡ take mark (string_bytes content.old) ++ (said scope.node scope.hidden told.now how role (seen_row row.now) (told_within inner.entry (drop mark (string_bytes content.old)))).text) }
+    ensures decides { IfOk result (λ s. s ≡ said_by (said scope.node scope.hidden told.now how role (seen_row row.now) (told_within inner.entry (drop mark (string_bytes content.old))))) }
 {
     if is_silent(scope.node, scope.hidden, how, row) {
         return replaced_by(content, mark, None);

@@ -1,20 +1,20 @@
-ghost use Rattle.std.specs.Prelude.{◌≡◌, [], Some, IfOk, unwrap_or};
+ghost use Rattle.std.specs.Prelude.{◌≡◌, ◌≤◌, [], Some, IfOk, unwrap_or};
 ghost use Rattle.aria_tables.specs.declared.attr.AriaAttr.TheVariants as aria;
 ghost use Rattle.snap_tree.specs.Labels.{labels_for};
 ghost use Rattle.texts.specs.Words.{words};
 ghost use Rattle.acc_tree.specs.References.{found, named_by};
 ghost use Rattle.acc_tree.specs.Seen.{seen_row, seen};
 ghost use Rattle.acc_name.specs.Names.{joined, referred, all_referred, told_of, told_by};
-ghost use Rattle.acc_name.specs.Voices.{text_in, labelled_of};
+ghost use Rattle.acc_name.specs.Voices.{text_in, labelled_of, told_length};
 
 use crate::named::How;
 use crate::owning::all_followed;
 use crate::references::{References, Untold};
-use crate::room::Room;
+use crate::room::{Nested, Room};
 use crate::telling::spoken;
 use crate::tidying::tidied;
 use crate::told::{Scope, Told};
-use acc_tree::{Above, Attribute, exposed_at, first_found, labels_of, sight_of, text_at};
+use acc_tree::{Above, Attribute, exposed_at, first_found, has, labels_of, sight_of, text_at};
 use aria_tables::AriaAttr;
 use snap_tree::{Branches, NodeId, OutOfMemory, Row, Text, Tree};
 use std::alloc::Global;
@@ -23,7 +23,8 @@ use std::alloc::Global;
 // itself.
 fn referred(
     alloc: Global,
-    room: &mut Room,
+    room: Room,
+    nested: &mut Nested,
     tree: &Tree,
     node: NodeId,
     m: NodeId,
@@ -35,7 +36,7 @@ fn referred(
     };
     let hidden = !exposed_at(&sight.above, sight.row);
     let scope = Scope { node, hidden };
-    let name = spoken(alloc, &Untold, scope, room, How::Referred, sight)?;
+    let name = spoken(alloc, &Untold, scope, room, nested, How::Referred, sight)?;
     tidied(alloc, name.text)
 }
 
@@ -74,7 +75,8 @@ fn len_of(text: &Option<String>) -> usize {
 // What some elements say where they are referred to, and then a further one, with a space between.
 fn with_referred(
     alloc: Global,
-    room: &mut Room,
+    room: Room,
+    nested: &mut Nested,
     tree: &Tree,
     node: NodeId,
     so_far: Option<String>,
@@ -82,18 +84,17 @@ fn with_referred(
 ) -> Result<Option<String>, OutOfMemory>
     ensures { IfOk result (λ t. text_in t ≡ joined (text_in so_far) (Some (referred (seen tree.now.trees) node m))) }
 {
-    let held = len_of(&so_far);
-    room.hold(held)?;
-    let text = referred(alloc, room, tree, node, m)?;
-    room.fits(text.len())?;
-    room.release(held);
+    let left = room.less(len_of(&so_far))?;
+    let text = referred(alloc, left, nested, tree, node, m)?;
+    left.less(text.len())?;
     with_text(alloc, so_far, text.as_str())
 }
 
 // What the elements say that the words of a text find.
 fn all_named(
     alloc: Global,
-    room: &mut Room,
+    room: Room,
+    nested: &mut Nested,
     tree: &Tree,
     node: NodeId,
     text: &str,
@@ -103,7 +104,7 @@ fn all_named(
     let mut so_far = None;
     let mut rest = text;
     while let Some((m, later)) = first_found(tree, rest) {
-        so_far = with_referred(alloc, room, tree, node, so_far, m)?;
+        so_far = with_referred(alloc, room, nested, tree, node, so_far, m)?;
         rest = later;
     }
     Ok(text_of(alloc, so_far))
@@ -112,7 +113,8 @@ fn all_named(
 // What the elements say that aria-labelledby finds.
 fn labelled_by(
     alloc: Global,
-    room: &mut Room,
+    room: Room,
+    nested: &mut Nested,
     tree: &Tree,
     node: NodeId,
     row: &Row,
@@ -120,13 +122,17 @@ fn labelled_by(
     ensures { IfOk result (λ t. t ≡ all_referred (seen tree.now.trees) node (found (seen tree.now.trees) (named_by aria.Labelledby (seen_row row.now)))) }
 {
     let words = text_at(row, Attribute::Aria(AriaAttr::Labelledby));
-    all_named(alloc, room, tree, node, words)
+    if words.is_empty() {
+        return Ok(Text::new(alloc));
+    }
+    all_named(alloc, room, nested, tree, node, words)
 }
 
 // What the labels of a node say.
 fn labels(
     alloc: Global,
-    room: &mut Room,
+    room: Room,
+    nested: &mut Nested,
     tree: &Tree,
     node: NodeId,
     row: &Row,
@@ -136,7 +142,7 @@ fn labels(
     let labels = labels_of(alloc, tree, row.id)?;
     let mut so_far = None;
     for label in labels.as_slice() {
-        so_far = with_referred(alloc, room, tree, node, so_far, *label)?;
+        so_far = with_referred(alloc, room, nested, tree, node, so_far, *label)?;
     }
     Ok(text_of(alloc, so_far))
 }
@@ -144,18 +150,17 @@ fn labels(
 /// What references say of a row that isn't asked for its content, in the name of a node.
 pub(crate) fn labelled_of(
     alloc: Global,
-    room: &mut Room,
+    room: Room,
+    nested: &mut Nested,
     tree: &Tree,
     node: NodeId,
     row: &Row,
 ) -> Result<Told, OutOfMemory>
     ensures { IfOk result (λ told. told ≡ labelled_of (seen tree.now.trees) node (seen_row row.now)) }
 {
-    let labelled_by = labelled_by(alloc, room, tree, node, row)?;
-    let held = labelled_by.len();
-    room.hold(held)?;
-    let labels = labels(alloc, room, tree, node, row)?;
-    room.release(held);
+    let labelled_by = labelled_by(alloc, room, nested, tree, node, row)?;
+    let left = room.less(labelled_by.len())?;
+    let labels = labels(alloc, left, nested, tree, node, row)?;
     Ok(Told {
         labelled_by,
         labels,
@@ -166,28 +171,22 @@ pub(crate) fn labelled_of(
 // What references say of a row, in the name of a node.
 fn told_of(
     alloc: Global,
-    room: &mut Room,
+    room: Room,
+    nested: &mut Nested,
     tree: &Tree,
     scope: Scope,
     row: &Row,
 ) -> Result<Told, OutOfMemory>
-    ensures { IfOk result (λ told. told ≡ told_of (seen tree.now.trees) scope.node scope.hidden (seen_row row.now)) }
+    ensures tells { IfOk result (λ told. told ≡ told_of (seen tree.now.trees) scope.node scope.hidden (seen_row row.now)) }
+    ensures fits { IfOk result (λ told. told_length told ≤ room.bytes) }
 {
-    let labelled = labelled_of(alloc, room, tree, scope.node, row)?;
-    let held = labelled.len();
-    room.hold(held)?;
-    let owned = all_followed(alloc, room, tree, scope, row)?;
-    room.release(held);
-    let Told {
-        labelled_by,
-        labels,
-        ..
-    } = labelled;
-    Ok(Told {
-        labelled_by,
-        labels,
-        owned,
-    })
+    let mut told = labelled_of(alloc, room, nested, tree, scope.node, row)?;
+    if has(row, Attribute::Aria(AriaAttr::Owns)) {
+        let left = told.within(room)?;
+        told.owned = all_followed(alloc, left, nested, tree, scope, row)?;
+    }
+    told.within(room)?;
+    Ok(told)
 }
 
 /// All references of a page, for the name of one node.
@@ -203,11 +202,12 @@ impl References for OnPage<'_> {
     fn told(
         &self,
         alloc: Global,
-        room: &mut Room,
+        room: Room,
+        nested: &mut Nested,
         row: &Row,
         _below: &Branches<'_>,
         _above: &Above<'_>,
     ) -> Result<Told, OutOfMemory> {
-        told_of(alloc, room, self.tree, self.scope, row)
+        told_of(alloc, room, nested, self.tree, self.scope, row)
     }
 }

@@ -1,4 +1,4 @@
-ghost use Rattle.std.specs.Prelude.{◌≡◌, ◌&&◌, Some, None, true, if◌then◌else◌, IfOk};
+ghost use Rattle.std.specs.Prelude.{◌≡◌, ◌&&◌, [], length, Some, None, true, if◌then◌else◌, unwrap_or, IfOk};
 ghost use Rattle.texts.specs.Words.{blank};
 ghost use Rattle.acc_tree.specs.Seen.{seen_row};
 ghost use Rattle.acc_name.specs.declared.captions.Caption.TheVariants as caption;
@@ -102,7 +102,9 @@ impl Aside {
     }
 
     /// How many bytes of text it holds: those that the chosen options say.
-    pub(crate) fn len(&self) -> usize {
+    pub(crate) fn len(&self) -> usize
+        ensures { result ≡ length (unwrap_or (text_in self.now.chosen) []) }
+    {
         match &self.chosen {
             Some(text) => text.len(),
             None => 0,

@@ -1,7 +1,8 @@
-ghost use Rattle.std.specs.Prelude.{◌≡◌, ◌||◌, false, IfOk};
+ghost use Rattle.std.specs.Prelude.{◌≡◌, ◌||◌, ◌≤◌, length, false, IfOk};
 ghost use Rattle.std.specs.Option.{is_some};
 ghost use Rattle.acc_tree.specs.Seen.{seen_row, seen};
 ghost use Rattle.acc_name.specs.declared.named.How.TheVariants as how;
+ghost use Rattle.acc_name.specs.declared.room.TheConstants.{MOST_NAME_BYTES};
 ghost use Rattle.acc_name.specs.Hosts.{caption_of};
 ghost use Rattle.acc_name.specs.Names.{asks_content, nothing_heard, said, own_text, named, name_of};
 ghost use Rattle.acc_name.specs.Voices.{labelled_of};
@@ -12,7 +13,7 @@ use crate::following::{OnPage, labelled_of};
 use crate::heard::Inner;
 use crate::hosts::{caption_in, host_of};
 use crate::named::{How, Name, NameSource};
-use crate::room::Room;
+use crate::room::{Nested, Room};
 use crate::telling::spoken;
 use crate::tidying::tidied;
 use crate::told::Scope;
@@ -47,7 +48,8 @@ fn asking(alloc: Global, tree: &Tree, n: NodeId) -> Result<Name, OutOfMemory>
         alloc,
         &OnPage { tree, scope },
         scope,
-        &mut Room::whole(),
+        Room::whole(),
+        &mut Nested::whole(),
         How::Own,
         sight,
     )
@@ -67,7 +69,8 @@ fn alone(
         node,
         hidden: false,
     };
-    let told = labelled_of(alloc, &mut Room::whole(), tree, node, row)?;
+    let nested = &mut Nested::whole();
+    let told = labelled_of(alloc, Room::whole(), nested, tree, node, row)?;
     let mut content = String::new(alloc);
     let nothing = Inner {
         chosen: &None,
@@ -77,7 +80,7 @@ fn alone(
     let said = say(
         alloc,
         scope,
-        told,
+        &told,
         How::Own,
         role,
         row,
@@ -119,9 +122,11 @@ fn own_text(alloc: Global, tree: &Tree, n: NodeId) -> Result<Name, OutOfMemory>
 /// [`MOST_NAME_BYTES`](crate::MOST_NAME_BYTES) bytes of text would be held at once, or where the `select`
 /// elements within others say more than [`MOST_NESTED_BYTES`](crate::MOST_NESTED_BYTES) bytes.
 pub fn name(alloc: Global, tree: &Tree, n: NodeId) -> Result<Name, OutOfMemory>
-    ensures { IfOk result (λ name. name ≡ name_of (seen tree.now.trees) n) }
+    ensures names { IfOk result (λ name. name ≡ name_of (seen tree.now.trees) n) }
+    ensures fits { IfOk result (λ name. length name.text ≤ MOST_NAME_BYTES) }
 {
     let Name { text, source } = own_text(alloc, tree, n)?;
     let text = tidied(alloc, text)?;
+    Room::whole().less(text.len())?;
     Ok(named(alloc, source, text))
 }

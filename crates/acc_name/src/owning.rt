@@ -7,7 +7,7 @@ ghost use Rattle.acc_name.specs.Names.{followed_text, all_followed};
 use crate::named::How;
 use crate::placing::push_placed;
 use crate::references::Untold;
-use crate::room::Room;
+use crate::room::{Nested, Room};
 use crate::telling::spoken;
 use crate::told::Scope;
 use acc_tree::{Sight, follows, sight_of};
@@ -18,7 +18,8 @@ use std::alloc::Global;
 // followed there.
 fn push_followed(
     alloc: Global,
-    room: &mut Room,
+    room: Room,
+    nested: &mut Nested,
     scope: Scope,
     sight: Sight<'_>,
     text: &mut String,
@@ -26,18 +27,17 @@ fn push_followed(
     ensures { OnOk result (string_bytes text.new ≡ string_bytes text.old ++ followed_text scope.node scope.hidden (seen_sight sight.entry)) }
 {
     let row = sight.row;
-    let held = text.len();
-    room.hold(held)?;
-    let name = spoken(alloc, &Untold, scope, room, How::Inner, sight)?;
-    room.fits(name.text.len())?;
-    room.release(held);
+    let left = room.less(text.len())?;
+    let name = spoken(alloc, &Untold, scope, left, nested, How::Inner, sight)?;
+    left.less(name.text.len())?;
     push_placed(text, row, name.text.as_str())
 }
 
 /// What the elements say within a name that a node follows by aria-owns, in the order of its words.
 pub(crate) fn all_followed(
     alloc: Global,
-    room: &mut Room,
+    room: Room,
+    nested: &mut Nested,
     tree: &Tree,
     scope: Scope,
     row: &Row,
@@ -48,7 +48,7 @@ pub(crate) fn all_followed(
     let mut text = String::new(alloc);
     for node in nodes.as_slice() {
         if let Some(sight) = sight_of(tree, *node) {
-            push_followed(alloc, room, scope, sight, &mut text)?;
+            push_followed(alloc, room, nested, scope, sight, &mut text)?;
         }
     }
     Ok(Text::from_string(text))

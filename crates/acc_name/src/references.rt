@@ -1,12 +1,12 @@
-ghost use Rattle.std.specs.Prelude.{◌≡◌, IfOk};
+ghost use Rattle.std.specs.Prelude.{◌≡◌, ◌≤◌, IfOk};
 ghost use Rattle.snap_tree.specs.Trees.{Trees};
 ghost use Rattle.acc_tree.specs.Sights.{Sight};
 ghost use Rattle.acc_tree.specs.Seen.{seen};
 ghost use Rattle.acc_name.specs.declared.told.Told.{Told};
 ghost use Rattle.acc_name.specs.Names.{untold, told_by};
-ghost use Rattle.acc_name.specs.Voices.{seen_at};
+ghost use Rattle.acc_name.specs.Voices.{seen_at, told_length};
 
-use crate::room::Room;
+use crate::room::{Nested, Room};
 use crate::told::Told;
 use acc_tree::Above;
 use snap_tree::{Branches, NodeId, OutOfMemory, Row, Text, Tree};
@@ -20,12 +20,14 @@ pub(crate) trait References {
     fn told(
         &self,
         alloc: Global,
-        room: &mut Room,
+        room: Room,
+        nested: &mut Nested,
         row: &Row,
         below: &Branches<'_>,
         above: &Above<'_>,
     ) -> Result<Told, OutOfMemory>
-        ensures { IfOk result (λ told. told ≡ tells self.now (seen_at row.now below.now above.now)) };
+        ensures tells { IfOk result (λ told. told ≡ tells self.now (seen_at row.now below.now above.now)) }
+        ensures fits { IfOk result (λ told. told_length told ≤ room.bytes) };
 }
 
 /// Within a reference no other is followed.
@@ -38,7 +40,8 @@ impl References for Untold {
     fn told(
         &self,
         alloc: Global,
-        _room: &mut Room,
+        _room: Room,
+        _nested: &mut Nested,
         _row: &Row,
         _below: &Branches<'_>,
         _above: &Above<'_>,

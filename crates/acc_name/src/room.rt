@@ -1,3 +1,6 @@
+ghost use Rattle.std.specs.Prelude.{◌≡◌, ◌+◌, ◌<◌, IfOk, OnOk, OnErr};
+ghost use Rattle.acc_name.specs.declared.room.TheConstants.{MOST_NAME_BYTES, MOST_NESTED_BYTES};
+
 use snap_tree::OutOfMemory;
 
 /// The most bytes of text that are held at once while one name is made, what references and selected
@@ -12,51 +15,57 @@ pub const MOST_NAME_BYTES: usize = 67_108_864;
 pub const MOST_NESTED_BYTES: usize = 65_536;
 
 /// How many more bytes of text a name in the making may hold.
-#[derive(Debug, Drop)]
+#[derive(Clone, Copy, Debug)]
 pub(crate) struct Room {
-    bytes: usize,
-    nested: usize,
+    pub(crate) bytes: usize,
 }
 
 impl Room {
     /// The room that each name begins with.
-    pub(crate) const fn whole() -> Self {
+    pub(crate) const fn whole() -> Self
+        ensures { result.bytes ≡ MOST_NAME_BYTES }
+    {
         Room {
             bytes: MOST_NAME_BYTES,
-            nested: MOST_NESTED_BYTES,
         }
     }
 
-    /// It wants memory where so many bytes don't fit.
-    pub(crate) fn fits(&self, bytes: usize) -> Result<(), OutOfMemory> {
-        if bytes <= self.bytes {
-            Ok(())
-        } else {
-            Err(OutOfMemory)
-        }
-    }
-
-    /// Takes so many bytes until they are given back; it wants memory where they don't fit.
-    pub(crate) fn hold(&mut self, bytes: usize) -> Result<(), OutOfMemory> {
+    /// What is left while so many bytes are held; it wants memory where they don't fit.
+    pub(crate) fn less(self, bytes: usize) -> Result<Self, OutOfMemory>
+        ensures left { IfOk result (λ left. left.bytes + bytes ≡ self.bytes) }
+        ensures full { OnErr result (self.bytes < bytes) }
+    {
         match self.bytes.checked_sub(bytes) {
-            Some(left) => {
-                self.bytes = left;
-                Ok(())
-            }
+            Some(bytes) => Ok(Room { bytes }),
             None => Err(OutOfMemory),
         }
     }
+}
 
-    /// Gives back what was held.
-    pub(crate) fn release(&mut self, bytes: usize) {
-        self.bytes = self.bytes.saturating_add(bytes);
+/// How many more bytes the `select` elements within others may say in a name in the making.
+#[derive(Debug, Drop)]
+pub(crate) struct Nested {
+    pub(crate) bytes: usize,
+}
+
+impl Nested {
+    /// What each name begins with.
+    pub(crate) const fn whole() -> Self
+        ensures { result.bytes ≡ MOST_NESTED_BYTES }
+    {
+        Nested {
+            bytes: MOST_NESTED_BYTES,
+        }
     }
 
     /// Counts what a `select` within another says; it wants memory where that doesn't fit.
-    pub(crate) fn nest(&mut self, bytes: usize) -> Result<(), OutOfMemory> {
-        match self.nested.checked_sub(bytes) {
+    pub(crate) fn count(&mut self, bytes: usize) -> Result<(), OutOfMemory>
+        ensures left { OnOk result (self.new.bytes + bytes ≡ self.old.bytes) }
+        ensures full { OnErr result (self.old.bytes < bytes) }
+    {
+        match self.bytes.checked_sub(bytes) {
             Some(left) => {
-                self.nested = left;
+                self.bytes = left;
                 Ok(())
             }
             None => Err(OutOfMemory),

@@ -1,4 +1,4 @@
-ghost use Rattle.std.specs.Prelude.{◌≡◌, ◌++◌, ◌&&◌, ◌≤◌, take, drop, Some, None, if◌then◌else◌, IfOk, OnOk, IsUtf8, IsCharBoundary};
+ghost use Rattle.std.specs.Prelude.{◌≡◌, ◌++◌, ◌&&◌, ◌+◌, ◌≤◌, [], length, unwrap_or, take, drop, Some, None, if◌then◌else◌, IfOk, OnOk, IsUtf8, IsCharBoundary};
 ghost use Rattle.std.specs.String.{string_bytes};
 ghost use Rattle.texts.specs.Words.{blank};
 ghost use Rattle.acc_tree.specs.Seen.{seen_row, seen};
@@ -15,7 +15,7 @@ use crate::heard::{Aside, Inner};
 use crate::named::{How, Name};
 use crate::placing::{Stand, keep, part_before, place_of};
 use crate::references::References;
-use crate::room::Room;
+use crate::room::{Nested, Room};
 use crate::tags::is_select;
 use crate::told::{Scope, Told, Wanted};
 use acc_tree::{Above, Sight, html_tag, role_at, under};
@@ -29,7 +29,7 @@ fn settle(
     alloc: Global,
     scope: Scope,
     wanted: Wanted,
-    told: Told,
+    told: &Told,
     role: Option<Role>,
     row: &Row,
     inner: Aside,
@@ -41,11 +41,11 @@ fn settle(
     requires mark { IsCharBoundary (string_bytes content.old) stand.mark }
     requires order { stand.start ≤ stand.mark }
     requires blank { inner.is_blank ≡ blank (drop stand.mark (string_bytes content.old)) }
-    ensures content { OnOk result (string_bytes content.new ≡ settled stand.place stand.start (seen_row row.now) (take stand.mark (string_bytes content.old)) (says_within scope told role (seen_row row.now) inner (drop stand.mark (string_bytes content.old)))) }
-    ensures utf8 { OnOk result (IsUtf8 (says_within scope told role (seen_row row.now) inner (drop stand.mark (string_bytes content.old)))) }
-    ensures chosen { IfOk result (λ aside. text_in aside.chosen ≡ asked_for wanted.chosen (joined (text_in so_far.chosen) (joined (if is_chosen (seen_row row.now) then Some (says_within scope told role (seen_row row.now) inner (drop stand.mark (string_bytes content.old))) else None) (text_in inner.chosen)))) }
-    ensures caption { IfOk result (λ aside. aside.caption ≡ caption_or so_far.caption (captioning (is_captioning wanted.caption (seen_row row.now)) (blank (says_within scope told role (seen_row row.now) inner (drop stand.mark (string_bytes content.old)))))) }
-    ensures blank { IfOk result (λ aside. aside.is_blank ≡ (so_far.is_blank && blank (says_within scope told role (seen_row row.now) inner (drop stand.mark (string_bytes content.old))))) }
+    ensures content { OnOk result (string_bytes content.new ≡ settled stand.place stand.start (seen_row row.now) (take stand.mark (string_bytes content.old)) (says_within scope told.now role (seen_row row.now) inner (drop stand.mark (string_bytes content.old)))) }
+    ensures utf8 { OnOk result (IsUtf8 (says_within scope told.now role (seen_row row.now) inner (drop stand.mark (string_bytes content.old)))) }
+    ensures chosen { IfOk result (λ aside. text_in aside.chosen ≡ asked_for wanted.chosen (joined (text_in so_far.chosen) (joined (if is_chosen (seen_row row.now) then Some (says_within scope told.now role (seen_row row.now) inner (drop stand.mark (string_bytes content.old))) else None) (text_in inner.chosen)))) }
+    ensures caption { IfOk result (λ aside. aside.caption ≡ caption_or so_far.caption (captioning (is_captioning wanted.caption (seen_row row.now)) (blank (says_within scope told.now role (seen_row row.now) inner (drop stand.mark (string_bytes content.old)))))) }
+    ensures blank { IfOk result (λ aside. aside.is_blank ≡ (so_far.is_blank && blank (says_within scope told.now role (seen_row row.now) inner (drop stand.mark (string_bytes content.old))))) }
 {
     let Aside {
         chosen,
@@ -76,9 +76,9 @@ fn settle(
 }
 
 // Counts what the chosen options say below a `select` that stands within another.
-fn nest(room: &mut Room, wanted: Wanted, row: &Row, inner: &Aside) -> Result<(), OutOfMemory> {
+fn nest(nested: &mut Nested, wanted: Wanted, row: &Row, inner: &Aside) -> Result<(), OutOfMemory> {
     if wanted.chosen & is_select(html_tag(row)) {
-        room.nest(inner.len())
+        nested.count(inner.len())
     } else {
         Ok(())
     }
@@ -91,7 +91,8 @@ fn hear<'a, R: References>(
     alloc: Global,
     references: &R,
     scope: Scope,
-    room: &mut Room,
+    room: Room,
+    nested: &mut Nested,
     above: &Above<'a>,
     wanted: Wanted,
     trees: Branches<'a>,
@@ -101,43 +102,40 @@ fn hear<'a, R: References>(
     ensures chosen { IfOk result (λ aside. text_in aside.chosen ≡ asked_for wanted.chosen (heard (asked_of scope (R.tells references.now)) above.now wanted.caption (seen trees.entry)).chosen) }
     ensures caption { IfOk result (λ aside. aside.caption ≡ weighed (heard (asked_of scope (R.tells references.now)) above.now wanted.caption (seen trees.entry)).caption) }
     ensures blank { IfOk result (λ aside. aside.is_blank ≡ blank (kept (heard (asked_of scope (R.tells references.now)) above.now wanted.caption (seen trees.entry)))) }
+    ensures fits { IfOk result (λ aside. length (string_bytes content.new) + length (unwrap_or (text_in aside.chosen) []) ≤ room.bytes) }
 {
     let start = content.as_str().len();
     let mut so_far = Aside::nothing();
     let mut rest = trees;
     while let Some(branch) = rest.first() {
         let row = branch.row;
-        let before = content.len().saturating_add(so_far.len());
-        room.hold(before)?;
-        let told = references.told(alloc, room, row, &branch.kids, above)?;
-        room.release(before);
+        let around = room.less(so_far.len())?;
+        let before = around.less(content.len())?;
+        let told = references.told(alloc, before, nested, row, &branch.kids, above)?;
         let place = place_of(so_far.caption, wanted.caption, row);
         part_before(content, place, row)?;
         let mark = content.as_str().len();
         let stand = Stand { place, start, mark };
         let beneath = under(above, row);
-        let held = so_far.len().saturating_add(told.len());
-        room.hold(held)?;
         let inner = hear(
             alloc,
             references,
             scope,
-            room,
+            told.within(around)?,
+            nested,
             &beneath,
             wanted.below(row),
             branch.kids,
             content,
         )?;
-        room.fits(content.len().saturating_add(inner.len()))?;
-        room.release(held);
-        nest(room, wanted, row, &inner)?;
+        nest(nested, wanted, row, &inner)?;
         let role = role_at(above, row);
         so_far = settle(
-            alloc, scope, wanted, told, role, row, inner, so_far, stand, content,
+            alloc, scope, wanted, &told, role, row, inner, so_far, stand, content,
         )?;
         rest = branch.after;
     }
-    room.fits(content.len().saturating_add(so_far.len()))?;
+    room.less(content.len())?.less(so_far.len())?;
     Ok(so_far)
 }
 
@@ -146,29 +144,28 @@ pub(crate) fn spoken<R: References>(
     alloc: Global,
     references: &R,
     scope: Scope,
-    room: &mut Room,
+    room: Room,
+    nested: &mut Nested,
     how: How,
     sight: Sight<'_>,
 ) -> Result<Name, OutOfMemory>
     ensures { IfOk result (λ name. name ≡ spoken (asked_of scope (R.tells references.now)) how (seen_sight sight.entry)) }
 {
     let Sight { row, below, above } = sight;
-    let told = references.told(alloc, room, row, &below, &above)?;
+    let told = references.told(alloc, room, nested, row, &below, &above)?;
     let beneath = under(&above, row);
     let mut content = String::new(alloc);
-    let held = told.len();
-    room.hold(held)?;
     let inner = hear(
         alloc,
         references,
         scope,
-        room,
+        told.within(room)?,
+        nested,
         &beneath,
         Wanted::nothing().below(row),
         below,
         &mut content,
     )?;
-    room.release(held);
     let Aside {
         chosen,
         caption,
@@ -180,7 +177,7 @@ pub(crate) fn spoken<R: References>(
         is_blank,
     };
     let role = role_at(&above, row);
-    let said = say(alloc, scope, told, how, role, row, inner, 0, &mut content)?;
+    let said = say(alloc, scope, &told, how, role, row, inner, 0, &mut content)?;
     Ok(Name {
         text: Text::from_string(content),
         source: said.source,

@@ -1,11 +1,12 @@
-ghost use Rattle.std.specs.Prelude.{◌≡◌, false, None};
+ghost use Rattle.std.specs.Prelude.{◌≡◌, ◌+◌, false, None, IfOk};
 ghost use Rattle.acc_tree.specs.Seen.{seen_row};
-ghost use Rattle.acc_name.specs.Voices.{wanted_below};
+ghost use Rattle.acc_name.specs.Voices.{wanted_below, told_length};
 
 use crate::hosts::{CaptionKind, caption_in, host_of};
+use crate::room::Room;
 use crate::tags::is_select;
 use acc_tree::html_tag;
-use snap_tree::{NodeId, Row, Text};
+use snap_tree::{NodeId, OutOfMemory, Row, Text};
 
 /// What references say of a node.
 #[derive(Drop)]
@@ -19,10 +20,13 @@ pub(crate) struct Told {
 }
 
 impl Told {
-    /// How many bytes of text it holds.
-    pub(crate) fn len(&self) -> usize {
-        let labelled = self.labelled_by.len().saturating_add(self.labels.len());
-        labelled.saturating_add(self.owned.len())
+    /// What is left of a room while it is held.
+    pub(crate) fn within(&self, room: Room) -> Result<Room, OutOfMemory>
+        ensures { IfOk result (λ left. left.bytes + told_length self.now ≡ room.bytes) }
+    {
+        let beside = room.less(self.labelled_by.len())?;
+        let left = beside.less(self.labels.len())?;
+        left.less(self.owned.len())
     }
 }
 

@@ -1,5 +1,6 @@
 ghost use Rattle.std.specs.Prelude.{◌≡◌, ◌≤◌, IfOk};
 ghost use Rattle.streams.specs.Streams.{ReadsAtMost};
+ghost use Rattle.audit_run.specs.declared.auditing.TheConstants.{MOST_READ};
 ghost use Rattle.audit_run.specs.Telling.{status_of, writing_of};
 ghost use Rattle.audit_run.specs.Audit.{report_of, has_failed, fails, IsFoundIn, AuditCause};
 
@@ -16,6 +17,12 @@ use streams::{ReadFault, Source, read_all};
 
 /// How many bytes an audit reads at most: one more than a snapshot may have.
 pub const MOST_READ: usize = MOST_SNAPSHOT_BYTES + 1;
+
+/// How many bytes an audit reads at most, as a number, since definitions name the constant. It does nothing: the
+/// clause is what it is for.
+pub fn laws_of_limits()
+    ensures read { MOST_READ ≡ 8388609 }
+{}
 
 /// Reads one snapshot to the end of the source, or to the 8,388,609th byte, and judges it by a book.
 #[tactic(auto, using(crate::proofs::Causes::audited))]

@@ -9,7 +9,7 @@ mod found;
 mod status;
 mod telling;
 
-pub use auditing::{MOST_READ, audit};
+pub use auditing::{MOST_READ, audit, laws_of_limits};
 pub use fault_lines::fault_line;
 pub use found::Found;
 pub use status::Status;

@@ -1,5 +1,5 @@
 -- How a request is answered: by the machine's reply, or for want of memory, where nothing changed.
-use Rattle.std.proofs.Common.{◌≡◌, ℕ, ◌+◌, ◌<◌, ◌≤◌, ◌⊎◌, inl, inr, List, ◌++◌, take, drop, map, Bool, true, false, Option, Some, Result, Ok, Err, OnOk, OnErr, refl, sym, ap, ◌∙◌, subst, arith}
+use Rattle.std.proofs.Common.{◌≡◌, ℕ, ◌+◌, ◌<◌, ◌≤◌, inl, inr, List, ◌++◌, take, drop, map, Bool, true, false, Option, Some, None, Result, Ok, Err, OnOk, OnErr, refl, sym, ap, ◌∙◌, subst, arith}
 use Rattle.std.specs.Prelude.{sum, sum_by}
 use Rattle.std.proofs.lemmas.List.{drop-map, take-append-drop}
 use Rattle.std.proofs.lemmas.List.Sums.{sum-map}
@@ -16,10 +16,10 @@ use Rattle.desk_core.specs.declared.refusal.Refusal.{Refusal}
 use Rattle.desk_core.specs.declared.refusal.Refusal.TheVariants.{KeeperFault, OutOfMemory}
 use Rattle.desk_core.specs.declared.reply.Reply.{Reply}
 use Rattle.desk_core.specs.declared.reply.Reply.TheVariants.{Refused}
-use Rattle.desk_core.specs.State.{State, state_of}
-use Rattle.desk_core.specs.Steps.{Request}
+use Rattle.desk_core.specs.State.{State, state_of, site_at}
+use Rattle.desk_core.specs.Steps.{Request, site_of}
 use Rattle.desk_core.specs.Fitting.{FitsRequest}
-use Rattle.desk_core.specs.Costs.{IsImport, UsesFirst, Costs}
+use Rattle.desk_core.specs.Costs.{IsImport, IsEdit, UsesFirst, Costs, command_judgings, most_judgings}
 use Rattle.desk_core.specs.Runs.{Answers}
 use Rattle.desk_core.specs.Serving as machine
 use Rattle.http_messages.specs.declared.item.Sent.{Sent}
@@ -35,11 +35,15 @@ use Rattle.http_replies.specs.declared.answer.Answer.TheVariants.{Misread, Misas
 use Rattle.http_replies.specs.Made.{is_made}
 use Rattle.http_replies.specs.Answers.{answer_bytes, no_memory}
 use Rattle.desk_http.specs.Printed.{PrintsReply}
-use Rattle.desk_http.specs.Answering.{as_request, GetsRefusal, AnswersMessage, message_judgings, MessageGets, Gets, Refuses, MessageSpares}
+use Rattle.desk_http.specs.Answering.{as_request, GetsRefusal, AnswersMessage, message_judgings, sent_most, sent_alone, AsksForEdits, MessageGets, Gets, Refuses, MessageSpares}
 use Rattle.desk_http.specs.Desk.{Moment}
-use Rattle.desk_http.specs.Serving.{OthersRest, AnsweredBy, Settles, Responds, RespondsTo, IsEither, WritesAll, ServesItem}
+use Rattle.desk_http.specs.Serving.{OthersRest, JudgesAtMost, MessageJudges, AnsweredBy, Settles, Responds, RespondsTo, IsEither, WritesAll, ServesItem}
 use Rattle.desk_http.proofs.Moments.{told_at}
 use Rattle.desk_http.proofs.Quiet.{unmade_keeps, unmade_stays}
+
+-- no book judged
+judges_none : (most : State → ℕ) (Edits : Type 0) (alone : ℕ) (here : Moment) → JudgesAtMost most Edits alone here here
+judges_none most Edits alone here = record { told = λ s t was is. omega arith; untold = λ none. omega arith }
 
 -- ---- a request
 
@@ -55,17 +59,26 @@ costs_of book q old new calls before now costs =
     let Q : ℕ → Type 0 = λ n. Costs book q old new (sum (map calls before)) n in
     subst Q (sym (sum-map calls now)) (subst P (sym (sum-map calls before)) costs)
 
+-- a reply that isn't that to a change comes with the tables kept
+quiet_stays : (book : Book) (q : Request) (old new : Moment) (reply : Reply) → FitsRequest book q → machine.Serves book q (told_at old) (told_at new) reply → is_made reply ≡ false →
+    Stays old.tables new.tables
+quiet_stays book q old new reply fits served unmade t is =
+    let s = served.told t is in
+    s.1 ∙ ap Some (sym (unmade_stays book q s.0 t reply fits unmade (served.changed s.0 t s.1 is)))
+
 -- the machine's reply was printed
 replied : (book : Book) (q : Request) (closes : Bool) (old new : Moment) (reply : Reply) (bytes : List ℕ) →
-    machine.Serves book q (told_at old) (told_at new) reply → Costs book q.command old.tables new.tables (sum old.calls) (sum new.calls) → ((IsImport q.command → ⊥) → OthersRest old.calls new.calls) →
+    FitsRequest book q → machine.Serves book q (told_at old) (told_at new) reply → Costs book q.command old.tables new.tables (sum old.calls) (sum new.calls) → ((IsImport q.command → ⊥) → OthersRest old.calls new.calls) →
     bytes ≡ answer_bytes book.infos (Replied reply) closes → RespondsTo book q closes old new bytes
-replied book q closes old new reply bytes served costs others printed = record {
+replied book q closes old new reply bytes fits served costs others printed = record {
   reply = reply;
   bytes_are = printed;
   told = λ t is. let s = served.told t is in (s.0, s.1, λ sound. let z = s.2 sound in (z.0, (z.1, costs.told s.0 t s.1 is sound)));
+  counted = record { told = costs.most; untold = costs.untold };
   never_falls = served.never_falls;
   failed = served.failed;
   refused = served.refused;
+  unchanged = quiet_stays book q old new reply fits served;
   others = others;
 }
 
@@ -94,11 +107,11 @@ unprinted book q closes old new reply bytes fits unmade served costs others full
             let z = s.2 sound in
             (z.0, (answers_full book (state_of s.0) (state_of t) q reply old.faults new.faults fits unmade z.1, costs.told s.0 t s.1 is sound)),
       );
+  counted = record { told = costs.most; untold = costs.untold };
   never_falls = served.never_falls;
   failed = no_fault old.faults new.faults;
-  refused = λ refusal same t is.
-      let s = served.told t is in
-      s.1 ∙ ap Some (sym (unmade_stays book q s.0 t reply fits unmade (served.changed s.0 t s.1 is)));
+  refused = λ refusal same. quiet_stays book q old new reply fits served unmade;
+  unchanged = λ none. quiet_stays book q old new reply fits served unmade;
   others = others;
 }
 
@@ -107,7 +120,7 @@ pub answered : (book : Book) (q : Request) (closes : Bool) (old new : Moment) (r
     FitsRequest book q → machine.Serves book q (told_at old) (told_at new) reply → Costs book q.command old.tables new.tables (sum old.calls) (sum new.calls) →
     ((IsImport q.command → ⊥) → OthersRest old.calls new.calls) → PrintsReply book.infos reply closes bytes → RespondsTo book q closes old new bytes
 answered book q closes old new reply bytes fits served costs others (inl printed) =
-    replied book q closes old new reply bytes served costs others printed
+    replied book q closes old new reply bytes fits served costs others printed
 answered book q closes old new reply bytes fits served costs others (inr (unmade, full)) =
     unprinted book q closes old new reply bytes fits unmade served costs others full
 
@@ -118,9 +131,11 @@ unhandled book q closes here bytes full = record {
   reply = Refused OutOfMemory;
   bytes_are = full;
   told = λ t is. (t, is, λ sound. (sound, (inr (refl, inr refl), omega arith)));
+  counted = judges_none (λ state. most_judgings book q.command (site_at (site_of q.command) state)) (IsEdit q.command) (command_judgings book q.command None) here;
   never_falls = omega arith;
   failed = no_fault here.faults here.faults;
   refused = λ refusal same t is. is;
+  unchanged = λ unmade t is. is;
   others = λ none. refl;
 }
 
@@ -136,9 +151,11 @@ stays : (book : Book) (came : Sent) (a : Answer) (here : Moment) → ((s : Table
     Settles book came a here here
 stays book came a here answers gets = record {
   told = λ t is. (t, is, λ sound. (sound, answers t));
+  counted = judges_none (λ state. sent_most book state came) (AsksForEdits book.infos came) (sent_alone book came) here;
   never_falls = omega arith;
   gets = gets;
   refused = λ refuses t is. is;
+  unchanged = λ unmade t is. is;
   others = λ spares. refl;
 }
 
@@ -215,9 +232,11 @@ asked_so book m asked closes old new bytes made so = record {
             let s = so.told t is in
             let P : Result Asked RequestFault → Type 0 = λ r. ByRequest book r (Replied so.reply) old new s.0 t in
             (s.0, s.1, λ sound. let z = s.2 sound in (z.0, subst P made ((so.reply, refl, z.1.0), z.1.1)));
+        counted = let P : Result Asked RequestFault → Type 0 = λ r. MessageJudges book r old new in subst P made so.counted;
         never_falls = so.never_falls;
         gets = let P : Result Asked RequestFault → Type 0 = λ r. MessageGets r (Replied so.reply) old.faults new.faults in subst P made (so.reply, refl, so.failed);
         refused = refused_as so.reply old.tables new.tables so.refused;
+        unchanged = so.unchanged;
         others = let P : Result Asked RequestFault → Type 0 = λ r. MessageSpares r → OthersRest old.calls new.calls in subst P made so.others;
       };
 }

@@ -1,6 +1,6 @@
 -- What is answered to what comes over a connection, one thing after another: to a head that is refused and to a message
 -- that makes no request their refusals, and to a request what the machine answers.
-use Rattle.std.specs.Prelude.{◌≡◌, ℕ, ◌+◌, ◌≤◌, ◌⊎◌, List, [], ◌∷◌, ◌++◌, Result, Ok, Err}
+use Rattle.std.specs.Prelude.{◌≡◌, ℕ, ◌+◌, ◌≤◌, ◌⊎◌, List, [], ◌∷◌, ◌++◌, false, None, Result, Ok, Err}
 use Rattle.counts.specs.Counts.{Rose}
 use Rattle.rule_core.specs.declared.info.RuleInfo.{RuleInfo}
 use Rattle.rule_core.specs.Books.{Book}
@@ -10,7 +10,7 @@ use Rattle.desk_core.specs.declared.reply.Reply.{Reply}
 use Rattle.desk_core.specs.declared.reply.Reply.TheVariants as reply
 use Rattle.desk_core.specs.State.{State, site_at}
 use Rattle.desk_core.specs.Steps.{Request, site_of}
-use Rattle.desk_core.specs.Costs.{IsImport, command_judgings}
+use Rattle.desk_core.specs.Costs.{IsImport, IsEdit, command_judgings, most_judgings}
 use Rattle.desk_core.specs.Runs as machine
 use Rattle.http_messages.specs.declared.item.Sent.{Sent}
 use Rattle.http_messages.specs.declared.item.Sent.TheVariants.{Asked, Refused}
@@ -20,7 +20,7 @@ use Rattle.http_commands.specs.declared.request.Asked as command
 use Rattle.http_commands.specs.Requests.{request_of}
 use Rattle.http_replies.specs.declared.answer.Answer.{Answer}
 use Rattle.http_replies.specs.declared.answer.Answer.TheVariants.{Misread, Misasked, Replied}
-use Rattle.http_replies.specs.Answers.{answer_bytes, no_memory}
+use Rattle.http_replies.specs.Answers.{answer_bytes, no_memory, is_made_answer}
 
 -- ---- one thing
 
@@ -54,6 +54,32 @@ abbrev pub sent_judgings : Book → State → Sent → ℕ
 sent_judgings book state (Refused fault) = 0
 sent_judgings book state (Asked m) = message_judgings book state (request_of book.infos m.head m.body)
 
+-- the same of any tables, sound or not
+abbrev pub message_most : Book → State → Result command.Asked RequestFault → ℕ
+message_most book state (Err fault) = 0
+message_most book state (Ok asked) = most_judgings book asked.command (site_at (site_of asked.command) state)
+
+abbrev pub sent_most : Book → State → Sent → ℕ
+sent_most book state (Refused fault) = 0
+sent_most book state (Asked m) = message_most book state (request_of book.infos m.head m.body)
+
+-- and of what isn't told, unless it asks for edits
+abbrev pub message_alone : Book → Result command.Asked RequestFault → ℕ
+message_alone book (Err fault) = 0
+message_alone book (Ok asked) = command_judgings book asked.command None
+
+abbrev pub sent_alone : Book → Sent → ℕ
+sent_alone book (Refused fault) = 0
+sent_alone book (Asked m) = message_alone book (request_of book.infos m.head m.body)
+
+abbrev pub MessageEdits : Result command.Asked RequestFault → Type 0
+MessageEdits (Err fault) = ⊥
+MessageEdits (Ok asked) = IsEdit asked.command
+
+abbrev pub AsksForEdits : List RuleInfo → Sent → Type 0
+AsksForEdits infos (Refused fault) = ⊥
+AsksForEdits infos (Asked m) = MessageEdits (request_of infos m.head m.body)
+
 -- ---- one thing, whatever is kept
 
 -- A head that is refused and a message that makes no request get their refusals. A request gets a reply, which is the keeper's
@@ -71,6 +97,10 @@ abbrev pub Refuses : Answer → Type 0
 Refuses (Misread fault) = Unit {0}
 Refuses (Misasked fault) = Unit {0}
 Refuses (Replied r) = (refusal : Refusal) × (r ≡ reply.Refused refusal)
+
+-- the answer is no reply to a change: a refusal, or what a get is answered
+abbrev pub TellsNoChange : Answer → Type 0
+TellsNoChange answer = is_made_answer answer ≡ false
 
 -- it asks for no import
 abbrev pub MessageSpares : Result command.Asked RequestFault → Type 0

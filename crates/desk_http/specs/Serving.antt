@@ -1,6 +1,6 @@
 -- What serving does to a link and to what is kept. A link tells its bytes or doesn't, and a keeper its tables: what is told
 -- afterwards was told before.
-use Rattle.std.specs.Prelude.{◌≡◌, ℕ, ◌+◌, ◌≤◌, ◌⊎◌, Bool, List, ◌++◌, length, drop, sum, Option, Some, Result, Ok, Err}
+use Rattle.std.specs.Prelude.{◌≡◌, ℕ, ◌+◌, ◌≤◌, ◌⊎◌, Bool, false, List, [], ◌∷◌, ◌++◌, length, drop, sum, sum_by, Option, Some, None, Result, Ok, Err}
 use Rattle.std.specs.List.{AllByRecursion}
 use Rattle.counts.specs.Counts.{Rose}
 use Rattle.streams.specs.declared.failed.Failed.{Failed}
@@ -14,18 +14,21 @@ use Rattle.desk_core.specs.declared.refusal.Refusal.{Refusal}
 use Rattle.desk_core.specs.declared.refusal.Refusal.TheVariants.{KeeperFault}
 use Rattle.desk_core.specs.declared.reply.Reply.{Reply}
 use Rattle.desk_core.specs.declared.reply.Reply.TheVariants.{Refused}
-use Rattle.desk_core.specs.State.{state_of, site_at}
+use Rattle.desk_core.specs.State.{State, state_of, site_at}
 use Rattle.desk_core.specs.Steps.{Request, site_of}
-use Rattle.desk_core.specs.Costs.{IsImport, command_judgings}
+use Rattle.desk_core.specs.Costs.{IsImport, IsEdit, command_judgings, most_judgings}
 use Rattle.desk_core.specs.Runs.{Answers}
 use Rattle.desk_core.specs.Soundness.{IsSound}
 use Rattle.http_messages.specs.Talk.{going, Talk}
 use Rattle.http_messages.specs.declared.item.Sent.{Sent}
 use Rattle.http_messages.specs.declared.item.Item.{Item}
+use Rattle.http_routes.specs.declared.fault.RequestFault.{RequestFault}
+use Rattle.http_commands.specs.declared.request.Asked.{Asked}
 use Rattle.http_replies.specs.declared.answer.Answer.{Answer}
 use Rattle.http_replies.specs.declared.answer.Answer.TheVariants.{Replied}
+use Rattle.http_replies.specs.Made.{is_made}
 use Rattle.http_replies.specs.Answers.{answer_bytes}
-use Rattle.desk_http.specs.Answering.{AnswersSent, sent_judgings, Gets, Refuses, SparesOthers, Runs, AllGet}
+use Rattle.desk_http.specs.Answering.{AnswersSent, sent_judgings, message_most, sent_most, message_alone, sent_alone, MessageEdits, AsksForEdits, Gets, Refuses, TellsNoChange, SparesOthers, Runs, AllGet}
 use Rattle.desk_http.specs.Linking.{Exchange, WritesAnswers}
 use Rattle.desk_http.specs.Desk.{Moment}
 use Rattle.desk_http.specs.declared.link_end.LinkEnd.{LinkEnd}
@@ -53,13 +56,32 @@ AnsweredBy book sent answer old new s t =
     AnswersSent book (state_of s) sent answer (state_of t) old.faults new.faults
     × (sum new.calls ≤ sum old.calls + sent_judgings book (state_of s) sent)
 
--- It was answered so: as the machine does where the tables were sound; and whatever is kept, a refusal is the one that is due and
--- leaves the tables, and only an import uses other books than the first.
+-- The books judged so often at the most: where tables are told afterwards, by what was kept, sound or not; and where none are, unless
+-- edits were asked for.
+pub record JudgesAtMost (most : State → ℕ) (Edits : Type 0) (alone : ℕ) (old new : Moment) : Type 0 where
+  pub told : (s t : Tables) → old.tables ≡ Some s → new.tables ≡ Some t → sum new.calls ≤ sum old.calls + most (state_of s)
+  pub untold : (Edits → ⊥) → sum new.calls ≤ sum old.calls + alone
+
+abbrev pub MessageJudges : Book → Result Asked RequestFault → Moment → Moment → Type 0
+MessageJudges book asked old new = JudgesAtMost (λ state. message_most book state asked) (MessageEdits asked) (message_alone book asked) old new
+
+abbrev pub SentJudges : Book → Sent → Moment → Moment → Type 0
+SentJudges book sent old new = JudgesAtMost (λ state. sent_most book state sent) (AsksForEdits book.infos sent) (sent_alone book sent) old new
+
+abbrev pub RequestJudges : Book → Request → Moment → Moment → Type 0
+RequestJudges book request old new =
+    JudgesAtMost (λ state. most_judgings book request.command (site_at (site_of request.command) state)) (IsEdit request.command)
+    (command_judgings book request.command None) old new
+
+-- It was answered so: as the machine does where the tables were sound; and whatever is kept, a refusal is the one that is due,
+-- an answer that tells of no change leaves the tables, judgings are bounded, and only an import uses other books than the first.
 pub record Settles (book : Book) (sent : Sent) (answer : Answer) (old new : Moment) : Type 0 where
   pub told : OfSound book (AnsweredBy book sent answer old new) old.tables new.tables
+  pub counted : SentJudges book sent old new
   pub never_falls : old.faults ≤ new.faults
   pub gets : Gets book.infos sent answer old.faults new.faults
   pub refused : Refuses answer → Stays old.tables new.tables
+  pub unchanged : TellsNoChange answer → Stays old.tables new.tables
   pub others : SparesOthers book.infos sent → OthersRest old.calls new.calls
 
 -- it was answered by these bytes
@@ -79,9 +101,11 @@ pub record RespondsTo (book : Book) (request : Request) (closes : Bool) (old new
   pub reply : Reply
   pub bytes_are : bytes ≡ answer_bytes book.infos (Replied reply) closes
   pub told : OfSound book (RepliedBy book request reply old new) old.tables new.tables
+  pub counted : RequestJudges book request old new
   pub never_falls : old.faults ≤ new.faults
   pub failed : reply ≡ Refused KeeperFault → Rose old.faults new.faults
   pub refused : (refusal : Refusal) → reply ≡ Refused refusal → Stays old.tables new.tables
+  pub unchanged : is_made reply ≡ false → Stays old.tables new.tables
   pub others : (IsImport request.command → ⊥) → OthersRest old.calls new.calls
 
 -- these bytes, or those for want of memory
@@ -112,10 +136,22 @@ pub record Run (book : Book) (items : List Item) (said : List Answer) (old new :
   pub runs : Runs book (state_of s) items said (state_of t) old.faults new.faults most
   pub few : sum new.calls ≤ sum old.calls + most
 
--- They were answered so: as the machine does where the tables were sound; and whatever is kept, each gets the refusal that is due,
--- where all are refused the tables stay, and where none asks for an import only the first book is used.
+-- each of them was answered so, one after another, and between two of them nothing was done
+abbrev pub SettlesEach : Book → List Item → List Answer → Moment → Moment → Type 0
+SettlesEach book [] [] old new = new ≡ old
+SettlesEach book (i ∷ is) (a ∷ said) old new = (mid : Moment) × Settles book i.sent a old mid × SettlesEach book is said mid new
+SettlesEach book [] (a ∷ said) old new = ⊥
+SettlesEach book (i ∷ is) [] old new = ⊥
+
+-- They were answered so: as the machine does where the tables were sound; and whatever is kept, each by itself, each gets the refusal
+-- that is due, where none asks for edits judgings are bounded, where all are refused the tables stay, and where none asks for an
+-- import only the first book is used.
 pub record SettlesAll (book : Book) (items : List Item) (said : List Answer) (old new : Moment) : Type 0 where
   pub told : OfSound book (Run book items said old new) old.tables new.tables
+  pub each : SettlesEach book items said old new
+  pub counted :
+      AllByRecursion (λ (i : Item). AsksForEdits book.infos i.sent → ⊥) items
+      → sum new.calls ≤ sum old.calls + sum_by (λ (i : Item). sent_alone book i.sent) items
   pub get : AllGet book.infos items said old.faults new.faults
   pub refused : AllByRecursion Refuses said → Stays old.tables new.tables
   pub others : AllByRecursion (λ (i : Item). SparesOthers book.infos i.sent) items → OthersRest old.calls new.calls

@@ -3,9 +3,11 @@
 #![tactic(auto)]
 
 mod answering;
+mod laws;
 mod link_end;
 mod printed;
 mod serving;
 
+pub use laws::laws_of_items;
 pub use link_end::LinkEnd;
 pub use serving::{serve, serve_link};

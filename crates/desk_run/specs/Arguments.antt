@@ -1,7 +1,11 @@
--- What the arguments of the program give: the words of a command, or what it finds where they give none.
-use Rattle.std.specs.Prelude.{◌≡◌, ℕ, ◌<◌, List, ◌∷◌, length, Result, Ok, Err}
+-- What the arguments of the program give: where the store is and the words of a command, or what it finds where they
+-- give none.
+use Rattle.std.specs.Prelude.{◌≡◌, ◌<◌, ℕ, List, ◌∷◌, length, codes, if◌then◌else◌, Result, Ok, Err}
+use Rattle.std.specs.Str.{IsUtf8, bytes_eq}
 use Rattle.audit_run.specs.declared.found.Found.{Found}
 use Rattle.audit_run.specs.declared.found.Found.TheVariants.{Usage, StoreFault, NoMemory}
+use Rattle.desk_run.specs.declared.arguments.StorePlace.{StorePlace}
+use Rattle.desk_run.specs.declared.arguments.StorePlace.TheVariants.{Memory, File}
 
 -- what the program may find before it runs a command
 abbrev pub IsRefusal : Found → Type 0
@@ -9,6 +13,17 @@ IsRefusal Usage = Unit {0}
 IsRefusal StoreFault = Unit {0}
 IsRefusal NoMemory = Unit {0}
 IsRefusal other = ⊥
+
+-- the store of this name: `-` is the program's memory, and all else is a file
+abbrev pub place_of : List ℕ → StorePlace
+place_of name = if bytes_eq name (codes "-") then Memory else File name
+
+-- where the store is that these bytes name; bytes that are no text name none
+abbrev pub Places : List ℕ → Result StorePlace Found → Type 0
+Places name (Ok place) = place ≡ place_of name
+Places name (Err StoreFault) = ¬ (IsUtf8 name)
+Places name (Err NoMemory) = Unit {0}
+Places name (Err other) = ⊥
 
 -- the arguments name the program and the store, and then one word or more
 pub record NamesWords (args words : List (List ℕ)) : Type 0 where

@@ -1,7 +1,7 @@
 ghost use Rattle.std.specs.Prelude.{◌≡◌, ◌<◌, length, map, IfOk, IfErr};
 ghost use Rattle.std.specs.String.{string_bytes};
 ghost use Rattle.std.specs.Vec.Iter.{into_iter_items};
-ghost use Rattle.desk_run.specs.Arguments.{IsRefusal, Starts};
+ghost use Rattle.desk_run.specs.Arguments.{IsRefusal, Places, Starts};
 
 use audit_run::Found;
 use snap_tree::{List, OutOfMemory, Text};
@@ -34,6 +34,7 @@ pub struct Task {
 /// What a program's arguments give: the store's place, and the words of a command. The store's name is looked at first:
 /// where it is no text, or is longer than a path may be, that is a fault of the store, whatever stands behind it. It isn't
 /// opened here, so that nothing is made on a disk where words are missing.
+/// No contract can say what the arguments are: `store_named` and `words_in` say what each gives.
 pub fn read_arguments<R: Env + AllocGlobal>(rt: &R) -> Result<Task, Found>
     ensures some { IfOk result (λ g. 0 < length g.words) }
     ensures refused { IfErr result IsRefusal }
@@ -43,20 +44,23 @@ pub fn read_arguments<R: Env + AllocGlobal>(rt: &R) -> Result<Task, Found>
     Ok(Task { store, words })
 }
 
-// The place that the second argument names: `-` is the program's memory, and all else a file.
+// The place that the second argument names.
 fn place_named<R: Env + AllocGlobal>(rt: &R) -> Result<StorePlace, Found>
     ensures { IfErr result IsRefusal }
 {
     let mut name = [0; MOST_PATH];
     match rt.arg(1, &mut name) {
-        Ok(size) => place_at(rt.alloc(), &name[..size]),
+        Ok(size) => store_named(rt.alloc(), &name[..size]),
         Err(FillError::TooLong) => Err(Found::StoreFault),
         Err(FillError::NotPresent) => Err(Found::Usage),
     }
 }
 
-fn place_at(alloc: Global, name: &[u8]) -> Result<StorePlace, Found>
-    ensures { IfErr result IsRefusal }
+/// The store of a name: `-` is the program's memory, and all else a file. A name that is no text is a fault of the
+/// store.
+pub fn store_named(alloc: Global, name: &[u8]) -> Result<StorePlace, Found>
+    ensures place { Places name.now result }
+    ensures refused { IfErr result IsRefusal }
 {
     let Ok(name) = from_utf8(name) else {
         return Err(Found::StoreFault);

@@ -10,7 +10,7 @@ mod running;
 mod serve;
 mod show;
 
-pub use arguments::{StorePlace, Task, read_arguments, words_in};
+pub use arguments::{StorePlace, Task, read_arguments, store_named, words_in};
 pub use audit_run::{Found, Status, fault_line, status_of, tell};
 pub use books::made_books;
 pub use running::run;

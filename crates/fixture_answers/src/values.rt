@@ -3,7 +3,7 @@
 use acc_tree::whole_number;
 use fixture_sketches::{Trouble, cut, number, push_quoted, quoted, unquoted};
 use made_pages::made_pages;
-use snap_tree::{BuildFault, List, Text, blank, langs_fault, next_word, tidy};
+use snap_tree::{List, Text, blank, langs_fault, next_word, tidy};
 use std::alloc::Global;
 use web_address::{is_web_address, read_address};
 
@@ -61,11 +61,7 @@ pub fn digits(alloc: Global, rest: &str) -> Result<String, Trouble> {
 /// How many nodes the pages of a seed have together, and how many pages there are.
 pub fn made(alloc: Global, rest: &str) -> Result<String, Trouble> {
     let (seed, pages) = cut(rest, ' ');
-    let trees = match made_pages(alloc, number(seed)?, number(pages)?) {
-        Ok(trees) => trees,
-        Err(BuildFault::OutOfMemory) => return Err(Trouble::OutOfMemory),
-        Err(BuildFault::Tree(_)) => return Err(Trouble::NoPage),
-    };
+    let trees = made_pages(alloc, number(seed)?, number(pages)?)?;
     let mut nodes = 0usize;
     for tree in &trees {
         nodes = nodes.saturating_add(tree.rows().len());

@@ -188,12 +188,9 @@ fn count_works<R: Threads + Sync, B: RuleBook + Send>(
 fn made_work(alloc: Global, number: u32, page: u32) -> Result<PageWork, OutOfMemory>
     ensures { IfOk result (λ work. work ≡ made_work number page) }
 {
-    // No page that a number makes has a fault, so nothing but want of memory comes.
-    match made_tree(alloc, number, page) {
-        Ok(tree) => Ok(PageWork {
-            tree,
-            judgements: List::from_vec(Vec::new(alloc)),
-        }),
-        Err(_) => Err(OutOfMemory),
-    }
+    let tree = made_tree(alloc, number, page)?;
+    Ok(PageWork {
+        tree,
+        judgements: List::from_vec(Vec::new(alloc)),
+    })
 }

@@ -26,7 +26,7 @@ few_part number i j n =
     let kind = kind_of ((number + i + j) % 4) in
     omega (arith, length-append (section j n) (content kind n), few_section j n, few_content kind n)
 
-few_rows : (number i j : ℕ) → length (rows_before number i j) ≤ 5 + 6 * j
+pub few_rows : (number i j : ℕ) → length (rows_before number i j) ≤ 5 + 6 * j
 unfolding rows_before
 few_rows number i zero = omega (arith, few_top i)
 few_rows number i (suc j) =

@@ -1,7 +1,6 @@
 -- The pages that a number makes. Page i has the address `https://example.org/` followed by i, and numbers its nodes
 -- from 1 in document order.
 use Rattle.std.specs.Prelude.{ℕ, zero, suc, ◌+◌, ◌%◌, ◌==◌, List, [], ◌∷◌, ◌++◌, length, map, codes, decimal, true, false, if◌then◌else◌, Option, Some, None}
-use Rattle.std.specs.Option.{option_or}
 use Rattle.std.specs.List.{range_with_len}
 use Rattle.snap_tree.specs.declared.row.NodeId.{NodeId}
 use Rattle.snap_tree.specs.declared.row.Space.TheVariants.{Html}
@@ -112,14 +111,6 @@ made_pages number pages = map (λ i. page_of (made_page number i)) (range_with_l
 
 -- ---- faults
 
--- the first fault of page i
+-- the first fault of page i; there is none
 abbrev pub page_fault : ℕ → ℕ → Option TreeFault
 page_fault number i = tree_fault (made_page number i).rows
-
-abbrev pub first_some : List (Option TreeFault) → Option TreeFault
-first_some [] = None
-first_some (fault ∷ faults) = option_or fault (first_some faults)
-
--- the first fault of the pages from 1 to the last
-abbrev pub pages_fault : ℕ → ℕ → Option TreeFault
-pages_fault number pages = first_some (map (page_fault number) (range_with_len 1 pages))

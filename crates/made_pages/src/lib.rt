@@ -9,4 +9,4 @@ mod pages;
 mod part;
 
 pub use page::{PARTS, laws_of_limits, made_page};
-pub use pages::{made_pages, made_tree};
+pub use pages::{laws_of_pages, made_pages, made_tree};

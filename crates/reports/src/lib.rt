@@ -18,6 +18,6 @@ pub use assertions::earl;
 pub use criterion::{CRITERIA, Criterion, Level, Result4, criteria, laws_of_criteria};
 pub use site::site_report;
 pub use summary::summary_line;
-pub use sums::{MOST_SUM, Sums, page_sums};
+pub use sums::{MOST_SUM, Sums, laws_of_limits, page_sums};
 pub use table::csv_rows;
 pub use text::{is_inapplicable, is_known, is_outcome, outcome_word, text_report};

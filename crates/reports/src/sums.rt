@@ -1,4 +1,5 @@
-ghost use Rattle.std.specs.Prelude.{◌≡◌};
+ghost use Rattle.std.specs.Prelude.{◌≡◌, ◌-◌, ◌^◌};
+ghost use Rattle.reports.specs.declared.sums.TheConstants.{MOST_SUM};
 ghost use Rattle.reports.specs.SiteReport.{page_sums};
 ghost use Rattle.reports.specs.Walking.{added};
 
@@ -8,6 +9,12 @@ use rule_core::{Auto, RuleInfo};
 
 /// Where a sum over pages stops: the greatest 64-bit number.
 pub const MOST_SUM: usize = 18_446_744_073_709_551_615;
+
+/// Where a sum stops, as a number, since definitions name the constant. It does nothing: the clause is what it is
+/// for.
+pub fn laws_of_limits()
+    ensures sum { MOST_SUM ≡ 2 ^ 64 - 1 }
+{}
 
 /// How many rows have each final outcome, and how many rules are inapplicable: of a page, or of the pages of a
 /// site together.

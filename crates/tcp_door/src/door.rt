@@ -5,11 +5,16 @@ use crate::patience::Patience;
 use counts::next;
 use links::{Door, Heard};
 use std::net::{Ipv4Addr, Net, TcpListener, TcpStream};
-use std::time::Clock;
+use std::thread::sleep;
+use std::time::{Clock, Duration};
 use streams::Failed;
 
 // How often a connection is tried to be taken. One that its peer broke off before may fail a try.
 const MOST_TRIES: u32 = 16;
+
+// How long is waited after a try that failed, in milliseconds. So a moment passes in which the system has no
+// descriptor to give.
+const PAUSE: u64 = 200;
 
 // A listener and its port, what it was told, how many connections are still allowed, and how many links
 // are out.
@@ -112,7 +117,7 @@ impl<R: Net<Listener = TcpListener, Stream = TcpStream> + Clock + Copy + Drop> D
         if listening.allowed == 0 {
             return Ok(None);
         }
-        match taken(&listening.listener) {
+        match taken(&listening.listener, &self.system) {
             Some(stream) => {
                 listening.allowed -= 1;
                 listening.out += 1;
@@ -137,11 +142,12 @@ impl<R: Net<Listener = TcpListener, Stream = TcpStream> + Clock + Copy + Drop> D
 }
 
 // The next connection that comes in.
-fn taken(listener: &TcpListener) -> Option<TcpStream> {
+fn taken(listener: &TcpListener, clock: &impl Clock) -> Option<TcpStream> {
     for _ in 0..MOST_TRIES {
         if let Ok((stream, _)) = listener.accept() {
             return Some(stream);
         }
+        sleep(clock, Duration::from_millis(PAUSE));
     }
     None
 }

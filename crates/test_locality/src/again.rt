@@ -1,25 +1,14 @@
-ghost use Rattle.std.specs.Prelude.{◌≡◌, IfOk};
+ghost use Rattle.std.specs.Prelude.{◌≡◌};
 
 use audit::audit_page;
-use fixture_pages::page_in;
 use judge_core::{Judgement, OutRow};
 use reaudit::reaudit;
 use rule_book::Thirty;
 use rule_core::{Auto, RuleBook};
-use snap_tree::{Text, Tree};
+use snap_tree::{OutOfMemory, Text, Tree};
 use std::alloc::Global;
-use std::test::Fail;
 
-/// The pages of two texts.
-pub(crate) fn versions(alloc: Global, before: &str, after: &str) -> Result<(Tree, Tree), Fail>
-    ensures { IfOk result (λ pages. pages.0.address ≡ pages.1.address) }
-{
-    let old = page_in(alloc, before)?;
-    let new = page_in(alloc, after)?;
-    Ok((old, new))
-}
-
-fn judgement(alloc: Global, row: &OutRow) -> Result<Judgement, Fail> {
+fn judgement(alloc: Global, row: &OutRow) -> Result<Judgement, OutOfMemory> {
     Ok(Judgement {
         rule: row.rule,
         node: row.node,
@@ -31,7 +20,7 @@ fn judgement(alloc: Global, row: &OutRow) -> Result<Judgement, Fail> {
 }
 
 // A judgement of each outcome that is open.
-fn judged(alloc: Global, rows: &[OutRow]) -> Result<Vec<Judgement>, Fail> {
+fn judged(alloc: Global, rows: &[OutRow]) -> Result<Vec<Judgement>, OutOfMemory> {
     let mut js = Vec::new(alloc);
     for row in rows {
         if row.auto == Auto::CantTell {
@@ -43,7 +32,11 @@ fn judged(alloc: Global, rows: &[OutRow]) -> Result<Vec<Judgement>, Fail> {
 
 /// What the audit after an edit costs, and whether its outcomes are those of a full audit. What was open on the old page
 /// is judged by then.
-pub(crate) fn audited_again(alloc: Global, old: &Tree, new: &Tree) -> Result<(u64, bool), Fail>
+pub(crate) fn audited_again(
+    alloc: Global,
+    old: &Tree,
+    new: &Tree,
+) -> Result<(u64, bool), OutOfMemory>
     requires { old.now.address ≡ new.now.address }
 {
     let mut full = Thirty::new();

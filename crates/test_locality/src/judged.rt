@@ -1,10 +1,10 @@
 use crate::reach::{Less, Place, add_class};
 use crate::values::{Key, add_part, value};
+use fixture_sketches::Trouble;
 use rule_book::{Thirty, infos};
 use rule_core::{Auto, Class, RuleBook, RuleInfo, Verdict};
 use snap_tree::{NodeId, Tree};
 use std::alloc::Global;
-use std::test::Fail;
 
 fn auto_word(auto: Auto) -> &'static str {
     match auto {
@@ -14,7 +14,7 @@ fn auto_word(auto: Auto) -> &'static str {
     }
 }
 
-fn shown(alloc: Global, verdict: &Option<Verdict>) -> Result<String, Fail> {
+fn shown(alloc: Global, verdict: &Option<Verdict>) -> Result<String, Trouble> {
     let mut text = String::new(alloc);
     if let Some(verdict) = verdict {
         add_part(&mut text, auto_word(verdict.auto))?;
@@ -25,7 +25,7 @@ fn shown(alloc: Global, verdict: &Option<Verdict>) -> Result<String, Fail> {
 }
 
 // What a rule says of a node, as a text; no character where it isn't a target.
-fn said(alloc: Global, info: &RuleInfo, tree: &Tree, n: NodeId) -> Result<String, Fail> {
+fn said(alloc: Global, info: &RuleInfo, tree: &Tree, n: NodeId) -> Result<String, Trouble> {
     let mut book = Thirty::new();
     let verdict = book.judge(alloc, tree, info.no, n)?;
     shown(alloc, &verdict)
@@ -41,7 +41,7 @@ pub(crate) struct Pair<'a> {
     kids: Vec<NodeId>,
 }
 
-fn differs(alloc: Global, old: &Tree, new: &Tree, key: Key<'_>) -> Result<bool, Fail> {
+fn differs(alloc: Global, old: &Tree, new: &Tree, key: Key<'_>) -> Result<bool, Trouble> {
     Ok(value(alloc, old, key)?.as_str() != value(alloc, new, key)?.as_str())
 }
 
@@ -53,7 +53,7 @@ fn note(
     new: &Tree,
     key: Key<'_>,
     n: NodeId,
-) -> Result<(), Fail> {
+) -> Result<(), Trouble> {
     if differs(alloc, old, new, key)? {
         nodes.push(n)?;
     }
@@ -61,7 +61,11 @@ fn note(
 }
 
 /// A page, of whose reach something may be smaller, and another.
-pub(crate) fn compared<'a>(alloc: Global, old: Place<'a>, new: &'a Tree) -> Result<Pair<'a>, Fail> {
+pub(crate) fn compared<'a>(
+    alloc: Global,
+    old: Place<'a>,
+    new: &'a Tree,
+) -> Result<Pair<'a>, Trouble> {
     let mut frames = Vec::new(alloc);
     let mut own = Vec::new(alloc);
     let mut kids = Vec::new(alloc);
@@ -84,7 +88,7 @@ fn holds(nodes: &[NodeId], n: NodeId) -> bool {
     nodes.iter().any(|node| *node == n)
 }
 
-fn agree_at(alloc: Global, pair: &Pair<'_>, key: Key<'_>) -> Result<bool, Fail> {
+fn agree_at(alloc: Global, pair: &Pair<'_>, key: Key<'_>) -> Result<bool, Trouble> {
     match key {
         Key::Frame(n) => Ok(!holds(pair.frames.as_slice(), n)),
         Key::Own(n) => Ok(!holds(pair.own.as_slice(), n)),
@@ -95,7 +99,7 @@ fn agree_at(alloc: Global, pair: &Pair<'_>, key: Key<'_>) -> Result<bool, Fail> 
     }
 }
 
-fn agree(alloc: Global, pair: &Pair<'_>, keys: &[Key<'_>]) -> Result<bool, Fail> {
+fn agree(alloc: Global, pair: &Pair<'_>, keys: &[Key<'_>]) -> Result<bool, Trouble> {
     for key in keys {
         if !agree_at(alloc, pair, *key)? {
             return Ok(false);
@@ -124,7 +128,7 @@ pub(crate) fn agrees(
     info: &RuleInfo,
     pair: &Pair<'_>,
     n: NodeId,
-) -> Result<bool, Fail> {
+) -> Result<bool, Trouble> {
     let place = pair.old;
     let mut keys = Vec::new(alloc);
     add_class(&mut keys, place, applies(info, place.less), n)?;
@@ -140,7 +144,7 @@ pub(crate) fn keeps(
     info: &RuleInfo,
     pair: &Pair<'_>,
     n: NodeId,
-) -> Result<bool, Fail> {
+) -> Result<bool, Trouble> {
     let before = said(alloc, info, pair.old.tree, n)?;
     let after = said(alloc, info, pair.new, n)?;
     if before.as_str() == after.as_str() {
@@ -149,7 +153,7 @@ pub(crate) fn keeps(
     Ok(!agrees(alloc, info, pair, n)?)
 }
 
-fn all_keep(alloc: Global, pair: &Pair<'_>, n: NodeId) -> Result<bool, Fail> {
+fn all_keep(alloc: Global, pair: &Pair<'_>, n: NodeId) -> Result<bool, Trouble> {
     for info in infos() {
         if !keeps(alloc, info, pair, n)? {
             return Ok(false);
@@ -159,7 +163,7 @@ fn all_keep(alloc: Global, pair: &Pair<'_>, n: NodeId) -> Result<bool, Fail> {
 }
 
 /// Whether each rule says the same of each node, where the pages agree on what it looks at.
-pub(crate) fn pages_keep(alloc: Global, old: &Tree, new: &Tree) -> Result<bool, Fail> {
+pub(crate) fn pages_keep(alloc: Global, old: &Tree, new: &Tree) -> Result<bool, Trouble> {
     let pair = compared(alloc, whole(old), new)?;
     for row in old.rows() {
         if !all_keep(alloc, &pair, row.id)? {
@@ -170,13 +174,13 @@ pub(crate) fn pages_keep(alloc: Global, old: &Tree, new: &Tree) -> Result<bool, 
 }
 
 /// What the rule of a number says of itself.
-pub(crate) fn info_of(number: u16) -> Option<RuleInfo> {
+pub(crate) fn info_of(number: u32) -> Result<RuleInfo, Trouble> {
     for info in infos() {
-        if info.no.0 == number {
-            return Some(*info);
+        if u32::from(info.no.0) == number {
+            return Ok(*info);
         }
     }
-    None
+    Err(Trouble::NotInForm)
 }
 
 /// The page, with nothing made smaller.
@@ -187,7 +191,12 @@ pub(crate) fn whole(tree: &Tree) -> Place<'_> {
     }
 }
 
-fn is_affected(alloc: Global, info: &RuleInfo, pair: &Pair<'_>, n: NodeId) -> Result<bool, Fail> {
+fn is_affected(
+    alloc: Global,
+    info: &RuleInfo,
+    pair: &Pair<'_>,
+    n: NodeId,
+) -> Result<bool, Trouble> {
     if pair.old.tree.node(n).is_none() {
         return Ok(true);
     }
@@ -195,7 +204,7 @@ fn is_affected(alloc: Global, info: &RuleInfo, pair: &Pair<'_>, n: NodeId) -> Re
 }
 
 /// How many pairs of an atomic rule and a node of the new page an edit affects.
-pub(crate) fn affected(alloc: Global, old: &Tree, new: &Tree) -> Result<u64, Fail> {
+pub(crate) fn affected(alloc: Global, old: &Tree, new: &Tree) -> Result<u64, Trouble> {
     let pair = compared(alloc, whole(old), new)?;
     let mut count: u64 = 0;
     for info in infos() {

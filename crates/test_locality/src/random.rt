@@ -1,18 +1,19 @@
-//! Pages at random on which an element owns others by aria-owns, each with edits at random: the audit after the edits has
-//! the outcomes of a full one, and judges the pairs of a rule and a node that a plain program finds affected.
+//! Pages at random on which an element owns others by aria-owns, each with edits at random.
 
 ghost use Rattle.std.specs.Prelude.{◌≡◌, IfOk, IfSome};
 
 use crate::again::audited_again;
+use crate::cases::{page, relisted};
 use crate::judged::affected;
+use crate::steps::{Told, held};
 use fixture_dice::Dice;
-use fixture_pages::{facts, page_in, row_in};
+use fixture_pages::{facts, row_in};
+use fixture_sketches::{Trouble, cut, number};
 use snap_edit::{Edit, EditFault, apply};
 use snap_tree::{List, NodeId, OutOfMemory, Row, Text, Tree};
 use std::alloc::{AllocError, Global};
-use std::test::Fail;
 
-// So many pages a test, of at most so many nodes, with at most so many edits each; at least so many of them are edited.
+// So many pages a seed, of at most so many nodes, with at most so many edits each; more than so many of them are edited.
 const PAGES: u32 = 320;
 
 const FEWEST: u64 = 200;
@@ -121,7 +122,7 @@ fn last_of(open: &[u32]) -> u32 {
 }
 
 // A page's text: each node stands below the last element before it, or below one that is above that.
-pub(crate) fn page_text(alloc: Global, dice: &mut Dice) -> Result<String, AllocError> {
+fn page_text(alloc: Global, dice: &mut Dice) -> Result<String, AllocError> {
     let root = dice.pick(&ROOTS, "1 0 html");
     let owner = dice.pick(&OWNERS, "2 1 p");
     let mut text = format!(in alloc; "{root};{owner}")?;
@@ -141,7 +142,7 @@ pub(crate) fn page_text(alloc: Global, dice: &mut Dice) -> Result<String, AllocE
     Ok(text)
 }
 
-fn number(dice: &mut Dice) -> NodeId {
+fn some_node(dice: &mut Dice) -> NodeId {
     let n = dice.below(u64::from(MOST_NODES));
     NodeId(n as u32)
 }
@@ -155,16 +156,19 @@ fn picked(alloc: Global, dice: &mut Dice, texts: &[&'static str]) -> Result<Text
 }
 
 // A row that is put in.
-fn inserted(alloc: Global, dice: &mut Dice) -> Result<List<Row>, Fail> {
+fn inserted(alloc: Global, dice: &mut Dice) -> Result<List<Row>, Trouble> {
     let n = dice.below(4).saturating_add(60);
     let text = row_text(alloc, dice, n as u32, 0)?;
+    let Ok(row) = row_in(alloc, text.as_str()) else {
+        return Err(Trouble::OutOfMemory);
+    };
     let mut rows = Vec::new(alloc);
-    rows.push(row_in(alloc, text.as_str())?)?;
+    rows.push(row)?;
     Ok(List::from_vec(rows))
 }
 
-fn edit(alloc: Global, dice: &mut Dice) -> Result<Edit, Fail> {
-    let node = number(dice);
+fn edit(alloc: Global, dice: &mut Dice) -> Result<Edit, Trouble> {
+    let node = some_node(dice);
     match dice.below(8) {
         0 | 1 => Ok(Edit::SetAttr {
             node,
@@ -191,14 +195,14 @@ fn edit(alloc: Global, dice: &mut Dice) -> Result<Edit, Fail> {
         6 => Ok(Edit::Remove { node }),
         _ => Ok(Edit::Move {
             node,
-            parent: number(dice),
+            parent: some_node(dice),
             place: place(dice),
         }),
     }
 }
 
 // The page after edits; None where they can't be carried out.
-pub(crate) fn edited(alloc: Global, old: &Tree, edits: &[Edit]) -> Result<Option<Tree>, OutOfMemory>
+fn edited(alloc: Global, old: &Tree, edits: &[Edit]) -> Result<Option<Tree>, OutOfMemory>
     ensures { IfOk result (λ new. IfSome new (λ t. t.address ≡ old.now.address)) }
 {
     match apply(alloc, old, edits) {
@@ -209,7 +213,7 @@ pub(crate) fn edited(alloc: Global, old: &Tree, edits: &[Edit]) -> Result<Option
 }
 
 // Edits that can be carried out.
-pub(crate) fn edits(alloc: Global, dice: &mut Dice, old: &Tree) -> Result<Vec<Edit>, Fail> {
+fn edits(alloc: Global, dice: &mut Dice, old: &Tree) -> Result<Vec<Edit>, Trouble> {
     let mut edits = Vec::new(alloc);
     for _ in 0..=dice.below(MOST_EDITS) {
         edits.push(edit(alloc, dice)?)?;
@@ -220,50 +224,42 @@ pub(crate) fn edits(alloc: Global, dice: &mut Dice, old: &Tree) -> Result<Vec<Ed
     Ok(edits)
 }
 
-// Whether a page was edited; fails where the audit after that isn't as it has to be.
-fn is_edited(alloc: Global, dice: &mut Dice) -> Result<bool, Fail> {
+static LISTS: [&str; 4] = ["", "gsw", "haw gsw", "haw"];
+
+// The language subtags that a page's site accepts.
+fn list(dice: &mut Dice, has_lists: bool) -> &'static str {
+    if has_lists { dice.pick(&LISTS, "") } else { "" }
+}
+
+// Whether a page was edited, beside which its list may be another one; None where the audit after that isn't as it has to be.
+fn is_edited(alloc: Global, dice: &mut Dice, has_lists: bool) -> Result<Option<bool>, Trouble> {
     let text = page_text(alloc, dice)?;
-    let old = page_in(alloc, text.as_str())?;
+    let old = page(alloc, text.as_str())?;
+    let old = relisted(alloc, &old, list(dice, has_lists))?;
     let edits = edits(alloc, dice, &old)?;
     let Some(new) = edited(alloc, &old, edits.as_slice())? else {
-        return Ok(false);
+        return Ok(Some(false));
     };
+    let new = relisted(alloc, &new, list(dice, has_lists))?;
     let (cost, same) = audited_again(alloc, &old, &new)?;
-    if same & (cost == affected(alloc, &old, &new)?) {
-        Ok(!edits.is_empty())
-    } else {
-        Err(Fail::from((text, cost)))
-    }
+    let holds = same & (cost == affected(alloc, &old, &new)?);
+    Ok(holds.then_some(!edits.is_empty()))
 }
 
-fn pages_are_edited(alloc: Global, seed: u64) -> Result<(), Fail> {
+fn pages_are_edited(alloc: Global, seed: u64, has_lists: bool) -> Result<Told, Trouble> {
     let mut dice = Dice::new(seed);
     let mut count: u64 = 0;
-    for _ in 0..PAGES {
-        count = count.saturating_add(u64::from(is_edited(alloc, &mut dice)?));
+    for place in 0..PAGES {
+        match is_edited(alloc, &mut dice, has_lists)? {
+            Some(is) => count = count.saturating_add(u64::from(is)),
+            None => return Ok(Told::Fails("wrong after its edits is page", u64::from(place))),
+        }
     }
-    if count < FEWEST {
-        return Err(Fail::from(("few pages are edited", count)));
-    }
-    Ok(())
+    Ok(held(count > FEWEST, "few pages are edited:", count))
 }
 
-#[test]
-fn an_edit_judges_what_it_affects(rt: HostRuntime) -> Result<(), Fail> {
-    pages_are_edited(rt.alloc(), 2026)
-}
-
-#[test]
-fn an_edit_judges_what_it_affects_on_other_pages(rt: HostRuntime) -> Result<(), Fail> {
-    pages_are_edited(rt.alloc(), 11)
-}
-
-#[test]
-fn an_edit_judges_what_it_affects_on_more_pages(rt: HostRuntime) -> Result<(), Fail> {
-    pages_are_edited(rt.alloc(), 29)
-}
-
-#[test]
-fn an_edit_judges_what_it_affects_on_the_last_pages(rt: HostRuntime) -> Result<(), Fail> {
-    pages_are_edited(rt.alloc(), 7)
+/// Tries edits at random of a seed's pages.
+pub(crate) fn at_random(alloc: Global, words: &str) -> Result<Told, Trouble> {
+    let (seed, more) = cut(words, ' ');
+    pages_are_edited(alloc, u64::from(number(seed)?), more == "lists")
 }

@@ -1,6 +1,7 @@
 use crate::values::{Key, is_label_for};
 use acc_tree::{Attribute, is_labelable, text_at};
 use aria_tables::AriaAttr;
+use fixture_sketches::Trouble;
 use rule_core::Class;
 use snap_tree::{MOST_DEPTH, NodeId, Row, Tree, next_word};
 use std::alloc::AllocError;
@@ -26,6 +27,30 @@ pub(crate) enum Less {
     LostIds,
     /// The labels that are found by their `for` are left out.
     LabelsFound,
+}
+
+static SMALLER: [(&str, Less); 11] = [
+    ("", Less::Nothing),
+    ("applies self", Less::Applies(Class::SelfOnly)),
+    ("applies title", Less::Applies(Class::Title)),
+    ("expects self", Less::Expects(Class::SelfOnly)),
+    ("expects sub", Less::Expects(Class::Sub)),
+    ("frame", Less::Frame),
+    ("own", Less::Own),
+    ("frames-above", Less::FramesAbove),
+    ("kids", Less::Kids),
+    ("lost-ids", Less::LostIds),
+    ("labels-found", Less::LabelsFound),
+];
+
+/// What is smaller, by its words in a line.
+pub(crate) fn less_of(words: &str) -> Result<Less, Trouble> {
+    for (said, less) in SMALLER.as_slice() {
+        if *said == words {
+            return Ok(*less);
+        }
+    }
+    Err(Trouble::NotInForm)
 }
 
 /// A page, with what is smaller.

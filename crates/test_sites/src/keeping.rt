@@ -3,14 +3,14 @@
 ghost use Rattle.std.specs.Prelude.{◌≡◌, ◌∷◌, [], IfOk};
 ghost use Rattle.keep_core.specs.Fits.{Fits, FitsPage};
 
+use crate::asked::keeper_failing;
 use crate::doubtful::Doubtful;
+use crate::fits::{named, site};
 use crate::soundness::is_sound;
 use fixture_pages::Node::Html;
-use fixture_sites::{Unasked, keeper_failing, named, site_at};
 use judge_core::{Judgement, OutRow, Outcomes};
 use keep_core::{
-    Batch, Change, Keeper, MemoryKeeper, Page, PageHead, PagePut, SitePage, is_name,
-    laws_of_changes,
+    Batch, Change, Keeper, MemoryKeeper, Page, PageHead, PagePut, SitePage, laws_of_changes,
 };
 use rule_core::Auto::{CantTell, Passed};
 use rule_core::{Reason, RuleNo};
@@ -19,39 +19,6 @@ use std::alloc::Global;
 use std::process::Abort;
 use std::test::Fail;
 use web_address::is_web_address;
-
-// Texts that name, and that don't.
-static NAMES: [(&str, bool); 12] = [
-    ("a", true),
-    ("z9._-", true),
-    (
-        "0123456789012345678901234567890123456789012345678901234567890123",
-        true,
-    ),
-    (
-        "01234567890123456789012345678901234567890123456789012345678901234",
-        false,
-    ),
-    ("", false),
-    ("A", false),
-    ("a b", false),
-    ("a/b", false),
-    ("`", false),
-    ("{", false),
-    (":", false),
-    ("é", false),
-];
-
-#[test]
-fn names_are_of_their_characters(rt: HostRuntime) -> Result<(), Fail> {
-    for (text, wanted) in NAMES.as_slice() {
-        let name = Text::from_str(rt.alloc(), text)?;
-        if is_name(&name) != *wanted {
-            return Err(Fail::from(*text));
-        }
-    }
-    Ok(())
-}
 
 // Changes of the site s and its page p.
 #[derive(Clone, Copy, Debug)]
@@ -64,11 +31,9 @@ enum Step {
     Drop,
 }
 
-/// What a keeper answers of a site and a page: the counter, the page's revision, how many pages the site has,
-/// and how many judgements and rows of outcomes the page has.
-pub type Seen = (Option<u64>, Option<u64>, usize, usize, usize);
-
-const NOTHING: Seen = (None, None, 0, 0, 0);
+// What a keeper answers of a site and a page: the counter, the page's revision, how many pages the site has,
+// and how many judgements and rows of outcomes the page has.
+type Seen = (Option<u64>, Option<u64>, usize, usize, usize);
 
 // Changes one after another, and what is seen after each.
 static STEPS: [(Step, Seen); 7] = [
@@ -81,8 +46,8 @@ static STEPS: [(Step, Seen); 7] = [
     (Step::Drop, (Some(0), None, 0, 0, 0)),
 ];
 
-/// A list of one item.
-pub fn one<T: Drop>(alloc: Global, item: T) -> Result<List<T>, OutOfMemory>
+// A list of one item.
+fn one<T: Drop>(alloc: Global, item: T) -> Result<List<T>, OutOfMemory>
     ensures { IfOk result (λ items. items ≡ item ∷ []) }
 {
     let mut items = Vec::new(alloc);
@@ -138,14 +103,14 @@ fn put_pages(rt: &impl Abort, alloc: Global, rev: u16) -> Result<Change, Fail>
     })
 }
 
-fn put_site(alloc: Global) -> Result<Change, Unasked>
+fn put_site(alloc: Global) -> Result<Change, Fail>
     ensures { IfOk result Fits }
 {
-    let site = site_at(alloc, "s", "ann", 0)?;
+    let site = site(alloc)?;
     Ok(Change::PutSite { site })
 }
 
-fn add_judgement(alloc: Global) -> Result<Change, Unasked>
+fn add_judgement(alloc: Global) -> Result<Change, Fail>
     ensures { IfOk result Fits }
 {
     let site = named(alloc, "s")?;
@@ -169,7 +134,7 @@ fn add_judgement(alloc: Global) -> Result<Change, Unasked>
     })
 }
 
-fn drop_page(alloc: Global) -> Result<Change, Unasked>
+fn drop_page(alloc: Global) -> Result<Change, Fail>
     ensures { IfOk result Fits }
 {
     let site = named(alloc, "s")?;
@@ -181,20 +146,15 @@ fn change(rt: &impl Abort, alloc: Global, step: Step) -> Result<Change, Fail>
     ensures { IfOk result Fits }
 {
     match step {
-        Step::Site => Ok(put_site(alloc)?),
+        Step::Site => put_site(alloc),
         Step::Page(rev) => put_pages(rt, alloc, rev),
-        Step::Judgement => Ok(add_judgement(alloc)?),
-        Step::Drop => Ok(drop_page(alloc)?),
+        Step::Judgement => add_judgement(alloc),
+        Step::Drop => drop_page(alloc),
     }
 }
 
-/// What a keeper answers of a site and a page.
-pub fn look<K: Keeper>(
-    alloc: Global,
-    keeper: &mut K,
-    site: &str,
-    page: &str,
-) -> Result<Seen, Fail> {
+// What a keeper answers of a site and a page.
+fn look<K: Keeper>(alloc: Global, keeper: &mut K, site: &str, page: &str) -> Result<Seen, Fail> {
     let site = Text::from_str(alloc, site)?;
     let page = Text::from_str(alloc, page)?;
     let counter = keeper.site(alloc, &site)?.map(|site| site.counter);
@@ -269,53 +229,6 @@ fn copies_are_equal(rt: HostRuntime) -> Result<(), Fail> {
     let copy = put.copy(alloc)?;
     assert!(rt; are_equal(&copy, &put));
     assert!(rt; is_shown_alike(alloc, put)?);
-    Ok(())
-}
-
-// Whether each of the six calls fails, in the order of the trait.
-fn failing(alloc: Global, keeper: &mut MemoryKeeper) -> Result<[bool; 6], Fail> {
-    let site = Text::from_str(alloc, "s")?;
-    let page = Text::from_str(alloc, "p")?;
-    let change = put_site(alloc)?;
-    let site_fails = keeper.site(alloc, &site).is_err();
-    let load_fails = keeper.load(alloc, &site, &page).is_err();
-    let list_fails = keeper.list(alloc, &site).is_err();
-    let judgements_fails = keeper.judgements(alloc, &site, &page).is_err();
-    let outcomes_fails = keeper.outcomes(alloc, &site, &page).is_err();
-    let apply_fails = keeper.apply(alloc, &Batch { change }).is_err();
-    Ok([
-        site_fails,
-        load_fails,
-        list_fails,
-        judgements_fails,
-        outcomes_fails,
-        apply_fails,
-    ])
-}
-
-// Whether the call of this number alone fails, so that something is seen unless it is the last, `apply`.
-fn fails_alone(alloc: Global, named: u64) -> Result<bool, Fail> {
-    let mut keeper = keeper_failing(alloc, &[named])?;
-    let fails = failing(alloc, &mut keeper)?;
-    let wanted = [
-        named == 1,
-        named == 2,
-        named == 3,
-        named == 4,
-        named == 5,
-        named == 6,
-    ];
-    let seen = look(alloc, &mut keeper, "s", "p")?;
-    Ok(fails == wanted && (seen == NOTHING) == (named == 6))
-}
-
-#[test]
-fn the_calls_that_the_list_names_fail(rt: HostRuntime) -> Result<(), Fail> {
-    for named in 1..7 {
-        if !fails_alone(rt.alloc(), named)? {
-            return Err(Fail::from(named));
-        }
-    }
     Ok(())
 }
 

@@ -1,22 +1,20 @@
-//! Tests that cross crates: what a keeper answers of the sites that it keeps, and the machine to requests on
-//! them. There is no call of its own.
+//! Tests of what keepers answer of the sites that they keep, also before a store is prepared, of what a request reads, and of what
+//! is kept after requests at random. There is no call of its own.
 #![tactic(auto)]
 
 #[cfg(test)]
+mod asked;
+#[cfg(test)]
 mod doubtful;
 #[cfg(test)]
-mod faults;
+mod fits;
 #[cfg(test)]
 mod keeping;
-#[cfg(test)]
-mod overfull;
 #[cfg(test)]
 mod random;
 #[cfg(test)]
 mod reads;
 #[cfg(test)]
-mod serving;
-#[cfg(test)]
 mod soundness;
 #[cfg(test)]
-mod workers;
+mod unprepared;

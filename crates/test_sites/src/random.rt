@@ -1,20 +1,11 @@
 //! A thousand requests at random, after which what is kept is sound.
 
+use crate::asked::{is_accepted, keeper_failing, replied};
 use crate::soundness::is_sound;
-use desk_core::{Command, Entry};
 use fixture_dice::Dice;
-use fixture_pages::Node::Html;
-use fixture_pages::raw;
-use fixture_rules::Marks;
-use fixture_sites::Alter::{Cut, Mark};
-use fixture_sites::Ask::{self, Alter, Gone, Judge, NewSite, Put, Role};
-use fixture_sites::{
-    ASTRAY, Alter as Edit, Brief, Kind, Nodes, PAGE, Why, answer, brief, command_of, keeper_failing,
-};
-use keep_core::{Keeper, MemberRole, MemoryKeeper};
-use rule_core::Auto::{CantTell, Failed, Passed};
-use snap_tree::{List, Text};
-use std::alloc::Global;
+use keep_core::{Keeper, MemoryKeeper};
+use snap_tree::Text;
+use std::alloc::{AllocError, Global};
 use std::test::Fail;
 use std::thread::Threads;
 
@@ -22,47 +13,41 @@ static USERS: [&str; 4] = ["ann", "ann", "bob", "eve"];
 
 static SITES: [&str; 2] = ["acme", "beta"];
 
-static PAGES: [&str; 3] = ["away", "home", "news"];
+static PAGES: [&str; 4] = ["away", "home", "news", "shop"];
 
-// The pages of an import.
-static IMPORTED: [&[&str]; 8] = [
-    &["home"],
-    &["shop"],
-    &["away", "home"],
-    &["news", "away"],
-    &["shop", "news"],
-    &["away", "home", "news"],
-    &["news", "shop", "away"],
-    &["home", "away", "shop"],
+static ROLES: [&str; 6] = ["none", "owner", "editor", "judge", "owner", "reader"];
+
+// Pages of which nobody can tell some outcomes, and one whose second row has a parent that isn't there.
+static SENT: [&str; 4] = [
+    "{\"url\":\"https://example.org/\",\"nodes\":[{\"n\":1,\"p\":null,\"tag\":\"div\"},{\"n\":2,\"p\":1,\"tag\":\"div\",\"attrs\":[[\"alt\",\"x\"]]},{\"n\":3,\"p\":1,\"tag\":\"div\",\"attrs\":[[\"title\",\"passed\"]]}]}",
+    OPEN,
+    "{\"url\":\"https://example.org/\",\"nodes\":[{\"n\":1,\"p\":null,\"tag\":\"div\"},{\"n\":2,\"p\":9,\"tag\":\"div\"}]}",
+    OPEN,
 ];
 
-static ROLES: [Option<MemberRole>; 6] = [
-    None,
-    Some(MemberRole::Owner),
-    Some(MemberRole::Editor),
-    Some(MemberRole::Judge),
-    Some(MemberRole::Owner),
-    Some(MemberRole::Reader),
+const OPEN: &str =
+    "{\"url\":\"https://example.org/\",\"nodes\":[{\"n\":1,\"p\":null,\"tag\":\"div\",\"attrs\":[[\"lang\",\"y\"]]},{\"n\":2,\"p\":1,\"tag\":\"div\",\"attrs\":[[\"alt\",\"x\"],[\"title\",\"failed\"]]},{\"n\":3,\"p\":2,\"tag\":\"div\",\"attrs\":[[\"alt\",\"y\"]]}]}";
+
+static EDITS: [&str; 5] = [
+    "{\"edits\":[{\"op\":\"setAttr\",\"node\":2,\"name\":\"alt\",\"value\":\"y\"}]}",
+    "{\"edits\":[{\"op\":\"setAttr\",\"node\":2,\"name\":\"alt\",\"value\":\"x\"},{\"op\":\"setAttr\",\"node\":3,\"name\":\"alt\",\"value\":\"failed\"}]}",
+    "{\"edits\":[{\"op\":\"setAttr\",\"node\":1,\"name\":\"alt\",\"value\":\"passed\"}]}",
+    "{\"edits\":[{\"op\":\"remove\",\"node\":3}]}",
+    "{\"edits\":[{\"op\":\"setAttr\",\"node\":1,\"name\":\"alt\",\"value\":\"x\"},{\"op\":\"remove\",\"node\":9}]}",
 ];
 
-// A page of which two rules leave something open.
-const OPEN: Nodes = &[
-    Html(0, "div", &[("lang", "y")]),
-    Html(1, "div", &[("alt", "x"), ("title", "failed")]),
-    Html(2, "div", &[("alt", "y")]),
+static RULES: [&str; 3] = ["attr0a", "attr0b", "attr0c"];
+
+static NODES: [&str; 3] = ["1", "2", "3"];
+
+static VERDICTS: [&str; 3] = ["passed", "failed", "cantTell"];
+
+// The digests of the evidences x, y and z.
+static DIGESTS: [&str; 3] = [
+    "2d711642b726b04401627ca9fbac32f5c8530fb1903cc4db02258717921a4881",
+    "a1fce4363854ff888cff4b8e7875d600c2682390412a8cf79b37d0b11148b0fa",
+    "594e519ae499312b29433b7dd8a97ff068defcba9755b6d5d00e84c524d67b06",
 ];
-
-static SENT: [Nodes; 4] = [PAGE, OPEN, ASTRAY, OPEN];
-
-static EDITS: [&[Edit]; 5] = [
-    &[Mark(2, "y")],
-    &[Mark(2, "x"), Mark(3, "failed")],
-    &[Mark(1, "passed")],
-    &[Cut(3)],
-    &[Mark(1, "x"), Cut(9)],
-];
-
-static EVIDENCES: [&str; 3] = ["x", "y", "z"];
 
 // The revision of a page; 0 where there is none.
 fn current(alloc: Global, keeper: &mut MemoryKeeper, site: &str, page: &str) -> Result<u64, Fail> {
@@ -75,26 +60,6 @@ fn current(alloc: Global, keeper: &mut MemoryKeeper, site: &str, page: &str) -> 
     )
 }
 
-// A judgement of a page.
-fn judging(dice: &mut Dice, page: &'static str) -> Ask {
-    let rule = dice.pick(&[3, 4, 5], 3);
-    let node = dice.pick(&[1, 2, 3], 1);
-    let verdict = dice.pick(&[Passed, Failed, CantTell], Passed);
-    Judge(page, rule, node, verdict, dice.pick(&EVIDENCES, "x"))
-}
-
-// What is asked of a site and a page at this revision.
-fn drawn(dice: &mut Dice, page: &'static str, rev: u64) -> Ask {
-    match dice.below(10) {
-        0 => NewSite,
-        1 => Role(dice.pick(&USERS, "ann"), dice.pick(&ROLES, None)),
-        2 => Gone(page, rev),
-        3..=5 => Put(page, rev, dice.pick(&SENT, PAGE)),
-        6..=7 => Alter(page, rev, dice.pick(&EDITS, &[])),
-        _ => judging(dice, page),
-    }
-}
-
 // The revision that the sender of a page saw: the current one, or now and then the first.
 fn seen(
     alloc: Global,
@@ -102,31 +67,107 @@ fn seen(
     keeper: &mut MemoryKeeper,
     site: &str,
     page: &str,
-) -> Result<u64, Fail> {
-    if dice.below(4) == 0 {
-        return Ok(1);
-    }
-    current(alloc, keeper, site, page)
+) -> Result<String, Fail> {
+    let rev = match dice.below(4) {
+        0 => 1,
+        _ => current(alloc, keeper, site, page)?,
+    };
+    Ok(format!(in alloc; "{rev}")?)
 }
 
-// An import of some pages.
+fn member(alloc: Global, dice: &mut Dice, site: &str) -> Result<String, AllocError> {
+    let mut text = String::from_str(alloc, "PUT /sites/")?;
+    text.push_str(site)?;
+    text.push_str("/members/")?;
+    text.push_str(dice.pick(&USERS, "ann"))?;
+    text.push_str("\n{\"role\":\"")?;
+    text.push_str(dice.pick(&ROLES, "none"))?;
+    text.push_str("\"}")?;
+    Ok(text)
+}
+
+fn judging(alloc: Global, dice: &mut Dice, site: &str, page: &str) -> Result<String, AllocError> {
+    let mut text = String::from_str(alloc, "POST /sites/")?;
+    text.push_str(site)?;
+    text.push_str("/pages/")?;
+    text.push_str(page)?;
+    text.push_str("/judgements\n{\"rule\":\"")?;
+    text.push_str(dice.pick(&RULES, "attr0a"))?;
+    text.push_str("\",\"node\":")?;
+    text.push_str(dice.pick(&NODES, "1"))?;
+    text.push_str(",\"verdict\":\"")?;
+    text.push_str(dice.pick(&VERDICTS, "passed"))?;
+    text.push_str("\",\"digest\":\"")?;
+    text.push_str(dice.pick(&DIGESTS, ""))?;
+    text.push_str("\"}")?;
+    Ok(text)
+}
+
+// What is asked of a page at this revision.
+fn drawn(
+    alloc: Global,
+    dice: &mut Dice,
+    site: &str,
+    page: &str,
+    rev: &str,
+) -> Result<String, AllocError> {
+    let (method, what, body) = match dice.below(7) {
+        0 => ("DELETE", "", ""),
+        1..=3 => ("PUT", "", dice.pick(&SENT, OPEN)),
+        _ => ("POST", "/edits", dice.pick(&EDITS, "")),
+    };
+    let mut text = String::from_str(alloc, method)?;
+    text.push_str(" /sites/")?;
+    text.push_str(site)?;
+    text.push_str("/pages/")?;
+    text.push_str(page)?;
+    text.push_str(what)?;
+    text.push_str("\nx-rev: ")?;
+    text.push_str(rev)?;
+    text.push_str("\n")?;
+    text.push_str(body)?;
+    Ok(text)
+}
+
+// An entry of an import.
+fn entry(dice: &mut Dice, alloc: Global, page: &str, rev: &str) -> Result<String, AllocError> {
+    let mut text = String::from_str(alloc, "{\"page\":\"")?;
+    text.push_str(page)?;
+    text.push_str("\",\"rev\":")?;
+    text.push_str(rev)?;
+    text.push_str(",\"snapshot\":")?;
+    text.push_str(dice.pick(&SENT, OPEN))?;
+    text.push_str("}")?;
+    Ok(text)
+}
+
+fn made(alloc: Global, site: &str) -> Result<String, AllocError> {
+    let mut text = String::from_str(alloc, "PUT /sites/")?;
+    text.push_str(site)?;
+    Ok(text)
+}
+
+// An import of one to four pages, which begin with one at random.
 fn importing(
     alloc: Global,
     dice: &mut Dice,
     keeper: &mut MemoryKeeper,
     site: &str,
-) -> Result<Command, Fail> {
-    let mut entries = Vec::new(alloc);
-    for page in dice.pick(&IMPORTED, &[]) {
+) -> Result<String, Fail> {
+    let mut text = String::from_str(alloc, "POST /sites/")?;
+    text.push_str(site)?;
+    text.push_str("/import\n{\"pages\":[")?;
+    let mut between = "";
+    let first = dice.below(4);
+    for place in first..=dice.below(4).max(first) {
+        let page = PAGES.get(place as usize).copied().unwrap_or("home");
         let rev = seen(alloc, dice, keeper, site, page)?;
-        let raw = raw(alloc, dice.pick(&SENT, PAGE))?;
-        let page = Text::from_str(alloc, page)?;
-        entries.push(Entry { page, rev, raw })?;
+        text.push_str(between)?;
+        text.push_str(entry(dice, alloc, page, rev.as_str())?.as_str())?;
+        between = ",";
     }
-    Ok(Command::Import {
-        site: Text::from_str(alloc, site)?,
-        entries: List::from_vec(entries),
-    })
+    text.push_str("]}")?;
+    Ok(text)
 }
 
 // A request of a site.
@@ -135,18 +176,23 @@ fn request(
     dice: &mut Dice,
     keeper: &mut MemoryKeeper,
     site: &str,
-) -> Result<Command, Fail> {
-    if dice.below(5) == 0 {
-        return importing(alloc, dice, keeper, site);
-    }
+) -> Result<String, Fail> {
     let page = dice.pick(&PAGES, "home");
-    let rev = seen(alloc, dice, keeper, site, page)?;
-    Ok(command_of(alloc, site, drawn(dice, page, rev))?)
+    match dice.below(12) {
+        0 => Ok(made(alloc, site)?),
+        1 => Ok(member(alloc, dice, site)?),
+        2..=4 => importing(alloc, dice, keeper, site),
+        5 | 6 => Ok(judging(alloc, dice, site, page)?),
+        _ => {
+            let rev = seen(alloc, dice, keeper, site, page)?;
+            Ok(drawn(alloc, dice, site, page, rev.as_str())?)
+        }
+    }
 }
 
 /// How many requests were accepted, how many imports of them, and how many imports were refused for a
 /// revision, and how many for a tree.
-#[derive(Debug, Drop)]
+#[derive(Clone, Copy, Debug)]
 struct Tally {
     accepted: u32,
     imported: u32,
@@ -154,37 +200,32 @@ struct Tally {
     astray: u32,
 }
 
-fn count(count: &mut u32) {
-    *count = count.saturating_add(1);
-}
-
 impl Tally {
-    fn none() -> Self {
-        Tally {
-            accepted: 0,
-            imported: 0,
-            stale: 0,
-            astray: 0,
-        }
-    }
-
     // Whether enough came of each kind.
-    fn is_lively(&self) -> bool {
+    fn is_lively(self) -> bool {
         100 < self.accepted && 10 < self.imported && 10 < self.stale && 10 < self.astray
     }
+}
 
-    // Only a refused import names a page.
-    fn take(&mut self, said: Brief) {
-        match said {
-            (Kind::Refused(Why::Stale(_)), page) if !page.is_empty() => count(&mut self.stale),
-            (Kind::Refused(Why::Tree(_)), page) if !page.is_empty() => count(&mut self.astray),
-            (Kind::Refused(_), _) => {}
-            (Kind::Imported(_), _) => {
-                count(&mut self.accepted);
-                count(&mut self.imported);
-            }
-            _ => count(&mut self.accepted),
-        }
+fn has(reply: &[u8], text: &str) -> bool {
+    reply
+        .windows(text.len().max(1))
+        .any(|part| part == text.as_bytes())
+}
+
+fn more(count: u32, is_so: bool) -> u32 {
+    count.saturating_add(u32::from(is_so))
+}
+
+// Only an import names a page where it is refused.
+fn counted(tally: Tally, reply: &[u8]) -> Tally {
+    let accepts = is_accepted(reply);
+    let names_page = has(reply, "\"page\":");
+    Tally {
+        accepted: more(tally.accepted, accepts),
+        imported: more(tally.imported, accepts && has(reply, "{\"pages\":")),
+        stale: more(tally.stale, names_page && has(reply, "StaleRevision")),
+        astray: more(tally.astray, names_page && has(reply, "TreeFault")),
     }
 }
 
@@ -194,15 +235,13 @@ fn turn<R: Threads + Sync>(
     alloc: Global,
     dice: &mut Dice,
     keeper: &mut MemoryKeeper,
-    tally: &mut Tally,
-) -> Result<(), Fail> {
+    tally: Tally,
+) -> Result<Tally, Fail> {
     let site = dice.pick(&SITES, "acme");
     let caller = dice.pick(&USERS, "ann");
-    let command = request(alloc, dice, keeper, site)?;
-    let books = &mut [Marks::new(), Marks::new()];
-    let reply = answer(rt, alloc, books, keeper, caller, command)?;
-    tally.take(brief(&reply));
-    Ok(())
+    let text = request(alloc, dice, keeper, site)?;
+    let reply = replied(rt, alloc, keeper, caller, text.as_str())?;
+    Ok(counted(tally, reply.as_slice()))
 }
 
 // Fifty requests more.
@@ -211,12 +250,13 @@ fn fifty_turns<R: Threads + Sync>(
     alloc: Global,
     dice: &mut Dice,
     keeper: &mut MemoryKeeper,
-    tally: &mut Tally,
-) -> Result<(), Fail> {
+    tally: Tally,
+) -> Result<Tally, Fail> {
+    let mut tally = tally;
     for _ in 0..50 {
-        turn(rt, alloc, dice, keeper, tally)?;
+        tally = turn(rt, alloc, dice, keeper, tally)?;
     }
-    Ok(())
+    Ok(tally)
 }
 
 fn are_sound(alloc: Global, keeper: &mut MemoryKeeper) -> Result<bool, Fail> {
@@ -234,9 +274,14 @@ fn what_is_kept_stays_sound(rt: HostRuntime) -> Result<(), Fail> {
     let alloc = rt.alloc();
     let mut dice = Dice::new(2026);
     let mut keeper = keeper_failing(alloc, &[])?;
-    let mut tally = Tally::none();
+    let mut tally = Tally {
+        accepted: 0,
+        imported: 0,
+        stale: 0,
+        astray: 0,
+    };
     for turn in 0..20u32 {
-        fifty_turns(&rt, alloc, &mut dice, &mut keeper, &mut tally)?;
+        tally = fifty_turns(&rt, alloc, &mut dice, &mut keeper, tally)?;
         if !are_sound(alloc, &mut keeper)? {
             return Err(Fail::from(turn));
         }

@@ -1,93 +1,70 @@
 //! What a request reads of what is kept.
 
+use crate::asked::{is_accepted, keeper_failing, replied};
 use crate::doubtful::{Call, Doubtful, trail_with};
-use fixture_rules::Marks;
-use fixture_sites::Alter::Mark;
-use fixture_sites::Ask::{Alter, Csv, Earl, Get, Gone, Judge, NewSite, Put, Report, Role};
-use fixture_sites::{Ask, PAGE, View, asked, keeper_failing};
-use keep_core::MemberRole;
-use rule_core::Auto;
 use std::alloc::Global;
 use std::test::Fail;
 use std::thread::Threads;
 
-// What somebody asks of a site, and the calls of the keeper that it makes, in their order.
-type Reading = (&'static str, Ask, &'static [Call]);
+// What somebody asks, and the calls of the keeper that it makes, in their order.
+type Reading = (&'static str, &'static str, &'static [Call]);
+
+const CHANGES_MEMBERS: &[Call] = &[Call::Site, Call::Apply];
+
+const PUTS: &[Call] = &[Call::Site, Call::List, Call::Judgements, Call::Apply];
+
+const JUDGES: &[Call] = &[
+    Call::Site,
+    Call::Load,
+    Call::Judgements,
+    Call::Outcomes,
+    Call::Apply,
+];
+
+const LOADS: &[Call] = &[Call::Site, Call::Load];
+
+const SHOWS: &[Call] = &[Call::Site, Call::Load, Call::Outcomes];
+
+const SHOWS_SITE: &[Call] = &[Call::Site, Call::List, Call::Load, Call::Outcomes];
 
 static READINGS: [Reading; 15] = [
-    ("ann", NewSite, &[Call::Site, Call::Apply]),
+    ("ann", "PUT /sites/acme", CHANGES_MEMBERS),
     (
         "ann",
-        Role("bob", Some(MemberRole::Judge)),
-        &[Call::Site, Call::Apply],
-    ),
-    (
-        "ann",
-        Put("home", 0, PAGE),
-        &[Call::Site, Call::List, Call::Judgements, Call::Apply],
+        "PUT /sites/acme/members/bob\n{\"role\":\"judge\"}",
+        CHANGES_MEMBERS,
     ),
     (
         "ann",
-        Put("home", 1, PAGE),
-        &[Call::Site, Call::List, Call::Judgements, Call::Apply],
+        "PUT /sites/acme/pages/home\nx-rev: 0\n{\"url\":\"https://example.org/\",\"nodes\":[{\"n\":1,\"p\":null,\"tag\":\"div\",\"attrs\":[[\"alt\",\"x\"]]}]}",
+        PUTS,
     ),
     (
         "ann",
-        Alter("home", 2, &[Mark(2, "y")]),
-        &[
-            Call::Site,
-            Call::Load,
-            Call::Judgements,
-            Call::Outcomes,
-            Call::Apply,
-        ],
-    ),
-    (
-        "bob",
-        Judge("home", 3, 2, Auto::Passed, "y"),
-        &[
-            Call::Site,
-            Call::Load,
-            Call::Judgements,
-            Call::Outcomes,
-            Call::Apply,
-        ],
-    ),
-    ("bob", Get(View::Page, "home"), &[Call::Site, Call::Load]),
-    ("bob", Get(View::Names, "home"), &[Call::Site, Call::Load]),
-    (
-        "bob",
-        Get(View::Outcomes, "home"),
-        &[Call::Site, Call::Load, Call::Outcomes],
-    ),
-    (
-        "bob",
-        Get(View::Report, "home"),
-        &[Call::Site, Call::Load, Call::Outcomes],
-    ),
-    (
-        "bob",
-        Get(View::Earl, "home"),
-        &[Call::Site, Call::Load, Call::Outcomes],
-    ),
-    (
-        "bob",
-        Report,
-        &[Call::Site, Call::List, Call::Load, Call::Outcomes],
-    ),
-    (
-        "bob",
-        Earl,
-        &[Call::Site, Call::List, Call::Load, Call::Outcomes],
-    ),
-    (
-        "bob",
-        Csv,
-        &[Call::Site, Call::List, Call::Load, Call::Outcomes],
+        "PUT /sites/acme/pages/home\nx-rev: 1\n{\"url\":\"https://example.org/\",\"nodes\":[{\"n\":1,\"p\":null,\"tag\":\"div\",\"attrs\":[[\"alt\",\"x\"]]}]}",
+        PUTS,
     ),
     (
         "ann",
-        Gone("home", 3),
+        "POST /sites/acme/pages/home/edits\nx-rev: 2\n{\"edits\":[{\"op\":\"setAttr\",\"node\":1,\"name\":\"alt\",\"value\":\"y\"}]}",
+        JUDGES,
+    ),
+    (
+        "bob",
+        "POST /sites/acme/pages/home/judgements\n{\"rule\":\"attr0a\",\"node\":1,\"verdict\":\"passed\",\"digest\":\"a1fce4363854ff888cff4b8e7875d600c2682390412a8cf79b37d0b11148b0fa\"}",
+        JUDGES,
+    ),
+    ("bob", "GET /sites/acme/pages/home", LOADS),
+    ("bob", "GET /sites/acme/pages/home/names", LOADS),
+    ("bob", "GET /sites/acme/pages/home/outcomes", SHOWS),
+    ("bob", "GET /sites/acme/pages/home/report", SHOWS),
+    ("bob", "GET /sites/acme/pages/home/earl", SHOWS),
+    ("bob", "GET /sites/acme/report", SHOWS_SITE),
+    ("bob", "GET /sites/acme/earl", SHOWS_SITE),
+    ("bob", "GET /sites/acme/csv", SHOWS_SITE),
+    (
+        "ann",
+        "DELETE /sites/acme/pages/home\nx-rev: 3",
         &[Call::Site, Call::Load, Call::Apply],
     ),
 ];
@@ -106,9 +83,9 @@ fn reads_so<R: Threads + Sync>(
     keeper: &mut Doubtful,
     reading: &Reading,
 ) -> Result<bool, Fail> {
-    let (caller, ask, calls) = *reading;
-    asked(rt, alloc, &mut [Marks::new()], keeper, caller, "acme", ask)?;
-    Ok(keeper.trail() == trail_of(calls))
+    let (caller, request, calls) = *reading;
+    let reply = replied(rt, alloc, keeper, caller, request)?;
+    Ok(is_accepted(reply.as_slice()) && keeper.trail() == trail_of(calls))
 }
 
 #[test]

@@ -1,9 +1,7 @@
-//! Tests of stores and keepers in memory: a store's texts, each run at least once, `keep_sql` before its store is prepared, and a
-//! keeper that passes its calls on. There is no call of its own.
+//! Tests of stores and keepers in memory: a store's texts, each run at least once, and a keeper that passes its calls on. There is
+//! no call of its own.
 #![tactic(auto)]
 
-#[cfg(test)]
-mod failing;
 #[cfg(test)]
 mod keepers;
 #[cfg(test)]

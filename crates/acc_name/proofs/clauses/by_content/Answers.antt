@@ -42,10 +42,10 @@ returns-then-counts-clause-text c =
     let content = string_bytes c.args.content.now in
     let within = drop c.args.mark content in
     let utf8 = IsUtf8-drop content c.args.mark (IsUtf8-string_bytes c.args.content.now) c.requires.boundary in
-    let counts = together _ true within c.args.owned utf8 (counted _ _ _ _ _ _ true c.asks_content.ensures c.requires.blank c.blank.ensures c.if-counts.true) in
-    let is = content_decides c.args.how c.args.role (within ++ c.args.owned) (hints (seen_row c.args.row.now)) counts in
+    let counts = together _ true within c.args.owned.now utf8 (counted _ _ _ _ _ _ true c.asks_content.ensures c.requires.blank c.blank.ensures c.if-counts.true) in
+    let is = content_decides c.args.how c.args.role (within ++ c.args.owned.now) (hints (seen_row c.args.row.now)) counts in
     c.in_ok-push_str.ensures.bytes ∙ ap (λ t. content ++ t) c.as_str.ensures
-    ∙ ap (λ t. t ++ c.args.owned) (sym (take-append-drop c.args.mark content)) ∙ append_assoc (take c.args.mark content) within c.args.owned
+    ∙ ap (λ t. t ++ c.args.owned.now) (sym (take-append-drop c.args.mark content)) ∙ append_assoc (take c.args.mark content) within c.args.owned.now
     ∙ ap (λ (n : Name). take c.args.mark content ++ n.text) is
 
 pub returns-then-counts-clause-decides : goal.returns-then-counts-clause-decides
@@ -53,8 +53,8 @@ returns-then-counts-clause-decides c =
     let content = string_bytes c.args.content.now in
     let within = drop c.args.mark content in
     let utf8 = IsUtf8-drop content c.args.mark (IsUtf8-string_bytes c.args.content.now) c.requires.boundary in
-    let counts = together _ true within c.args.owned utf8 (counted _ _ _ _ _ _ true c.asks_content.ensures c.requires.blank c.blank.ensures c.if-counts.true) in
-    let is = content_decides c.args.how c.args.role (within ++ c.args.owned) (hints (seen_row c.args.row.now)) counts in
+    let counts = together _ true within c.args.owned.now utf8 (counted _ _ _ _ _ _ true c.asks_content.ensures c.requires.blank c.blank.ensures c.if-counts.true) in
+    let is = content_decides c.args.how c.args.role (within ++ c.args.owned.now) (hints (seen_row c.args.row.now)) counts in
     let held : Bool → Said = λ b. record { source = source.Content; is_blank = b } in
     ap held (sym (speaks _ _ counts)) ∙ ap said_by is
 
@@ -66,8 +66,8 @@ returns-clause-text c =
     let content = string_bytes c.args.content.now in
     let within = drop c.args.mark content in
     let utf8 = IsUtf8-drop content c.args.mark (IsUtf8-string_bytes c.args.content.now) c.requires.boundary in
-    let passes = together _ false within c.args.owned utf8 (counted _ _ _ _ _ _ false c.asks_content.ensures c.requires.blank c.blank.ensures c.if-counts.false) in
-    let is = by_hint c.args.how c.args.role (seen_row c.args.row.now) (within ++ c.args.owned) c.in_ok-hint.hint passes c.in_ok-hint.ensures in
+    let passes = together _ false within c.args.owned.now utf8 (counted _ _ _ _ _ _ false c.asks_content.ensures c.requires.blank c.blank.ensures c.if-counts.false) in
+    let is = by_hint c.args.how c.args.role (seen_row c.args.row.now) (within ++ c.args.owned.now) c.in_ok-hint.hint passes c.in_ok-hint.ensures in
     subst (λ (n : Name). OnOk c.replaced_by.result (string_bytes c.replaced_by.new.content ≡ take c.args.mark (string_bytes c.args.content.now) ++ n.text)) is c.replaced_by.ensures.text
 
 pub returns-clause-decides : goal.returns-clause-decides
@@ -75,6 +75,6 @@ returns-clause-decides c =
     let content = string_bytes c.args.content.now in
     let within = drop c.args.mark content in
     let utf8 = IsUtf8-drop content c.args.mark (IsUtf8-string_bytes c.args.content.now) c.requires.boundary in
-    let passes = together _ false within c.args.owned utf8 (counted _ _ _ _ _ _ false c.asks_content.ensures c.requires.blank c.blank.ensures c.if-counts.false) in
-    let is = by_hint c.args.how c.args.role (seen_row c.args.row.now) (within ++ c.args.owned) c.in_ok-hint.hint passes c.in_ok-hint.ensures in
+    let passes = together _ false within c.args.owned.now utf8 (counted _ _ _ _ _ _ false c.asks_content.ensures c.requires.blank c.blank.ensures c.if-counts.false) in
+    let is = by_hint c.args.how c.args.role (seen_row c.args.row.now) (within ++ c.args.owned.now) c.in_ok-hint.hint passes c.in_ok-hint.ensures in
     subst (λ (n : Name). IfOk c.replaced_by.result (λ s. s ≡ said_by n)) is c.replaced_by.ensures.decides

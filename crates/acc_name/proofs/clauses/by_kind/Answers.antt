@@ -49,7 +49,7 @@ returns-then-is_captioned-clause-text c =
     let named = held_alike _ _ _ _ _ true c.host_of-host.ensures c.requires.blank (sym c.is_captioned.ensures ∙ c.if-is_captioned.true) in
     sym (take-append-drop c.args.mark content)
     ∙ ap (λ (n : Name). take c.args.mark content ++ n.text)
-    (by_caption c.args.how c.args.role (seen_row c.args.row.now) c.args.owned (text_in c.args.inner.chosen.now) c.args.inner.caption (drop c.args.mark content) named)
+    (by_caption c.args.how c.args.role (seen_row c.args.row.now) c.args.owned.now (text_in c.args.inner.chosen.now) c.args.inner.caption (drop c.args.mark content) named)
 
 pub returns-then-is_captioned-clause-decides : goal.returns-then-is_captioned-clause-decides
 returns-then-is_captioned-clause-decides c =
@@ -57,7 +57,7 @@ returns-then-is_captioned-clause-decides c =
     let named = held_alike _ _ _ _ _ true c.host_of-host.ensures c.requires.blank (sym c.is_captioned.ensures ∙ c.if-is_captioned.true) in
     let held : Bool → Said = λ b. record { source = source.HostText; is_blank = b } in
     ap held c.requires.blank
-    ∙ ap said_by (by_caption c.args.how c.args.role (seen_row c.args.row.now) c.args.owned (text_in c.args.inner.chosen.now) c.args.inner.caption (drop c.args.mark content) named)
+    ∙ ap said_by (by_caption c.args.how c.args.role (seen_row c.args.row.now) c.args.owned.now (text_in c.args.inner.chosen.now) c.args.inner.caption (drop c.args.mark content) named)
 
 pub replaced_by-requires-clause-speaks : goal.replaced_by-requires-clause-speaks
 replaced_by-requires-clause-speaks c = found_speaks (says source.HostText c.in_ok-text.text ∷ []) c.unless_blank-native.result c.unless_blank-native.ensures
@@ -69,7 +69,7 @@ returns-then-is_some-clause-text c =
     let none = held_alike _ _ _ _ _ false c.host_of-host.ensures c.requires.blank (sym c.is_captioned.ensures ∙ c.if-is_captioned.false) in
     let found = found_native _ row c.args.inner.caption text c.in_ok-text.text c.unless_blank-native.result c.host_of-host.ensures c.in_ok-text.ensures c.unless_blank-native.ensures none in
     let is =
-    by_native c.args.how c.args.role row c.args.owned (text_in c.args.inner.chosen.now) c.args.inner.caption text c.unless_blank-native.result found (sym c.is_some.ensures ∙ c.if-is_some.true) in
+    by_native c.args.how c.args.role row c.args.owned.now (text_in c.args.inner.chosen.now) c.args.inner.caption text c.unless_blank-native.result found (sym c.is_some.ensures ∙ c.if-is_some.true) in
     subst (λ (n : Name). OnOk c.replaced_by.result (string_bytes c.replaced_by.new.content ≡ take c.args.mark (string_bytes c.args.content.now) ++ n.text)) is c.replaced_by.ensures.text
 
 pub returns-then-is_some-clause-decides : goal.returns-then-is_some-clause-decides
@@ -79,7 +79,7 @@ returns-then-is_some-clause-decides c =
     let none = held_alike _ _ _ _ _ false c.host_of-host.ensures c.requires.blank (sym c.is_captioned.ensures ∙ c.if-is_captioned.false) in
     let found = found_native _ row c.args.inner.caption text c.in_ok-text.text c.unless_blank-native.result c.host_of-host.ensures c.in_ok-text.ensures c.unless_blank-native.ensures none in
     let is =
-    by_native c.args.how c.args.role row c.args.owned (text_in c.args.inner.chosen.now) c.args.inner.caption text c.unless_blank-native.result found (sym c.is_some.ensures ∙ c.if-is_some.true) in
+    by_native c.args.how c.args.role row c.args.owned.now (text_in c.args.inner.chosen.now) c.args.inner.caption text c.unless_blank-native.result found (sym c.is_some.ensures ∙ c.if-is_some.true) in
     subst (λ (n : Name). IfOk c.replaced_by.result (λ s. s ≡ said_by n)) is c.replaced_by.ensures.decides
 
 pub returns-clause-text : goal.returns-clause-text
@@ -89,7 +89,7 @@ returns-clause-text c =
     let none = held_alike _ _ _ _ _ false c.host_of-host.ensures c.requires.blank (sym c.is_captioned.ensures ∙ c.if-is_captioned.false) in
     let found = found_native _ row c.args.inner.caption text c.in_ok-text.text c.unless_blank-native.result c.host_of-host.ensures c.in_ok-text.ensures c.unless_blank-native.ensures none in
     let is =
-    by_later c.args.how c.args.role row c.args.owned (text_in c.args.inner.chosen.now) c.args.inner.caption text c.unless_blank-native.result found (sym c.is_some.ensures ∙ c.if-is_some.false) in
+    by_later c.args.how c.args.role row c.args.owned.now (text_in c.args.inner.chosen.now) c.args.inner.caption text c.unless_blank-native.result found (sym c.is_some.ensures ∙ c.if-is_some.false) in
     subst (λ (n : Name). OnOk c.by_content.result (string_bytes c.by_content.new.content ≡ take c.args.mark (string_bytes c.args.content.now) ++ n.text)) is c.by_content.ensures.text
 
 pub returns-clause-decides : goal.returns-clause-decides
@@ -99,5 +99,5 @@ returns-clause-decides c =
     let none = held_alike _ _ _ _ _ false c.host_of-host.ensures c.requires.blank (sym c.is_captioned.ensures ∙ c.if-is_captioned.false) in
     let found = found_native _ row c.args.inner.caption text c.in_ok-text.text c.unless_blank-native.result c.host_of-host.ensures c.in_ok-text.ensures c.unless_blank-native.ensures none in
     let is =
-    by_later c.args.how c.args.role row c.args.owned (text_in c.args.inner.chosen.now) c.args.inner.caption text c.unless_blank-native.result found (sym c.is_some.ensures ∙ c.if-is_some.false) in
+    by_later c.args.how c.args.role row c.args.owned.now (text_in c.args.inner.chosen.now) c.args.inner.caption text c.unless_blank-native.result found (sym c.is_some.ensures ∙ c.if-is_some.false) in
     subst (λ (n : Name). IfOk c.by_content.result (λ s. s ≡ said_by n)) is c.by_content.ensures.decides

@@ -105,7 +105,7 @@ loop-branch-preserved g t c =
     let name_is =
     says_heard asked c.in_ok-told.told how.Inner c.role_at-role.result above row kids wanted.chosen
     (drop mark content) chosen c.in_ok-inner.inner.caption (later_at front (kept inner) content mark refl content_is) chosen_is caption_is
-    ∙ ap (λ told. said c.args.scope.node c.args.scope.hidden told how.Inner c.role_at-role.result row inner) c.in_ok-told.ensures
+    ∙ ap (λ told. said c.args.scope.node c.args.scope.hidden told how.Inner c.role_at-role.result row inner) c.in_ok-told.ensures.tells
     ∙ ap (λ role. said c.args.scope.node c.args.scope.hidden told how.Inner role row inner) c.role_at-role.ensures in
     let text_is : text ≡ (said c.args.scope.node c.args.scope.hidden told how.Inner (role_at above row) row inner).text = ap (λ (n : Name). n.text) name_is in
     let place = place_at c.loop-branch.so_far.caption (is_captioning wanted.caption row) in

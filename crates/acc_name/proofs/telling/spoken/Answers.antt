@@ -46,6 +46,6 @@ returns g c =
     let told = g.R.References.tells c.args.references.now (seen_at c.args.sight.row.now c.args.sight.below above) in
     let name_is =
     says_heard asked c.in_ok-told.told c.args.how c.role_at-role.result above row below c.nothing.result.chosen content chosen c.in_ok-inner.inner.caption content_is chosen_is caption_is
-    ∙ ap (λ told. said c.args.scope.node c.args.scope.hidden told c.args.how c.role_at-role.result row inner) c.in_ok-told.ensures
+    ∙ ap (λ told. said c.args.scope.node c.args.scope.hidden told c.args.how c.role_at-role.result row inner) c.in_ok-told.ensures.tells
     ∙ ap (λ role. said c.args.scope.node c.args.scope.hidden told c.args.how role row inner) c.role_at-role.ensures in
     name_of_parts _ c.from_string.result c.in_ok-said.said (c.from_string.ensures ∙ c.in_ok-said.ensures.text) c.in_ok-said.ensures.decides ∙ name_is

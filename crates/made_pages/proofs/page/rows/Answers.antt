@@ -1,4 +1,4 @@
-use Rattle.std.proofs.Common.{◌≤◌, arith}
+use Rattle.std.proofs.Common.{arith}
 use Rattle.made_pages.proofs.Sizes.{room, at_first, one_more}
 use Rattle.made_pages.proofs.page.rows.Goals as goal
 
