@@ -4,7 +4,6 @@ from __future__ import annotations
 import os
 import pathlib
 import re
-import resource
 import signal
 import subprocess
 import sys
@@ -93,24 +92,33 @@ def test_check_interrupt(base: str) -> None:
     same("processes that are left", list(filter(is_alive, started)), [])
 
 
+REFERENCE, SECONDS = "sum(range(10_000_000))", 0.35  # a command, and what it takes where the bounds were set
+ROUNDS = 3
+
+
 def slowness() -> float:
-    """How many times as long as alone a command takes now: its time by the clock to that of the processor, and twice that among others."""
-    begun, before = time.monotonic(), resource.getrusage(resource.RUSAGE_CHILDREN)
-    subprocess.run([sys.executable, "-c", "sum(range(10_000_000))"], check=True)
-    clock, after = time.monotonic() - begun, resource.getrusage(resource.RUSAGE_CHILDREN)
-    times = clock / (after.ru_utime + after.ru_stime - before.ru_utime - before.ru_stime)
-    return 1.0 if times < 1.2 else 2 * times
+    """How many times as long as where the bounds were set all takes now: a command by the clock, or what waits for each processor."""
+    begun = time.monotonic()
+    subprocess.run([sys.executable, "-c", REFERENCE], check=True)
+    return max(1.0, (time.monotonic() - begun) / SECONDS, os.getloadavg()[0] / (os.cpu_count() or 1))
+
+
+def most(text: str, words: str, count: int) -> float:
+    """The most of the seconds that so many lines of `bench/check` give after these words."""
+    found = [float(seconds) for seconds in re.findall(rf"{words} ([0-9.]+) s", text)]
+    same(f"lines with {words!r}", len(found), count)
+    return max(found, default=0.0)
 
 
 @pytest.mark.desk
 def test_check_times() -> None:
-    """The bounds of `bench/check`; where others are at work on the machine it is given as much longer as all takes then."""
-    allowed = slowness()
-    _, out, err = run("3", program=ROOT / "bench" / "check")
-    allowed, text = max(allowed, slowness()), out.decode("utf-8")
-    added = [float(found) for found in re.findall(r": silvervole check adds ([0-9.]+) s", text)]
-    after = [float(found) for found in re.findall(r" is there ([0-9.]+) s after", text)]
-    expect(f"what check adds to an audit, where all takes {allowed:.1f} times as long",
-           len(added) == 2 and max(added) <= 0.3 * allowed, text + err)
-    expect(f"when the first finding is there, where all takes {allowed:.1f} times as long",
-           len(after) == 4 and max(after) <= 1.0 * allowed, text + err)
+    """The bounds of `bench/check`, as much wider as this machine is slower or busier, in one of some rounds."""
+    for left in reversed(range(ROUNDS)):
+        before = slowness()
+        _, out, err = run("3", program=ROOT / "bench" / "check")
+        allowed, text = max(before, slowness()), out.decode("utf-8")
+        added, after = most(text, "silvervole check adds", 2), most(text, "the first finding .*is there", 4)
+        if (added <= 0.3 * allowed and after <= 1.0 * allowed) or not left:
+            break
+    expect(f"what check adds to an audit, where all takes {allowed:.1f} times as long", added <= 0.3 * allowed, text + err)
+    expect(f"when the first finding is there, where all takes {allowed:.1f} times as long", after <= 1.0 * allowed, text + err)
