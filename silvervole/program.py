@@ -78,6 +78,24 @@ class Audit:
             self.process.communicate()
 
 
+def table_of(cases: bytes) -> bytes | None:
+    """What the desk's program writes of a list of test cases; None where it refuses the list, or hasn't the word."""
+    program = find_program((DESK, AUDITOR))
+    if os.path.basename(program) == AUDITOR:
+        return None
+    with open(os.memfd_create("cases"), "w+b") as file:
+        file.write(cases)
+        file.seek(0)
+        process = start(program, ["-", "cases"], file, subprocess.PIPE)
+    try:
+        table, _ = process.communicate()
+    finally:
+        if process.poll() is None:
+            process.kill()
+            process.communicate()
+    return table if process.returncode in (FOUND, FAILED) else None
+
+
 def refusal(fault: Fault) -> Stop:
     """The end of a command whose audit ended so."""
     return Stop(end_of(fault), f"the desk refuses the audit: {fault}")

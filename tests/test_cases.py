@@ -12,7 +12,7 @@ import pytest
 from silvervole import __version__
 from silvervole.cases.command import status
 from silvervole.cases.earl import report
-from silvervole.cases.judging import MOST_AT_ONCE, Grade, Graded, graded, judged
+from silvervole.cases.judging import MOST_AT_ONCE, MOST_BYTES, Grade, Graded, graded, judged, list_of, lists
 from silvervole.cases.reading import EXPECTED, Case, folder_of, page_of, read_cases
 from silvervole.cases.table import Result, exceptions, rows, table
 from silvervole.collect.ends import End, Stop
@@ -96,6 +96,27 @@ def test_judged(tmp_path: pathlib.Path, monkeypatch: pytest.MonkeyPatch) -> None
     desk(tmp_path, report="", status=5, says="snapshot fault 4 Tree 1 Empty")
     refused = judged(cases[:1])[0]
     assert isinstance(refused, Stop) and refused.end is End.FAULT_SNAPSHOT and "no node" in refused.line
+
+
+def test_judged_as_a_list(tmp_path: pathlib.Path, monkeypatch: pytest.MonkeyPatch) -> None:
+    """The table that the desk writes of a list has the outcome of each case; one that is of other cases is none."""
+    snapshot = json.dumps(shop()).encode("utf-8")
+    cases = [(case(rule, expected), snapshot) for rule, expected, *_ in GRADES]
+    lines = [f"case c{place} {rule} expected {expected} actual {actual} {grade.value}" for place, (rule, expected, actual, grade) in enumerate(GRADES, 1)]
+    lines[0] = "case c1 c487ae expected failed actual inapplicable wrong"
+    monkeypatch.setenv("SILVERVOLE_PROGRAM", desk(tmp_path, report="\n".join([*lines, "total cases 9"]))["SILVERVOLE_PROGRAM"])
+    assert judged(cases) == [Graded("inapplicable", Grade.WRONG), *(Graded(actual, grade) for *_, actual, grade in GRADES[1:])]
+    refused = judged(cases[1:])
+    assert len(refused) == len(cases) - 1 and all(isinstance(outcome, Stop) for outcome in refused)
+
+
+def test_lists() -> None:
+    """A list has at most 64 cases, and no more bytes than the desk takes; it is JSON with each case in its place."""
+    assert [len(some) for some in lists([(case("97a4e1", "passed"), b"{}")] * (MOST_AT_ONCE + 1))] == [MOST_AT_ONCE, 1]
+    large = [(case("97a4e1", "passed"), b'{"url":"%s"}' % (b"a" * (MOST_BYTES // 3)))] * 7
+    assert [len(some) for some in lists(large)] == [2, 2, 2, 1] and all(len(list_of(some)) <= MOST_BYTES for some in lists(large))
+    assert json.loads(list_of([(case("97a4e1", "passed"), b'{"url":"a"}'), (case("c487ae", "failed"), b"1\n")])) == {"cases": [
+        {"id": "c1", "rule": "97a4e1", "expected": "passed", "snapshot": {"url": "a"}}, {"id": "c2", "rule": "c487ae", "expected": "failed", "snapshot": 1}]}
 
 
 def some_results() -> list[Result]:

@@ -8,7 +8,7 @@ import subprocess
 import tempfile
 
 from serving import PROGRAM, Serving, reply_in, request, told
-from stores import ran
+from stores import FILES, ran, set_back
 
 HOME = "/sites/acme/pages/home"
 OUT_OF_MEMORY = (507, b'{"number":24,"refused":"OutOfMemory"}')
@@ -116,6 +116,7 @@ class Script:
             yield f"GET {HOME}{end}", dict, (200,)
         for end in ("report", "csv", "earl"):
             yield f"GET /sites/acme/{end}", dict, (200,)
+        yield "PUT /sites/acme/languages", lambda: {"body": encoded({"languages": ["gsw"]})}, (200,)
         yield "DELETE /sites/acme/pages/two", lambda: {"rev": self.rev("two")}, (200, 404)
 
 
@@ -170,10 +171,11 @@ class Served:
 
 class Opened:
     """A run of the program over a store, with each of its allocations failing: it ends as with memory or wants memory, and the
-    store stays as it is. Where there is no store before, each run makes one."""
+    next run ends as with memory. Where there is no store before, each run makes one; where that is of an earlier edition, each run
+    finds it so."""
 
-    def __init__(self, name, words, is_there):
-        self.name, self.words, self.is_there = name, words, is_there
+    def __init__(self, name, words, is_there, edition=None):
+        self.name, self.words, self.is_there, self.edition = name, words, is_there, edition
 
     def report(self, preloaded):
         """The numbers of ends that are as with memory, that want memory, and others; says each other."""
@@ -201,8 +203,10 @@ class Opened:
             ask(desk, f"PUT {HOME}", body=encoded(snapshot("Hours")), rev=0)
 
     def start_anew(self, folder):
-        """Takes away the store that the run before made."""
-        for name in () if self.is_there else ("desk.db", "desk.db-wal"):
+        """Takes away the store that the run before made, or sets back its edition."""
+        if self.edition is not None:
+            set_back(folder, self.edition)
+        for name in () if self.is_there else FILES:
             if os.path.exists(os.path.join(folder, name)):
                 os.remove(os.path.join(folder, name))
 
@@ -213,4 +217,5 @@ class Opened:
 
 
 RUNS = [Served("a script served from memory", "-"), Served("a script served over a file", "desk.db"),
-        Opened("a new store", ("csv", "nobody"), False), Opened("a store that is opened", ("csv", "acme"), True)]
+        Opened("a new store", ("csv", "nobody"), False), Opened("a store that is opened", ("csv", "acme"), True),
+        Opened("a store that is audited anew", ("csv", "acme"), True, 1)]

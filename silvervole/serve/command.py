@@ -22,6 +22,8 @@ MEMORY = "-"
 STORE, PORT, WORKERS, CONNECTIONS = "desk.db", 8080, 4, 1_000_000
 GREATEST_PORT, MOST_WORKERS, MOST_CONNECTIONS = 65_535, 16, 1_000_000
 STEP_SECONDS = 0.02
+# After how long it is said that the program doesn't listen yet.
+SLOW_SECONDS = 5.0
 # How long open connections are waited for by an interrupt, and then the program's own end.
 WAIT_SECONDS, END_SECONDS = 3.0, 10.0
 EDITION = re.compile(r"edition fault ([0-9]+)")
@@ -83,8 +85,12 @@ class Server:
         return fault.status
 
     def tell_when_listening(self) -> None:
-        """Says where it listens, once it does."""
+        """Says where it listens, once it does; and in a line of its own what takes long where that does."""
+        slow = time.monotonic() + SLOW_SECONDS
         while self.process.poll() is None:
+            if time.monotonic() > slow:
+                say(self.program, "the desk doesn't listen yet: a large store takes a while to open, and of one of another edition all pages are audited anew")
+                slow = float("inf")
             if ports := system.listening_ports(self.process.pid):
                 self.port = ports[0]
                 say(self.program, f"listening at http://127.0.0.1:{self.port}, sites are kept {self.serving.kept}; an interrupt (Ctrl+C) ends it")

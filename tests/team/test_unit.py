@@ -10,11 +10,13 @@ import subprocess
 from typing import Any
 
 from serving import PROGRAM, free_port
+from stores import edition, set_back
 
 from ..support import expect, note, same
 from .packages import needs
 from .proxies import wait_for
-from .test_service import UNIT, Kept
+from .test_restart import QUEUE
+from .test_service import UNIT, Kept, asked
 
 pytestmark = needs("systemd")
 
@@ -33,17 +35,51 @@ def test_unit(folder: str) -> None:
     note(rated.stdout.strip().splitlines()[-1].replace("→ ", ""))
 
 
-def test_command(folder: str) -> None:
-    """The unit's command line, without systemd: what it keeps outlives stops and kills."""
+def test_patience() -> None:
+    """Nothing ends a service that audits all pages of its store anew before it listens, nor the queue before it for five minutes."""
+    text = UNIT.read_text(encoding="utf-8")
+    same("how long the unit may take to start", re.findall(r"^(?:Type|TimeoutStartSec|TimeoutSec|RuntimeMaxSec|WatchdogSec)=.*$", text, re.MULTILINE),
+         ["TimeoutStartSec=infinity"])
+    queue = QUEUE.read_text(encoding="utf-8")
+    same("how often the queue tries again, a second apart", re.findall(r"^ *retries (.*)$", queue, re.MULTILINE), ["300"])
+    same("how long requests wait", re.findall(r"^ *timeout (client|server|queue) (.*)$", queue, re.MULTILINE),
+         [(name, "300s") for name in ("client", "server", "queue")])
+
+
+def started(folder: str, port: int) -> subprocess.Popen[bytes]:
+    """The unit's command line, without systemd, once it listens."""
     text = UNIT.read_text(encoding="utf-8")
     settings = dict(word.split("=", 1) for word in re.findall(r"^Environment=(.*)$", text, re.MULTILINE)[0].split())
     words = re.findall(r"^ExecStart=/usr/bin/act_desk (.*)$", text, re.MULTILINE)[0].split()
-    port = free_port()
     words = [str(port) if word == "%i" else settings.get(word.strip("${}"), word) for word in words]
+    desk = subprocess.Popen([PROGRAM, *words], cwd=folder, stdin=subprocess.DEVNULL)
+    wait_for(desk, port, "the unit's command")
+    return desk
+
+
+def test_audited_anew(folder: str) -> None:
+    """Over a store of an earlier edition the unit's command audits all pages anew, and then tells what it told before."""
+    port = free_port()
+    desk = started(folder, port)
+    kept = Kept(port)
+    told = asked(port, "GET /sites/acme/csv")
+    desk.terminate()
+    desk.wait()
+    set_back(folder, 1)
+    desk = started(folder, port)
+    same("what is told", asked(port, "GET /sites/acme/csv"), told)
+    kept.is_there("all pages were audited anew")
+    desk.kill()
+    desk.wait()
+    same("the store's edition", edition(folder), 3_003)
+
+
+def test_command(folder: str) -> None:
+    """The unit's command line, without systemd: what it keeps outlives stops and kills."""
+    port = free_port()
     kept = None
     for end in (signal.SIGTERM, signal.SIGKILL, signal.SIGTERM):
-        desk = subprocess.Popen([PROGRAM, *words], cwd=folder, stdin=subprocess.DEVNULL)
-        wait_for(desk, port, "the unit's command")
+        desk = started(folder, port)
         if kept is None:
             kept = Kept(port)
         else:

@@ -5,7 +5,9 @@
 
 mod arguments;
 mod books;
+mod cases;
 mod generate;
+mod refreshing;
 mod running;
 mod serve;
 mod show;
