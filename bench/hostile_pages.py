@@ -240,6 +240,15 @@ def below_long_roles_of_parents():
     return page
 
 
+def items_below_long_roles():
+    """Nested elements whose roles are long lists of unknown words, and list items below them."""
+    page, body = begun()
+    inner = nested(page, body, ["div"], 110, [("role", repeated("x"))])
+    for _ in range(9_000):
+        page.element(inner, "div", [("role", "listitem")])
+    return page
+
+
 def viewports():
     page = Page()
     html = page.element(None, "html", [("lang", "en")])
@@ -280,6 +289,86 @@ def options():
     inner = nested(page, box, ["div"], HEIGHT, [("role", "group")])
     for _ in range(9_800):
         page.element(inner, "div", [("role", "option")])
+    return page
+
+
+# ---- labels in names
+
+def labelled_buttons(label, count, length, text="a"):
+    """120 nested buttons, each with a label of its own that ends in its number, around so many texts."""
+    page, inner = begun()
+    for number in range(HEIGHT):
+        inner = page.element(inner, "button", [("aria-label", f"{label} {number}")], "rvft")
+    for _ in range(count):
+        page.words(inner, (text * (length // len(text) + 1))[:length])
+    return page
+
+
+def buttons_and_texts(label, text):
+    """Buttons with a label of 32,000 bytes and a text as long, each of its own."""
+    page, body = begun()
+    for number in range(HEIGHT):
+        button = page.element(body, "button", [("aria-label", f"{label} {number}")], "rvft")
+        page.words(button, text)
+    return page
+
+
+def named_by_one_text():
+    """Buttons that one long text names, and that show long texts without a word of it."""
+    page, body = begun()
+    page.words(page.element(body, "p", [("id", "t")]), repeated("a"))
+    for number in range(90):
+        page.words(page.element(body, "button", [("aria-labelledby", "t")], "rvft"), repeated(f"b{number}"))
+    return page
+
+
+# ---- roles
+
+def roles_in_turn():
+    """A chain of elements with roles, and leaves of which each has to stand in one."""
+    page, body = begun()
+    roles = ["tree", "group", "none", "treeitem", "generic", "presentation"]
+    inner = body
+    for level in range(HEIGHT):
+        inner = page.element(inner, "div", [("role", roles[level % len(roles)])])
+    for _ in range(9_000):
+        page.element(inner, "div", [("role", "row")])
+    return page
+
+
+def passed_roles():
+    """Rows below groups and row groups, none of which counts for a row, so that each looks to the top."""
+    page, body = begun()
+    inner = nested(page, page.element(body, "div", [("role", "rowgroup")]), ["div"], HEIGHT - 1, [("role", "group")])
+    for _ in range(9_000):
+        page.element(inner, "div", [("role", "row")])
+    return page
+
+
+def decorative_words():
+    """Elements whose roles are none behind long lists of unknown words, with a global attribute each."""
+    page, body = begun()
+    for _ in range(HEIGHT):
+        page.element(body, "div", [("role", f"{repeated('x')} none"), ("aria-label", "a")], "rvft")
+    return page
+
+
+def buttons_in_buttons():
+    """Nested buttons around as many as there is room for."""
+    page, body = begun()
+    inner = nested(page, body, ["button"], HEIGHT, (), "rvft")
+    for _ in range(9_800):
+        page.element(inner, "button", (), "rvft")
+    return page
+
+
+def states_everywhere():
+    """Elements with each state that only some roles have."""
+    page, body = begun()
+    states = [(f"aria-{name}", "true") for name in (
+        "checked", "expanded", "level", "modal", "multiline", "placeholder", "multiselectable", "pressed", "selected", "sort")]
+    for _ in range(9_000):
+        page.element(body, "div", [("role", "row"), *states])
     return page
 
 
@@ -454,4 +543,18 @@ PAGES = [
     (hidden, 2, "120 nested hidden elements, 9,800 buttons"),
     (options, 2, "a listbox of 120 nested groups, 9,800 options"),
     (many_headings, 2, "4,950 headings of 1,500 bytes"),
+    # labels in names
+    (lambda: labelled_buttons("a", 1, 65_536, "b "), 2, "120 nested buttons of other labels, one text of 65,536 bytes"),
+    (lambda: labelled_buttons(repeated("c"), 1, 65_536, "b "), 2, "the same, with labels of 65,000 bytes"),
+    (lambda: labelled_buttons("b " + "a" * LIST, 1, 32_000, "b " + "a" * 31_997 + "b"), 2, "the same, with labels that nearly have the text"),
+    (lambda: buttons_and_texts(repeated("ab", 32_000), repeated("ba", 32_000)), 2, "120 buttons with labels and texts of 32,000 bytes"),
+    (named_by_one_text, 2, "90 buttons of long texts that one long text names"),
+    (lambda: labelled_buttons("a", 9_000, 600, "b "), 8, "120 nested buttons of other labels, 9,000 texts of 600 bytes"),
+    # roles
+    (items_below_long_roles, 2, "9,000 list items below 110 elements with long roles"),
+    (roles_in_turn, 2, "9,000 rows below 120 elements with roles"),
+    (passed_roles, 2, "9,000 rows below 120 elements that don't count"),
+    (decorative_words, 2, "120 long roles that end in none"),
+    (buttons_in_buttons, 2, "120 nested buttons, 9,800 buttons in them"),
+    (states_everywhere, 2, "9,000 rows with ten states"),
 ]

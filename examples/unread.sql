@@ -1,5 +1,5 @@
 -- Lists the rows of a store that don't read, and those of a site or a page that isn't kept. A line has the table, the site,
--- the page or the user, the `seq`, and what is wrong. While no program has the store, and with a copy of both its files:
+-- the page, the user or the language, the `seq`, and what is wrong. While no program has the store, and with a copy of both its files:
 --
 --     sqlite3 desk.db < unread.sql
 --
@@ -17,10 +17,12 @@
 --
 --     sqlite3 desk.db "update judgements set seq = seq - 1 where site = 'acme' and page = 'home' and seq > 2"
 --
--- At last the outcomes go of each page of which something was changed. The desk makes them anew where the page is put
--- again as it is, with its revision in `x-rev`:
+-- At last the outcomes go of each page of which something was changed, and the edition. The desk audits all pages anew at its next
+-- start:
 --
---     sqlite3 desk.db "delete from outcomes where site = 'acme' and page = 'home'"
+--     sqlite3 desk.db "delete from outcomes where site = 'acme' and page = 'home'; delete from edition"
+--
+-- A store of an earlier desk has no table of languages yet; the desk makes it when it opens the store.
 WITH
     misnamed (name) AS (
         SELECT name
@@ -33,7 +35,14 @@ WITH
             ('judge-heading'), ('bad-tokens'), ('no-known-role'), ('outside-role'), ('unknown-attr'), ('later-attr'),
             ('bad-value'), ('dead-reference'), ('missing-state'), ('bad-owned'), ('nothing-owned'), ('focusable-inside'),
             ('headers-outside'), ('no-cells'), ('large-grid'), ('no-heading'), ('judge-heading-start'), ('no-landmark'),
-            ('judge-landmark'), ('no-skip-link'), ('judge-skip-link'), ('no-collapse'), ('judge-collapse')
+            ('judge-landmark'), ('no-skip-link'), ('judge-skip-link'), ('no-collapse'), ('judge-collapse'),
+            ('lang-mismatch'), ('judge-label'), ('judge-image'), ('not-permitted'), ('no-role'), ('no-context'),
+            ('maybe-owned'), ('marked-exposed'), ('label-missing'), ('judge-label-in-name')
+    ),
+    placed_languages AS (
+        SELECT *, row_number() OVER (PARTITION BY site ORDER BY seq) AS place,
+            row_number() OVER (PARTITION BY site, tag ORDER BY seq) AS time
+        FROM languages
     ),
     placed_judgements AS (SELECT *, row_number() OVER (PARTITION BY site, page ORDER BY seq) AS place FROM judgements),
     placed_outcomes AS (SELECT *, row_number() OVER (PARTITION BY site, page ORDER BY seq) AS place FROM outcomes)
@@ -44,6 +53,10 @@ UNION ALL SELECT 'sites', name, '', '', 'counter' FROM sites WHERE counter < 0
 UNION ALL SELECT 'members', site, user, '', 'no such site' FROM members WHERE site NOT IN (SELECT name FROM sites)
 UNION ALL SELECT 'members', site, user, '', 'user' FROM members WHERE user IN misnamed
 UNION ALL SELECT 'members', site, user, '', 'role' FROM members WHERE role NOT BETWEEN 0 AND 3
+
+UNION ALL SELECT 'languages', site, tag, seq, 'no such site' FROM languages WHERE site NOT IN (SELECT name FROM sites)
+UNION ALL SELECT 'languages', site, tag, seq, 'seq' FROM placed_languages WHERE seq <> place OR place > 1000
+UNION ALL SELECT 'languages', site, tag, seq, 'tag' FROM placed_languages WHERE tag NOT GLOB '[a-z][a-z][a-z]' OR time > 1
 
 UNION ALL SELECT 'pages', site, page, '', 'no such site' FROM pages WHERE site NOT IN (SELECT name FROM sites)
 UNION ALL SELECT 'pages', site, page, '', 'page' FROM pages WHERE page IN misnamed

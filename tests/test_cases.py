@@ -12,7 +12,7 @@ import pytest
 from silvervole import __version__
 from silvervole.cases.command import status
 from silvervole.cases.earl import report
-from silvervole.cases.judging import MOST_AT_ONCE, Grade, Graded, graded, judged
+from silvervole.cases.judging import MOST_AT_ONCE, MOST_BYTES, Grade, Graded, graded, judged, list_of, lists
 from silvervole.cases.reading import EXPECTED, Case, folder_of, page_of, read_cases
 from silvervole.cases.table import Result, exceptions, rows, table
 from silvervole.collect.ends import End, Stop
@@ -98,6 +98,27 @@ def test_judged(tmp_path: pathlib.Path, monkeypatch: pytest.MonkeyPatch) -> None
     assert isinstance(refused, Stop) and refused.end is End.FAULT_SNAPSHOT and "no node" in refused.line
 
 
+def test_judged_as_a_list(tmp_path: pathlib.Path, monkeypatch: pytest.MonkeyPatch) -> None:
+    """The table that the desk writes of a list has the outcome of each case; one that is of other cases is none."""
+    snapshot = json.dumps(shop()).encode("utf-8")
+    cases = [(case(rule, expected), snapshot) for rule, expected, *_ in GRADES]
+    lines = [f"case c{place} {rule} expected {expected} actual {actual} {grade.value}" for place, (rule, expected, actual, grade) in enumerate(GRADES, 1)]
+    lines[0] = "case c1 c487ae expected failed actual inapplicable wrong"
+    monkeypatch.setenv("SILVERVOLE_PROGRAM", desk(tmp_path, report="\n".join([*lines, "total cases 9"]))["SILVERVOLE_PROGRAM"])
+    assert judged(cases) == [Graded("inapplicable", Grade.WRONG), *(Graded(actual, grade) for *_, actual, grade in GRADES[1:])]
+    refused = judged(cases[1:])
+    assert len(refused) == len(cases) - 1 and all(isinstance(outcome, Stop) for outcome in refused)
+
+
+def test_lists() -> None:
+    """A list has at most 64 cases, and no more bytes than the desk takes; it is JSON with each case in its place."""
+    assert [len(some) for some in lists([(case("97a4e1", "passed"), b"{}")] * (MOST_AT_ONCE + 1))] == [MOST_AT_ONCE, 1]
+    large = [(case("97a4e1", "passed"), b'{"url":"%s"}' % (b"a" * (MOST_BYTES // 3)))] * 7
+    assert [len(some) for some in lists(large)] == [2, 2, 2, 1] and all(len(list_of(some)) <= MOST_BYTES for some in lists(large))
+    assert json.loads(list_of([(case("97a4e1", "passed"), b'{"url":"a"}'), (case("c487ae", "failed"), b"1\n")])) == {"cases": [
+        {"id": "c1", "rule": "97a4e1", "expected": "passed", "snapshot": {"url": "a"}}, {"id": "c2", "rule": "c487ae", "expected": "failed", "snapshot": 1}]}
+
+
 def some_results() -> list[Result]:
     """Cases of each grade, of a page that isn't HTML, and of one that doesn't load."""
     return [Result(case("c4a8a4", "passed", "t1"), Graded("cantTell", Grade.UNTOLD)), Result(case("c4a8a4", "inapplicable", "t2"), Graded("inapplicable", Grade.CORRECT)),
@@ -158,7 +179,8 @@ def test_report() -> None:
 
 def test_words(tmp_path: pathlib.Path) -> None:
     """Words that are refused before a browser starts."""
-    for words, end, says in (((), End.USAGE, "LIST"), ((LIST, "--rule", "zzzzzz"), End.USAGE, "no rule of the desk"),
+    for words, end, says in (((), End.USAGE, "LIST"), ((LIST, "--rule", "zzzzzz"), End.USAGE, "no rule in the book of thirty"),
+                             ((LIST, "--rule", "5b7ae0"), End.USAGE, "no rule in the book of thirty"),
                              ((LIST, "--cookie", "a=b"), End.USAGE, "nowhere to go"), ((tmp_path / "none",), End.INPUT, "can't be read"),
                              (("http://127.0.0.1:9/testcases.json",), End.LOAD, "doesn't load")):
         code, out, error = silvervole("cases", *words)

@@ -58,13 +58,14 @@ def test_why_not_stored(tmp_path: pathlib.Path) -> None:
     text.write_text("no database at all", encoding="utf-8")
     made(other, "create table books (x)")
     made(ours, *tables())
+    made(tmp_path / "earlier.db", *tables()[:-1], "drop table languages", "create table sites (x)")
     before = {path.name: path.read_bytes() for path in tmp_path.iterdir()}
     assert reasons.why_not_stored("file:x.db") == reasons.why_not_stored(":memory:") == "the desk takes no store of such a name"
     assert reasons.why_not_stored(str(tmp_path)) == "it is a folder"
     assert reasons.why_not_stored(f"{tmp_path}/none/x.db") == f"there is no folder {tmp_path}/none"
     assert reasons.why_not_stored(str(text)) == "it is no store: it isn't a database of SQLite"
     assert reasons.why_not_stored(str(other)) == "it is a database of something else: its tables are books"
-    assert reasons.why_not_stored(str(ours)) == "the reason can't be found out"
+    assert reasons.why_not_stored(str(ours)) == reasons.why_not_stored(f"{tmp_path}/earlier.db") == "the reason can't be found out"
     assert reasons.why_not_stored("/dev/null") == "it is no ordinary file"
     assert {path.name: path.read_bytes() for path in tmp_path.iterdir()} == before
 
@@ -149,17 +150,26 @@ def test_wrong_words(words: tuple[str, ...]) -> None:
     assert status == 18 and error.count("\n") == 1
 
 
-def started(folder: pathlib.Path, store: str, port: int) -> subprocess.Popen[str]:
-    """The command over a program that only listens, once it says so."""
+def started(folder: pathlib.Path, store: str, port: int, seconds: int = 0) -> subprocess.Popen[str]:
+    """The command over a program that only listens, after so many seconds, once it says so."""
     program = folder / "listens"
-    program.write_text(LISTENING, encoding="utf-8")
+    program.write_text(LISTENING.replace("door =", f"time.sleep({seconds})\ndoor ="), encoding="utf-8")
     program.chmod(0o755)
     command = subprocess.Popen([COMMAND, "serve", store, "--port", str(port)], stderr=subprocess.PIPE, text=True,
                                env={**plain_environment(), "SILVERVOLE_PROGRAM": str(program)})
     kept = "in memory, so that all is lost when it ends" if store == "-" else f"in {store}"
     assert command.stderr is not None
+    if seconds:
+        assert command.stderr.readline().startswith("silvervole serve: the desk doesn't listen yet: a large store takes a while to open, and of one of ")
     assert command.stderr.readline() == f"silvervole serve: listening at http://127.0.0.1:{port}, sites are kept {kept}; an interrupt (Ctrl+C) ends it\n"
     return command
+
+
+def test_slow_start(tmp_path: pathlib.Path) -> None:
+    """A program that takes long until it listens is waited for, and that is said once."""
+    command = started(tmp_path, f"{tmp_path}/desk.db", free_port(), 7)
+    command.send_signal(signal.SIGINT)
+    command.communicate(timeout=60)
 
 
 @pytest.mark.parametrize("sent", [signal.SIGINT, signal.SIGTERM])

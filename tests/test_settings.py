@@ -26,6 +26,7 @@ viewport = "800x600"
 budget = 7
 accepted = "team/accepted.toml"
 out = "audit"
+book = "forty"
 
 [waiting]
 for = "main h1"
@@ -59,7 +60,7 @@ def test_each_setting(tmp_path: pathlib.Path) -> None:
     options = found.options
     assert (found.jobs, options.frames, options.shadow, options.exact, options.viewport, found.budget) == (3, True, False, True, (800, 600), 7)
     assert (options.wait, options.timeout, options.settle, options.shot) == ("main h1", 2.5, 40, "")
-    assert (found.given.accepted, found.out) == (str(tmp_path / "team/accepted.toml"), str(tmp_path / "audit"))
+    assert (found.given.accepted, found.out, found.book) == (str(tmp_path / "team/accepted.toml"), str(tmp_path / "audit"), "forty")
     assert (found.given.html, found.given.junit, found.given.json) == (str(tmp_path / "out/found.html"), str(tmp_path / "out/junit.xml"), None)
     assert [(one.page, one.url, one.states) for one in found.subjects] == [
         ("https://www.example.org/", None, None),
@@ -69,8 +70,9 @@ def test_each_setting(tmp_path: pathlib.Path) -> None:
 def test_the_command_line_wins(tmp_path: pathlib.Path) -> None:
     """Each word counts in place of its setting, and pages in place of the pages there."""
     found = checking(tmp_path, WHOLE, "--jobs", "1", "--no-frames", "--shadow", "--wait", "load", "--budget", "0", "--html", "here.html",
-                     "https://other.example/")
+                     "--book", "thirty", "https://other.example/")
     assert (found.jobs, found.options.frames, found.options.shadow, found.options.wait, found.budget) == (1, False, True, "load", 0)
+    assert found.book == "thirty"
     assert (found.given.html, [one.page for one in found.subjects]) == ("here.html", ["https://other.example/"])
     assert found.options.settle == 40
 
@@ -84,11 +86,13 @@ def test_list(tmp_path: pathlib.Path) -> None:
 
 @pytest.mark.parametrize("text, says", [
     ("bugdet = 3", "bugdet is no setting; is budget meant?"),
-    ("zzz = 3", "zzz is no setting: there are accepted, budget, "),
+    ("zzz = 3", "zzz is no setting: there are accepted, book, budget, "),
     ("[waiting]\nuntil = 3", "until of [waiting] is no setting"),
     ("[formats]\npdf = \"x\"", "pdf of [formats] is no setting"),
     ("budget = -1", "budget: -1 isn't a whole number from 0 to "),
     ("budget = true", "budget: it is a number or a text"),
+    ("book = \"fifty\"", "book: it is thirty or forty"),
+    ("book = 40", "book: it is thirty or forty"),
     ("frames = 1", "frames: it is true or false"),
     ("jobs = 17", "jobs: 17 isn't a whole number from 1 to 16"),
     ("viewport = \"800\"", "viewport: 800 isn't a width and a height"),

@@ -8,9 +8,11 @@ import subprocess
 import tempfile
 
 from serving import PROGRAM, Serving, reply_in, request, told
-from stores import ran
+from stores import FILES, ran, set_back
 
 HOME = "/sites/acme/pages/home"
+# The word for the book of forty, before the store.
+FORTY = ("forty",)
 OUT_OF_MEMORY = (507, b'{"number":24,"refused":"OutOfMemory"}')
 WANTS_MEMORY = (8, "", "no memory\n")
 # How many differences of one run are printed at the most.
@@ -116,6 +118,7 @@ class Script:
             yield f"GET {HOME}{end}", dict, (200,)
         for end in ("report", "csv", "earl"):
             yield f"GET /sites/acme/{end}", dict, (200,)
+        yield "PUT /sites/acme/languages", lambda: {"body": encoded({"languages": ["gsw"]})}, (200,)
         yield "DELETE /sites/acme/pages/two", lambda: {"rev": self.rev("two")}, (200, 404)
 
 
@@ -170,10 +173,11 @@ class Served:
 
 class Opened:
     """A run of the program over a store, with each of its allocations failing: it ends as with memory or wants memory, and the
-    store stays as it is. Where there is no store before, each run makes one."""
+    next run ends as with memory. Where there is no store before, each run makes one; where that is of another edition, each run
+    finds it so. Words for a book stand before the store."""
 
-    def __init__(self, name, words, is_there):
-        self.name, self.words, self.is_there = name, words, is_there
+    def __init__(self, name, words, is_there, edition=None, book=()):
+        self.name, self.words, self.is_there, self.edition = name, (*book, "desk.db", *words), is_there, edition
 
     def report(self, preloaded):
         """The numbers of ends that are as with memory, that want memory, and others; says each other."""
@@ -181,7 +185,7 @@ class Opened:
         with tempfile.TemporaryDirectory() as folder:
             if self.is_there:
                 self.fill(folder)
-            whole = ran(PROGRAM, folder, "desk.db", *self.words)
+            whole = ran(PROGRAM, folder, *self.words)
             countdown = Countdown(folder)
             while reached:
                 self.start_anew(folder)
@@ -189,7 +193,7 @@ class Opened:
                 end = self.ran(folder, countdown.settings(preloaded))
                 reached = countdown.is_reached()
                 counts.add(0) if end == whole else counts.add(1) if end == WANTS_MEMORY else counts.differ(f"allocation {number}: {end}")
-                again = ran(PROGRAM, folder, "desk.db", *self.words)
+                again = ran(PROGRAM, folder, *self.words)
                 if again != whole:
                     counts.differ(f"after allocation {number} the next run ends with {again}")
                 number += 1
@@ -201,16 +205,20 @@ class Opened:
             ask(desk, f"PUT {HOME}", body=encoded(snapshot("Hours")), rev=0)
 
     def start_anew(self, folder):
-        """Takes away the store that the run before made."""
-        for name in () if self.is_there else ("desk.db", "desk.db-wal"):
+        """Takes away the store that the run before made, or sets back its edition."""
+        if self.edition is not None:
+            set_back(folder, self.edition)
+        for name in () if self.is_there else FILES:
             if os.path.exists(os.path.join(folder, name)):
                 os.remove(os.path.join(folder, name))
 
     def ran(self, folder, settings):
-        end = subprocess.run([PROGRAM, "desk.db", *self.words], cwd=folder, env=settings, stdin=subprocess.DEVNULL, capture_output=True,
+        end = subprocess.run([PROGRAM, *self.words], cwd=folder, env=settings, stdin=subprocess.DEVNULL, capture_output=True,
                              timeout=600, check=False)
         return end.returncode, end.stdout.decode(), end.stderr.decode()
 
 
 RUNS = [Served("a script served from memory", "-"), Served("a script served over a file", "desk.db"),
-        Opened("a new store", ("csv", "nobody"), False), Opened("a store that is opened", ("csv", "acme"), True)]
+        Opened("a new store", ("csv", "nobody"), False), Opened("a store that is opened", ("csv", "acme"), True),
+        Opened("a store that is audited anew", ("csv", "acme"), True, 1),
+        Opened("a store that the book of thirty judged, by that of forty", ("csv", "acme"), True, 3_003, FORTY)]

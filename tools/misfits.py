@@ -1,6 +1,8 @@
 """Requests for tools/test-api: those that have one thing wrong each are refused, and fit no description; the others are read."""
 from __future__ import annotations
 
+import itertools
+import string
 from typing import Any
 
 from refusals import EVIDENCE, PAGE
@@ -33,6 +35,11 @@ def judged(**members: Any) -> dict[str, Any]:
 
 
 MEMBERS: list[Any] = [{}, [], 1, {"role": None}, {"role": "boss"}, {"role": "Owner"}, {"role": ["owner"]}, {"role": "judge\n"}]
+# So many subtags that differ: aaa, aab and so on.
+SUBTAGS = ["".join(letters) for letters in itertools.islice(itertools.product(string.ascii_lowercase, repeat=3), 1_001)]
+LISTS: list[Any] = [None, "gsw", {}, [1], [None], ["gsw", "gsw"], ["gsw", ["haw"]], ["GSW"], ["en"], ["gsws"], [""], ["g-w"], ["gsw\n"],
+                    ["\u00e9aa"], SUBTAGS]
+LANGUAGES: list[Any] = [{}, [], *({"languages": languages} for languages in LISTS)]
 ATTRIBUTES: list[Any] = [None, {}, ["id"], [["id"]], [["id", "a", "b"]], [["", "a"]], [["id", 1]], [["id", "a" * 65_537]],
                          [[f"data-{n}", ""] for n in range(65)]]
 SNAPSHOTS: list[Any] = [
@@ -73,11 +80,13 @@ JUDGEMENTS: list[Any] = [
     *(judged(note=note) for note in (None, 1, "a" * 2_001))]
 # Who asks what with which revision, and bodies that it hasn't.
 BODIES: list[tuple[str, int | None, list[Any]]] = [
-    ("PUT /sites/r/members/new", None, MEMBERS), ("PUT /sites/r/pages/new", 0, SNAPSHOTS), ("POST /sites/r/import", None, IMPORTS),
+    ("PUT /sites/r/members/new", None, MEMBERS), ("PUT /sites/r/languages", None, LANGUAGES), ("PUT /sites/r/pages/new", 0, SNAPSHOTS),
+    ("POST /sites/r/import", None, IMPORTS),
     ("POST /sites/r/pages/home/edits", 1, EDITS), ("POST /sites/r/pages/home/judgements", None, JUDGEMENTS)]
 # What is read, though it looks odd: members that aren't named, letters in any order or case, what isn't looked at on a text.
 READ: list[tuple[str, int | None, list[Any]]] = [
     ("PUT /sites/r/members/new", None, [{"role": role} for role in ("owner", "editor", "judge", "reader", "none")] + [{"role": "judge", "since": 1}]),
+    ("PUT /sites/r/languages", None, [{"languages": []}, {"languages": ["gsw", "haw"], "since": 1}, {"languages": SUBTAGS[:1_000]}]),
     ("PUT /sites/r/pages/read", 0, [
         {**PAGE, "state": "open", "frame": 2},
         *({**PAGE, "url": url} for url in (" HTTPS://Example.org", "https:example.org", "ht\ntp://a/", "http://\u00e9.example/")),
@@ -97,10 +106,11 @@ LONG = b"x: " + b"a" * 16_384
 # Whole messages: no route, no method, no caller, no revision, and the five refusals of a head.
 MESSAGES: list[bytes] = [
     *(request(f"GET {path}") for path in ("/", "/sites", "/sites/", "/sites/r/", "/sites/R/report", "/sites/r/names", "/sites/r/pages",
-                                          "/sites/r/pages/", "/sites/r/pages/home/", "/sites/r/pages/home/csv", f"/sites/{'a' * 65}/report",
-                                          "/sites/r/pages/%68ome")),
+                                          "/sites/r/pages/", "/sites/r/pages/home/", "/sites/r/pages/home/csv", "/sites/r/pages/home/languages",
+                                          f"/sites/{'a' * 65}/report", "/sites/r/pages/%68ome")),
     *(request(f"{method} /sites/r", body=b"x") for method in ("GET", "POST", "DELETE", "PATCH", "HEAD", "put")),
     *(request(line, body=b"x") for line in ("PUT /sites/r/report", "GET /sites/r/import", "POST /sites/r/members/bob",
+                                            "GET /sites/r/languages", "POST /sites/r/languages", "DELETE /sites/r/languages",
                                             "PUT /sites/r/pages/home/edits", "POST /sites/r/pages/home", "DELETE /sites/r/pages/home/outcomes")),
     *(request("GET /sites/r/report", caller=caller) for caller in (None, "Ann", "ann lee", "a" * 65, "")),
     request("GET /sites/r/report", fields=("x-caller: bob",)),

@@ -14,10 +14,11 @@ CRATES = pathlib.Path(ROOT, "crates")
 INFO = re.compile(r'no: RuleNo\(([\w:]+)\),\s*id: \*b"(\w+)",\s*applies: Class::(\w+),\s*expects: Class::(\w+),\s*inputs: \[([^\]]+)\]')
 OWN = re.compile(r"^impl (\w+) \{\n(?:    ///.*\n)*    pub const NO: u16 = (\d+);\n.*?^    pub const INFO: RuleInfo = RuleInfo \{(.*?)^    \};",
                  re.MULTILINE | re.DOTALL)
-COMPOSITE = re.compile(r"^const (\w+): RuleInfo = RuleInfo \{(.*?)^\};", re.MULTILINE | re.DOTALL)
+COMPOSITE = re.compile(r"^(?:pub )?const (\w+): RuleInfo = RuleInfo \{(.*?)^\};", re.MULTILINE | re.DOTALL)
+FURTHER = re.compile(r"^    (\w+)(?:::INFO)?,$", re.MULTILINE)
 TABLE = re.compile(r"^macro_rules! rules \{.*?\$made!\(\$given\n(.*?)^        \)", re.MULTILINE | re.DOTALL)
-FUNCTION = re.compile(r"^( *)(?:pub(?:\(\w+\))? )?fn (\w+)(.*?)^\1\}$", re.MULTILINE | re.DOTALL)
-IMPORT = re.compile(r"^use crate::(\w+)::(?:(\w+)|\{([^}]*)\});", re.MULTILINE)
+FUNCTION = re.compile(r"^( *)(?:pub(?:\(\w+\))? )?fn (\w+)(.*?)^\1\{?\}$", re.MULTILINE | re.DOTALL)
+IMPORT = re.compile(r"^use (?:crate::)?(\w+)::(?:(\w+)|\{([^}]*)\});", re.MULTILINE)
 ARM = re.compile(r"(?:(\w+)::(\w+) => )?(?:Finding::(\w+)\()?Reason::(\w+)")
 # The outcome of each way to make a finding.
 OUTCOMES = {"failed": "failed", "cant_tell": "cantTell", "passed": "passed"}
@@ -46,7 +47,7 @@ class Criterion:
 
 @dataclass
 class Source:
-    """A file of a crate: its functions by their names, and of which module each name comes that it imports."""
+    """A file of a crate: its functions by their names, and of which module or crate each name comes that it imports."""
 
     path: pathlib.Path
     text: str
@@ -72,13 +73,18 @@ def info_in(text: str, numbers: dict[str, int]) -> Info:
 
 
 def infos() -> list[Info]:
-    """The rules of the book's table, in its order."""
+    """The rules of the book of forty, in its order: those of the table of the book of thirty stand first."""
     text = (CRATES / "rule_book" / "src" / "table.rt").read_text(encoding="utf-8")
     known = own_by_name()
     numbers = {f"{name}::NO": info.number for name, info in known.items()}
     known |= {name: info_in(told, numbers) for name, told in COMPOSITE.findall(text)}
     table = TABLE.search(text)
-    return [known[name] for name in re.findall(r"\w+", table[1] if table else "")]
+    thirty = re.findall(r"\w+", table[1] if table else "")
+    text = (CRATES / "book_forty" / "src" / "table.rt").read_text(encoding="utf-8")
+    forty = FURTHER.findall(text[text.index("static INFOS"):text.index("];")])
+    if forty[:len(thirty)] != thirty:
+        raise SystemExit("the book of forty doesn't begin with the book of thirty")
+    return [known[name] for name in forty]
 
 
 def own_by_name() -> dict[str, Info]:
@@ -113,7 +119,7 @@ def reason_words() -> dict[str, str]:
 
 
 def reached(path: pathlib.Path) -> list[tuple[Source, str]]:
-    """The functions of a rule's file, and those of its crate that they call by a name that they import or have beside them."""
+    """The functions of a rule's file, and those of crates of rules that they call by a name that they import or have beside them."""
     todo = [(source(path), name) for name in source(path).functions]
     for file, name in todo:
         for word in set(re.findall(r"\w+", file.functions[name])):
@@ -125,8 +131,12 @@ def called(file: Source, word: str) -> list[tuple[Source, str]]:
     """The functions that a word of a file may mean: one of them, or those beside a type that is imported."""
     if word in file.functions:
         return [(file, word)]
-    path = file.path.with_name(f"{file.imports.get(word, '')}.rt")
-    if word not in file.imports or not path.is_file():
+    if word not in file.imports:
+        return []
+    if file.imports[word].startswith("rules_"):
+        return [(source(path), word) for path in sorted((CRATES / file.imports[word] / "src").glob("*.rt")) if word in source(path).functions]
+    path = file.path.with_name(f"{file.imports[word]}.rt")
+    if not path.is_file():
         return []
     module = source(path)
     return [(module, word)] if word in module.functions else [(module, name) for name in module.functions] if word[0].isupper() else []

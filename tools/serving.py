@@ -20,22 +20,24 @@ def free_port():
 class Serving:
     """The program, which serves so many connections over a store, memory where none is named, until the block ends.
 
-    Until it listens it has some seconds, which a large store takes to open. `settings` is its environment."""
+    Until it listens it has some seconds, which a large store takes to open. `settings` is its environment. Where another program is
+    named, that is started; `book` is the word of another book than that of thirty."""
 
-    def __init__(self, workers=4, connections=1_000, words=None, store="-", seconds=10, settings=None):
+    def __init__(self, workers=4, connections=1_000, words=None, store="-", seconds=10, settings=None, program=PROGRAM, book=""):
         self.port = free_port()
-        self.words = words or [store, "serve", "--port", "PORT", "--workers", str(workers),
+        self.words = words or [*([book] if book else []), store, "serve", "--port", "PORT", "--workers", str(workers),
                                "--connections", str(connections)]
         self.seconds = seconds
         self.settings = settings
+        self.path = program
 
     def start(self):
         """Starts the program; it may not listen yet."""
-        if not os.path.exists(PROGRAM):
-            print(f"no program at {PROGRAM}: `rt ci` builds it", file=sys.stderr)
+        if not os.path.exists(self.path):
+            print(f"no program at {self.path}: `rt ci` builds it", file=sys.stderr)
             sys.exit(2)
         words = [str(self.port) if word == "PORT" else word for word in self.words]
-        self.program = subprocess.Popen([PROGRAM, *words], stdin=subprocess.DEVNULL, env=self.settings)
+        self.program = subprocess.Popen([self.path, *words], stdin=subprocess.DEVNULL, env=self.settings)
 
     def listens(self):
         """Whether the program listens, before it ends and its seconds are over. It serves a connection for that."""

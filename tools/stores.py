@@ -1,6 +1,8 @@
 """Runs of the program over files, and what SQLite finds in them, for tools/test-stores, tools/crash and tools/soak."""
+import contextlib
 import os
 import shutil
+import sqlite3
 import subprocess
 import tempfile
 
@@ -29,6 +31,27 @@ def copy_store(folder, to):
     for name in FILES:
         if os.path.exists(os.path.join(folder, name)):
             shutil.copy(os.path.join(folder, name), os.path.join(to, name))
+
+
+def edition(folder):
+    """The edition that the store of a folder has noted, looked up in a copy; None where it has no such table or no row."""
+    with tempfile.TemporaryDirectory() as copy:
+        copy_store(folder, copy)
+        with contextlib.closing(sqlite3.connect(os.path.join(copy, "desk.db"))) as store:
+            with contextlib.suppress(sqlite3.OperationalError):
+                return store.execute("SELECT max(number) FROM edition").fetchone()[0]
+    return None
+
+
+def set_back(folder, number):
+    """Makes the store of a folder, which no program has, one of an earlier edition: it has that number, no table of languages, and its
+    outcomes are others than those of its pages, which all begin with one that their rules never gave."""
+    with contextlib.closing(sqlite3.connect(os.path.join(folder, "desk.db"))) as store:
+        store.execute("DROP TABLE IF EXISTS languages")
+        store.execute("DELETE FROM edition")
+        store.execute("INSERT INTO edition VALUES (?)", (number,))
+        store.execute("UPDATE outcomes SET auto = 1, reason = 'no-name', evidence = '', last = 1, hand = '' WHERE seq = 1")
+        store.commit()
 
 
 def integrity(folder):

@@ -6,6 +6,7 @@ import { loadRules } from './rules.js';
 import { showStart, showSite } from './sites.js';
 import { showPage } from './findings.js';
 import { showJudging } from './judging.js';
+import { showLanguages } from './languages.js';
 import { showNames } from './names.js';
 
 const byId = (id) => document.getElementById(id);
@@ -75,6 +76,7 @@ class App {
     try {
       const current = () => mine === this.shown;
       if (!site) showStart(this);
+      else if (!page && show === 'languages') await showLanguages(this, site, current);
       else if (!page) await showSite(this, site, current);
       else if (judge) await showJudging(this, site, page, judge, current, loaded);
       else if (show === 'names') await showNames(this, site, page, current);

@@ -60,6 +60,7 @@ const pagePath = (site, page) => `${sitePath(site)}/pages/${encodeURIComponent(p
 export const outcomes = async (site, page) => JSON.parse(await ask('GET', `${pagePath(site, page)}/outcomes`));
 export const snapshot = async (site, page) => JSON.parse(await ask('GET', pagePath(site, page)));
 export const names = async (site, page) => JSON.parse(await ask('GET', `${pagePath(site, page)}/names`)).names;
+export const putLanguages = async (site, languages) => JSON.parse(await ask('PUT', `${sitePath(site)}/languages`, { languages }));
 export const siteReport = (site) => ask('GET', `${sitePath(site)}/report`);
 export const judge = async (site, page, judgement) => JSON.parse(await ask('POST', `${pagePath(site, page)}/judgements`, judgement));
 

@@ -3,6 +3,7 @@
 import * as desk from './desk.js';
 import { counted, el } from './dom.js';
 import * as kept from './kept.js';
+import { acceptLink } from './languages.js';
 import { loadPage } from './pages.js';
 import { loadPicture, pictureOf } from './pictures.js';
 import { alike, nextOpen, nextQuestion, openQuestions } from './questions.js';
@@ -202,7 +203,7 @@ export async function showJudging(app, site, name, judge, current, loaded) {
   const findings = alike(page.outcomes, outcome);
   const needed = kept.neededRole(place);
   const next = nextQuestion(page.outcomes, outcome);
-  app.put(app.rules.rule(rule).name, introOf(page, outcome), ruleMeta(app.rules, rule), adviceOf(app.rules, outcome),
+  app.put(app.rules.rule(rule).name, introOf(page, outcome), ruleMeta(app.rules, rule), adviceOf(app.rules, outcome), acceptLink(app, site, outcome),
     placesPart(app, place, findings, outcome),
     el('div', { class: 'card close' }, el('div', { class: 'facts' }, closeFacts(page, outcome)),
       picture ? pictureOf(picture, page.nodes, outcome.node, page.rev) : null),

@@ -85,5 +85,6 @@ export async function showSite(app, site, current) {
   if (!current()) return;
   app.put(`Site ${site}`,
     el('p', {}, `${counted(pages.length, 'page', 'pages')}. Findings: ${total.failed} failed, ${total.cantTell} undecided, ${total.passed} passed.`),
-    pages.length ? criteriaPart(app, criteria) : null, pagesPart(app, site, pages), filesPart(site));
+    pages.length ? criteriaPart(app, criteria) : null, pagesPart(app, site, pages),
+    el('p', {}, app.link({ site, show: 'languages' }, 'Languages that this site accepts')), filesPart(site));
 }

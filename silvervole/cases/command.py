@@ -6,12 +6,13 @@ import os
 from dataclasses import dataclass
 from typing import Sequence
 
+from silvervole.books import add_book
 from silvervole.check.running import make_folder
 from silvervole.check.screen import Screen
 from silvervole.collect.browser import find_tools
 from silvervole.collect.ends import End, Stop, run_command, write_file, write_out
 from silvervole.collect.options import MOST_JOBS, Options, add_opening, whole
-from silvervole.program import AUDITOR, DESK, find_program
+from silvervole.program import find_auditor
 from silvervole.view.rules import RuleTable, read_rules
 from silvervole.words import Parser
 
@@ -28,10 +29,11 @@ USUAL_JOBS = 4
 
 @dataclass(frozen=True)
 class Trial:
-    """What is to be tried, and how; beside it the cases of rules that the desk hasn't."""
+    """What is to be tried, and how; beside it the cases of rules that the book hasn't."""
 
     cases: tuple[Case, ...]
     others: tuple[Case, ...]
+    book: str
     folder: str
     options: Options
     jobs: int
@@ -47,6 +49,7 @@ def parser(program: str = "cases", example: str = "") -> Parser:
     made.add_argument("list", metavar="LIST", help="the list of cases as the W3C publishes it, testcases.json: a file, an address, or - for standard input")
     made.add_argument("place", metavar="PLACE", nargs="?", help="the folder or the address below which the pages are (that of the list)")
     made.add_argument("--rule", metavar="ID", action="append", default=[], help="tries the cases of this rule alone; as often as needed")
+    add_book(made)
     made.add_argument("--earl", metavar="FILE", default="", help="writes an implementation report as EARL in JSON-LD")
     made.add_argument("--out", metavar="FOLDER", default="", help="keeps the pages' snapshots, as FOLDER/RULE/PAGE.json")
     made.add_argument("--jobs", metavar="N", type=whole(1, MOST_JOBS), default=min(os.cpu_count() or 1, USUAL_JOBS),
@@ -58,19 +61,20 @@ def parser(program: str = "cases", example: str = "") -> Parser:
 def read_words(words: Sequence[str], asked: Parser, rules: RuleTable) -> Trial:
     """What the words ask for."""
     given = asked.parse_args(words)
+    known = rules.of_book(given.book)
     for rule in given.rule:
-        if rule not in rules.rules:
-            asked.error(f"--rule {rule} is the id of no rule of the desk")
+        if rule not in known:
+            asked.error(f"--rule {rule} is the id of no rule in the book of {given.book}")
     folder = given.place or folder_of(given.list)
     if (given.cookie or given.header) and not is_address(folder):
         asked.error("a file is opened without a server: --cookie and --header have nowhere to go")
     # What stands twice in a list counts once.
     cases = tuple(dict.fromkeys(read_cases(fetch(given.list), given.list)))
-    tried = set(given.rule or rules.rules)
+    tried = set(given.rule or known)
     options = Options(None, given.wait, given.timeout, given.settle, given.viewport, tuple(given.cookie), tuple(given.header),
                       given.exact, given.follow)
     return Trial(tuple(case for case in cases if case.rule in tried), tuple(case for case in cases if not given.rule and case.rule not in tried),
-                 folder, options, given.jobs, given.earl, given.out)
+                 given.book, folder, options, given.jobs, given.earl, given.out)
 
 
 class Run:
@@ -113,7 +117,7 @@ class Run:
 
     def judge(self) -> None:
         """Has the desk judge what was collected."""
-        for (case, _), outcome in zip(self.collected, judged(self.collected)):
+        for (case, _), outcome in zip(self.collected, judged(self.collected, self.trial.book)):
             self.add(case, outcome)
         self.collected = []
 
@@ -130,20 +134,20 @@ def work(words: Sequence[str], program: str, asked: Parser) -> int:
     trial = read_words(words, asked, rules)
     if not trial.cases:
         raise Stop(End.INPUT, "no case of the list is of a rule that is to be tried")
-    find_program((DESK, AUDITOR))
+    find_auditor(trial.book)
     find_tools()
     results = Run(trial, program).all()
     if trial.earl:
         write_file(trial.earl, report(results, rules))
-    lines = [*exceptions(results), *others(trial.others)]
+    lines = [*exceptions(results), *others(trial.others, trial.book)]
     write_out("".join(f"{line}\n" for line in [*lines, *([""] if lines else []), *table(results, list(rules.rules))]).encode("utf-8", "replace"))
     return status(results)
 
 
-def others(cases: Sequence[Case]) -> list[str]:
-    """A line on the cases of rules that the desk hasn't, where there are any."""
+def others(cases: Sequence[Case], book: str) -> list[str]:
+    """A line on the cases of rules that the book hasn't, where there are any."""
     rules = list(dict.fromkeys(case.rule for case in cases))
-    return [f"not tried: {len(cases)} cases of rules that the desk hasn't: {', '.join(rules)}"] if cases else []
+    return [f"not tried: {len(cases)} cases of rules that the book of {book} hasn't: {', '.join(rules)}"] if cases else []
 
 
 def status(results: Sequence[Result]) -> int:

@@ -17,7 +17,7 @@ def begun_audit(checking: Checking) -> Audit | None:
     """The audit of the first page, where that is a snapshot; None too where it can't begin, which is told in the page's turn."""
     first = checking.subjects[0]
     try:
-        return Audit(read(first.file)) if first.is_snapshot else None
+        return Audit(read(first.file), checking.book) if first.is_snapshot else None
     except Stop:
         return None
 

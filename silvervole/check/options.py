@@ -7,6 +7,7 @@ import shlex
 from dataclasses import dataclass
 from typing import Any, Sequence
 
+from silvervole.books import add_book
 from silvervole.collect.ends import End, Stop
 from silvervole.collect.options import MOST_JOBS, Options, add_opening, whole
 from silvervole.collect.places import check_written
@@ -31,6 +32,7 @@ class Checking:
     out: str
     budget: int
     passed: bool
+    book: str
     given: argparse.Namespace
 
 
@@ -49,6 +51,7 @@ def parser(program: str = "check", example: str = "") -> Parser:
     made.add_argument("--shadow", action=argparse.BooleanOptionalAction, help="takes shadow trees too (it does)")
     made.add_argument("--shots", action="store_true", help="takes a picture of each page, for --html and --json")
     made.add_argument("--out", metavar="FOLDER", default="", help="keeps the snapshots and the reports in a folder, as compare reads them")
+    add_book(made)
     made.add_argument("--budget", metavar="N", type=whole(0, MOST_BUDGET), default=0, help="how many failures don't fail the check (0)")
     made.add_argument("--passed", action="store_true", help="tells what passed too")
     made.add_argument("--sign-in", metavar="COMMAND", type=shlex.split,
@@ -70,7 +73,7 @@ def read_words(words: Sequence[str], asked: Parser) -> Checking:
     options = Options(None, given.wait, given.timeout, given.settle, given.viewport, tuple(given.cookie), tuple(given.header),
                       given.exact, given.follow, given.shadow is not False, bool(given.frames),
                       shot="" if given.shots and any_format(given) else None)
-    return Checking(subjects, options, sign_in_of(given, settings, subjects), given.jobs, given.out, given.budget, given.passed, given)
+    return Checking(subjects, options, sign_in_of(given, settings, subjects), given.jobs, given.out, given.budget, given.passed, given.book, given)
 
 
 def settings_of(path: str | None, asked: Parser) -> Settings:

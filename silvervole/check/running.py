@@ -141,7 +141,7 @@ class Run:
 
     def audit(self, subject: Subject, taken: Taken, begun: Audit | None = None) -> None:
         """Audits a snapshot, where that hasn't begun, and tells what was found."""
-        audit = begun or Audit(taken.data)
+        audit = begun or Audit(taken.data, self.checking.book)
         with contextlib.ExitStack() as stack:
             stack.callback(audit.end)
             page = read_page(taken.data, subject.page)

@@ -5,11 +5,12 @@ import argparse
 import os
 from typing import Sequence
 
-from silvervole.collect.ends import End, run_command, write_out
+from silvervole.collect.ends import End, run_command, say, write_out
 from silvervole.formats.options import add_format_options, any_format
 from silvervole.view.rules import read_rules
 from silvervole.words import Parser
 
+from .books import books_told
 from .changes import compare_folders
 from .reading import Audit, read_audit, read_folder
 from .writing import text_of
@@ -56,6 +57,8 @@ def work(words: Sequence[str], asked: Parser) -> int:
     """Writes the changes that the words ask for."""
     given, table = read_words(words, asked), read_rules()
     olds, news = audits_of(given)
+    if told := books_told(olds, news, table):
+        say(asked.prog, told)
     pages = compare_folders(olds, news, table)
     listing = None
     if any_format(given):

@@ -43,7 +43,7 @@ class Mapper:
     def __init__(self, page: Page, report: Report, subjects: Subjects, table: RuleTable) -> None:
         self.page, self.report, self.subjects, self.table = page, report, subjects, table
         self.finder = Finder(page, subjects)
-        self.known = {*report.inapplicable, *(finding.rule for finding in report.findings)}
+        self.known = report.rules
         self.reasons = {(finding.rule, finding.node): finding.reason for finding in report.findings}
 
     def all(self, assertions: Iterable[Assertion]) -> Iterator[Claim | Skipped]:

@@ -5,6 +5,7 @@ import argparse
 from dataclasses import dataclass
 from typing import Sequence
 
+from silvervole.books import add_book
 from silvervole.collect.ends import End, run_command, write_out
 from silvervole.collect.options import MOST_JOBS, Options, add_opening, whole
 from silvervole.collect.places import check_written
@@ -32,6 +33,7 @@ class Command:
     source: str
     list: str | None
     trial: bool
+    book: str | None
     picture: str | None
     options: Options
     jobs: int
@@ -49,6 +51,7 @@ def parser(program: str = "send", example: str = "") -> Parser:
                       help="how many browsers work beside each other on a list (1)")
     add_desk_words(made)
     made.add_argument("--dry-run", action="store_true", help="says what would become of the page, and sends nothing")
+    add_book(made, None, ", for --dry-run (the one of the kept page)")
     made.add_argument("--shot", action="store_true", help="sends a picture of the collected page too")
     made.add_argument("--picture", metavar="PICTURE", help="sends the picture that collect --shot wrote with FILE")
     made.add_argument("--url", metavar="ADDRESS", help="the http or https address to write as the page's; needed for a file that is no snapshot")
@@ -66,9 +69,12 @@ def read_words(words: Sequence[str], asked: Parser) -> tuple[Command, Desk]:
         asked.error(f"{word} goes with one page")
     if given.jobs is not None and given.list is None:
         asked.error("--jobs goes with --list")
+    if given.book is not None and not given.dry_run:
+        asked.error("--book goes with --dry-run: a desk has its own")
     if given.url is not None:
         check_written(given.url)
-    return Command(given.target, given.source or "", given.list, given.dry_run, given.picture, options_of(given), given.jobs or 1), desk_of(given)
+    command = Command(given.target, given.source or "", given.list, given.dry_run, given.book, given.picture, options_of(given), given.jobs or 1)
+    return command, desk_of(given)
 
 
 def options_of(given: argparse.Namespace) -> Options:
@@ -82,7 +88,7 @@ def send_one(command: Command, desk: Desk) -> End:
     target, table = target_of(command.target or ""), read_rules()
     version = version_of(command.source, command.options, command.picture)
     if command.trial:
-        with Rehearsal() as rehearsal:
+        with Rehearsal(table, command.book) as rehearsal:
             write_out(text_of(rehearsal.send(prepare(desk, target, version)), TRIAL, table).encode("utf-8"))
         return End.WRITTEN
     sent = send_page(desk, target, version)
@@ -95,6 +101,8 @@ def main(words: Sequence[str], program: str = "send", example: str = "") -> int:
     """The status of a run."""
     def work() -> int:
         command, desk = read_words(words, parser(program, example))
-        return send_one(command, desk) if command.list is None else send_list(command.list, desk, command.options, command.trial, command.jobs)
+        if command.list is None:
+            return send_one(command, desk)
+        return send_list(command.list, desk, command.options, command.trial, command.jobs, command.book)
 
     return run_command(program, work)

@@ -91,13 +91,13 @@ class Course:
         return worst
 
 
-def send_list(path: str, desk: Desk, options: Options, trial: bool, jobs: int = 1) -> End:
-    """Sends all pages of a list, or tries what would become of them; so many are collected beside each other."""
+def send_list(path: str, desk: Desk, options: Options, trial: bool, jobs: int = 1, book: str | None = None) -> End:
+    """Sends all pages of a list, or tries what would become of them, by a book; so many are collected beside each other."""
     entries = read_entries(path)
     course = Course(desk, len(entries), trial)
     imports = Imports(desk, course.tell, course.fail)
     with contextlib.ExitStack() as stack:
-        rehearsal = stack.enter_context(Rehearsal()) if trial else None
+        rehearsal = stack.enter_context(Rehearsal(course.table, book)) if trial else None
         ahead = stack.enter_context(Ahead(jobs, options))
         for one, version in ahead.versions(entries):
             try:

@@ -8,20 +8,22 @@ import time
 from dataclasses import dataclass
 from typing import Sequence
 
+from silvervole.books import add_book
 from silvervole.collect.ends import End, run_command, say
 from silvervole.collect.options import whole
 from silvervole.faults import Fault, fault_of
-from silvervole.program import find_program, start
+from silvervole.program import MEMORY, find_program, start, words_of
 from silvervole.words import Parser
 
 from . import system
 from .reasons import why_not_listening, why_not_stored
 
-USAGE = "{0} [STORE] [--port N] [--workers W] [--connections C]"
-MEMORY = "-"
+USAGE = "{0} [STORE] [--port N] [--workers W] [--connections C] [--book BOOK]"
 STORE, PORT, WORKERS, CONNECTIONS = "desk.db", 8080, 4, 1_000_000
 GREATEST_PORT, MOST_WORKERS, MOST_CONNECTIONS = 65_535, 16, 1_000_000
 STEP_SECONDS = 0.02
+# After how long it is said that the program doesn't listen yet.
+SLOW_SECONDS = 5.0
 # How long open connections are waited for by an interrupt, and then the program's own end.
 WAIT_SECONDS, END_SECONDS = 3.0, 10.0
 EDITION = re.compile(r"edition fault ([0-9]+)")
@@ -35,11 +37,12 @@ class Serving:
     port: int
     workers: int
     connections: int
+    book: str
 
     @property
     def words(self) -> list[str]:
         """The program's words for it."""
-        return [self.store, "serve", "--port", str(self.port), "--workers", str(self.workers), "--connections", str(self.connections)]
+        return [*words_of(self.book, self.store), "serve", "--port", str(self.port), "--workers", str(self.workers), "--connections", str(self.connections)]
 
     @property
     def kept(self) -> str:
@@ -58,6 +61,7 @@ def parser(program: str = "serve", example: str = "") -> Parser:
                       help=f"how many books of rules judge beside each other ({WORKERS})")
     made.add_argument("--connections", metavar="C", type=whole(1, MOST_CONNECTIONS), default=CONNECTIONS,
                       help=f"how many connections are served before it ends ({CONNECTIONS:,})")
+    add_book(made)
     return made
 
 
@@ -83,8 +87,12 @@ class Server:
         return fault.status
 
     def tell_when_listening(self) -> None:
-        """Says where it listens, once it does."""
+        """Says where it listens, once it does; and in a line of its own what takes long where that does."""
+        slow = time.monotonic() + SLOW_SECONDS
         while self.process.poll() is None:
+            if time.monotonic() > slow:
+                say(self.program, "the desk doesn't listen yet: a large store takes a while to open, and of one of another edition all pages are audited anew")
+                slow = float("inf")
             if ports := system.listening_ports(self.process.pid):
                 self.port = ports[0]
                 say(self.program, f"listening at http://127.0.0.1:{self.port}, sites are kept {self.serving.kept}; an interrupt (Ctrl+C) ends it")
@@ -136,6 +144,6 @@ def main(words: Sequence[str], program: str = "serve", example: str = "") -> int
     """The status of a run."""
     def work() -> int:
         given = parser(program, example).parse_args(words)
-        return Server(program, Serving(given.store, given.port, given.workers, given.connections)).run()
+        return Server(program, Serving(given.store, given.port, given.workers, given.connections, given.book)).run()
 
     return run_command(program, work)

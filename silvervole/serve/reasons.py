@@ -16,7 +16,9 @@ import urllib.parse
 from . import system
 
 MAGIC = b"SQLite format 3\0"
-TABLES = {"sites", "members", "pages", "judgements", "outcomes", "edition"}
+# The tables of a store; one of an earlier edition lacks the last.
+TABLES = {"sites", "members", "pages", "judgements", "outcomes", "edition", "languages"}
+LATER = {"languages"}
 # As much as the program writes for a new store and its log.
 ENOUGH = 512 * 1024
 FLOCK = "hhqqi4x"
@@ -95,7 +97,7 @@ def why_no_store(path: str) -> str:
             sound = database.execute("pragma quick_check(1)").fetchone()[0] == "ok"
     except sqlite3.Error as error:
         return f"it is damaged, or no store: {error}"
-    if names and names != TABLES:
+    if names and names not in (TABLES, TABLES - LATER):
         return f"it is a database of something else: its tables are {', '.join(sorted(names)[:6])}"
     return "" if sound else "it is damaged"
 

@@ -6,6 +6,7 @@ import os
 from dataclasses import dataclass, field
 from typing import Any, Callable, Collection, Iterable, Mapping
 
+from silvervole.books import BOOKS
 from silvervole.collect.ends import End, Stop
 from silvervole.collect.options import LONGEST_SETTLE, MOST_JOBS, seconds, viewport, whole
 from silvervole.collect.places import check_written
@@ -62,6 +63,13 @@ def flag(value: Any, folder: str) -> bool:
     return value
 
 
+def book(value: Any, folder: str) -> str:
+    """The name of a book of rules."""
+    if value not in tuple(BOOKS):
+        raise Wrong(f"it is {' or '.join(BOOKS)}")
+    return str(value)
+
+
 def command(value: Any, folder: str) -> list[str]:
     """A command, as a list of its words."""
     if not isinstance(value, list) or not value or not all(isinstance(word, str) for word in value):
@@ -86,7 +94,7 @@ def as_option(read: Callable[[str], Any]) -> Reader:
 KEYS: Mapping[str, Mapping[str, tuple[str, Reader]]] = {
     "": {"list": ("list", path), "jobs": ("jobs", as_option(whole(1, MOST_JOBS))), "frames": ("frames", flag), "shadow": ("shadow", flag),
          "shots": ("shots", flag), "exact": ("exact", flag), "viewport": ("viewport", as_option(viewport)),
-         "budget": ("budget", as_option(whole(0, MOST_BUDGET))), "accepted": ("accepted", path), "out": ("out", path)},
+         "budget": ("budget", as_option(whole(0, MOST_BUDGET))), "accepted": ("accepted", path), "out": ("out", path), "book": ("book", book)},
     "waiting": {"for": ("wait", text), "timeout": ("timeout", as_option(seconds)), "settle": ("settle", as_option(whole(0, LONGEST_SETTLE)))},
     "sign-in": {"command": ("sign_in", command)},
 }

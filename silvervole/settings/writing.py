@@ -40,6 +40,7 @@ def opening(answers: Answers) -> list[str]:
     """What stands above all tables."""
     return ["# What `silvervole check` does where the command line doesn't say otherwise.",
             "# Paths are told from the folder of this file. Without # a line counts.", "",
+            "# The book of rules: thirty, or forty, which has ten further rules.", setting("book", '"forty"', False),
             "# How many failures don't fail the check.", setting("budget", answers.budget or "0", bool(answers.budget)),
             "# The findings that the team accepts for a while.", setting("accepted", '"accepted.toml"', False),
             "# How many browsers work beside each other.", setting("jobs", "2", False),

@@ -42,6 +42,11 @@ class Report:
     inapplicable: tuple[str, ...]
     revision: int | None = None
 
+    @property
+    def rules(self) -> set[str]:
+        """The ids of all rules by which the page was audited."""
+        return {*self.inapplicable, *(finding.rule for finding in self.findings)}
+
 
 def read_report(data: bytes, path: str) -> Report:
     """The report that the bytes hold, all of it or a Stop."""

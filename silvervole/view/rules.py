@@ -5,6 +5,9 @@ import json
 import pathlib
 from dataclasses import dataclass
 from functools import cached_property
+from typing import Iterable
+
+from silvervole.books import BOOKS
 
 DATA = pathlib.Path(__file__).resolve().parent.parent / "data" / "rules.json"
 
@@ -39,6 +42,7 @@ class Rule:
     # Of a composite the rules that it merges; and whether the rule is on whole pages alone.
     inputs: tuple[str, ...] = ()
     not_in_frames: bool = False
+    number: int = 0
 
     @property
     def is_known(self) -> bool:
@@ -61,6 +65,15 @@ class RuleTable:
         """The composite of each rule that is merged."""
         return {identity: rule.id for rule in self.rules.values() for identity in rule.inputs}
 
+    def of_book(self, book: str) -> tuple[str, ...]:
+        """The ids of the rules of a book, in the order of their numbers."""
+        return tuple(rule.id for rule in self.rules.values() if rule.number <= BOOKS[book])
+
+    def book_with(self, rules: Iterable[str]) -> str:
+        """The least book that has all of these rules, as far as the file knows them."""
+        greatest = max((self.rule(identity).number for identity in rules), default=0)
+        return next(book for book, last in BOOKS.items() if greatest <= last)
+
     def rule(self, identity: str) -> Rule:
         """The rule of an id."""
         return self.rules.get(identity) or Rule(identity, "", "", (), {})
@@ -77,5 +90,5 @@ def read_rules(path: pathlib.Path = DATA) -> RuleTable:
         advice = {(one["reason"], one["outcome"]): Advice(one["means"], one["mends"]) for one in given["reasons"]}
         rules[given["id"]] = Rule(given["id"], given["name"], data["rule_page"].format(id=given["id"]),
                                   tuple(criteria[number] for number in given["criteria"]), advice,
-                                  tuple(given.get("inputs", ())), given.get("not_in_frames", False))
+                                  tuple(given.get("inputs", ())), given.get("not_in_frames", False), given["number"])
     return RuleTable(rules, tuple(criteria.values()))

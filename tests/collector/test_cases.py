@@ -11,6 +11,7 @@ import time
 
 import pytest
 
+from silvervole.books import BOOKS
 from silvervole.collect.ends import End
 from silvervole.view.rules import read_rules
 
@@ -94,11 +95,12 @@ def test_interrupt(base: str, tmp_path: pathlib.Path) -> None:
 
 
 @pytest.mark.desk
-def test_own_cases(tmp_path: pathlib.Path) -> None:
-    """Of the cases of the repository those come out otherwise that its README names with their reasons; the rules that the desk hasn't are named."""
-    code, text, err = run(CASES / "testcases.json", "--timeout", "600", "--earl", tmp_path / "earl", program=COMMAND)
+@pytest.mark.parametrize("book", BOOKS)
+def test_own_cases(tmp_path: pathlib.Path, book: str) -> None:
+    """Of the cases of the repository those come out otherwise that its README names with their reasons; the rules that the book hasn't are named."""
+    code, text, err = run(CASES / "testcases.json", "--book", book, "--timeout", "600", "--earl", tmp_path / "earl", program=COMMAND)
     out = text.decode("utf-8")
-    rules = read_rules().rules
+    rules = read_rules().of_book(book)
     readme = (CASES / "README.md").read_text(encoding="utf-8")
     named = {(grade, rule, f"{rule}-{case.strip()}") for rule, grade, cases in LEFT.findall(readme) if rule in rules for case in cases.split(",")}
     same("the cases that aren't correct", sorted(re.findall(r"^(untold|wrong): (\w+) (\S+): ", out, re.MULTILINE)), sorted(named))
@@ -106,7 +108,7 @@ def test_own_cases(tmp_path: pathlib.Path) -> None:
     same("the status", code, End.FAILED if any(grade == "wrong" for grade, *_ in named) else End.WRITTEN)
     given = json.loads((CASES / "testcases.json").read_bytes())["testcases"]
     others = list(dict.fromkeys(case["ruleId"] for case in given if case["ruleId"] not in rules))
-    expect("the rules that the desk hasn't", not others or f"rules that the desk hasn't: {', '.join(others)}\n" in out, out)
+    expect("the rules that the book hasn't", not others or f"rules that the book of {book} hasn't: {', '.join(others)}\n" in out, out)
     outcomes = [one["result"]["outcome"] for one in json.loads((tmp_path / "earl").read_bytes())["@graph"][1:]]
     sums = list(map(int, out.splitlines()[-1].split()[1:6]))
     same("the report counts as the table does", [len(outcomes), outcomes.count("earl:cantTell"), outcomes.count("earl:untested")], [sums[0], sums[2], sums[4]])

@@ -27,8 +27,8 @@ NOBODY = ("setpriv", "--reuid", "nobody", "--regid", "nogroup", "--clear-groups"
 class Served:
     """The command while it serves, at a port of the system's choice, until it is interrupted."""
 
-    def __init__(self, store: str) -> None:
-        self.command = subprocess.Popen([COMMAND, "serve", store, "--port", "0"], stdin=subprocess.DEVNULL, stderr=subprocess.PIPE, text=True)
+    def __init__(self, store: str, *words: str) -> None:
+        self.command = subprocess.Popen([COMMAND, "serve", store, "--port", "0", *words], stdin=subprocess.DEVNULL, stderr=subprocess.PIPE, text=True)
         assert self.command.stderr is not None
         self.line = self.command.stderr.readline()
         found = LISTENS.fullmatch(self.line)
@@ -80,6 +80,23 @@ def test_serve(folder: str) -> None:
     told("a store of another edition", End.FAULT_EDITION, "is of edition 7, which another edition of the desk made", store)
     memory = Served("-")
     same("over memory", (memory.kept, memory.interrupt()), ("in memory, so that all is lost when it ends", (End.INTERRUPTED, "silvervole serve: interrupted")))
+
+
+@pytest.mark.desk
+def test_serve_by_a_book(folder: str) -> None:
+    """A store takes either book, and its edition says which it was; one whose name is that of the book is a file all the same."""
+    store = f"{folder}/desk.db"
+    for place, (book, number) in enumerate((("thirty", 3_003), ("forty", 4_003), ("thirty", 3_003))):
+        served = Served(store, "--book", book)
+        same(f"a site by the book of {book}", served.ask("PUT", "/sites/acme"), 409 if place else 201)
+        served.interrupt()
+        with contextlib.closing(sqlite3.connect(store)) as database:
+            same(f"the edition by the book of {book}", database.execute("select max(number) from edition").fetchone()[0], number)
+    with contextlib.chdir(folder):
+        served = Served("forty")
+        same("a store named forty", (served.kept, served.ask("PUT", "/sites/acme")), (f"in {os.path.realpath(folder)}/forty", 201))
+        served.interrupt()
+    expect("it is a file", os.path.isfile(f"{folder}/forty"))
 
 
 @pytest.mark.desk

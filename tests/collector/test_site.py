@@ -7,6 +7,7 @@ from typing import Any
 
 import pytest
 
+from silvervole.books import THIRTY
 from silvervole.view.rules import read_rules
 
 from ..support import DESK, PAGES, SITE, collect_here, collect_page, expect, form, note, run, same, well_formed
@@ -52,7 +53,7 @@ def meant_defects() -> tuple[dict[str, list[str]], dict[str, str]]:
 
 
 def test_defects() -> None:
-    """Without the desk: each rule has its defect, on an element that is there."""
+    """Without the desk: each rule of the book of thirty has its defect, on an element that is there."""
     lines, last = meant_defects()
     same("pages with defects", sorted(last), sorted(PAGES))
     for name in PAGES:
@@ -60,7 +61,7 @@ def test_defects() -> None:
         stray = [line for line in lines[name] if int(line.split()[2]) not in elements]
         same(f"{name}: defects on no element", stray, [])
     named = [line.split() for name in PAGES for line in lines[name]]
-    same("the rules with a defect", sorted({words[0] for words in named}), sorted(read_rules().rules))
+    same("the rules with a defect", sorted({words[0] for words in named}), sorted(read_rules().of_book(THIRTY)))
     # These two rules always need a person: they have no failed condition.
     same("the rules without a failure", sorted({words[0] for words in named} - {words[0] for words in named if words[3] == "failed"}),
          ["b49b2e", "c4a8a4"])
@@ -89,3 +90,18 @@ def test_desk() -> None:
             same(f"{name}: the report's last line", report[-1:], [last[name]])
     if unjudged:
         note(f"rules that this desk doesn't judge yet are left out: {' '.join(sorted(unjudged))}")
+
+
+@pytest.mark.desk
+def test_further_rules() -> None:
+    """By the book of forty the reports end as the site's page on its defects tells, and but for one refresh nothing more fails."""
+    rules, more = read_rules(), []
+    lasts = dict(re.findall(r"^\| `(\w+)\.html` \| (passed \d+ .*) \|$", (SITE / "README.md").read_text(encoding="utf-8"), re.MULTILINE))
+    same("the pages", sorted(lasts), sorted(PAGES))
+    for name in PAGES:
+        with open(SITE / f"{name}.json", "rb") as snapshot:
+            _, out, err = run("forty", "-", "audit", program=DESK, stdin=snapshot)
+        report = out.decode("utf-8").splitlines()
+        same(f"{name}: the report's last line", (report[-1:], err), ([lasts[name]], ""))
+        more += [line for line in report[1:-1] if " failed " in line and line.split()[0] not in rules.of_book(THIRTY)]
+    same("what fails by the further rules", more, ["bisz58 node 6 failed delay"])

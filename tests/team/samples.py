@@ -3,9 +3,9 @@ from __future__ import annotations
 
 import hashlib
 import json
-import pathlib
 
-from serving import ROOT
+from silvervole.books import THIRTY
+from silvervole.view.rules import read_rules
 
 PAGE = {"url": "https://example.org/", "nodes": [
     {"n": 1, "p": None, "tag": "html", "attrs": [["lang", "en"]]}, {"n": 2, "p": 1, "tag": "title"},
@@ -13,9 +13,8 @@ PAGE = {"url": "https://example.org/", "nodes": [
 EVIDENCE = "Opening hours\nhttps://example.org/"
 DIGEST = hashlib.sha256(EVIDENCE.encode()).hexdigest()
 JUDGEMENT = {"rule": "c4a8a4", "node": 1, "verdict": "passed", "digest": DIGEST}
-RULES = json.loads(pathlib.Path(ROOT, "silvervole", "data", "rules.json").read_text(encoding="utf-8"))["rules"]
 # A person has to judge the title, and three rules pass.
-SUMMARY = {"cantTell": 1, "failed": 0, "inapplicable": len(RULES) - 4, "passed": 3}
+SUMMARY = {"cantTell": 1, "failed": 0, "inapplicable": len(read_rules().of_book(THIRTY)) - 4, "passed": 3}
 
 
 def compact(value: object) -> str:

@@ -14,7 +14,7 @@ import time
 from serving import HOST, PROGRAM, ROOT, free_port
 
 from ..support import expect, same
-from .asking import basic, connection, reply_over
+from .asking import ask, basic, connection, reply_over
 from .packages import PROXY, needs
 from .proxies import Proxy, wait_for
 from .samples import compact, refused
@@ -23,6 +23,8 @@ pytestmark = needs(*PROXY, "haproxy")
 
 QUEUE = pathlib.Path(ROOT, "deploy", "haproxy", "act-desk.cfg")
 CONNECTIONS, CLIENTS, EACH, KILLS = 60, 8, 30, 6
+# For how many seconds a desk that starts late is away.
+AWAY = 40
 SITES = CLIENTS * EACH // 2
 
 
@@ -136,6 +138,22 @@ def test_reload(folder: str) -> None:
     desk = served_over(folder, by_force=False)
     well = desk.statuses.count(0) >= 3 and set(desk.statuses) <= {0, -signal.SIGTERM}
     expect("the desk ended some times by itself, and both programs served", well, desk.statuses)
+
+
+def test_long_start(folder: str) -> None:
+    """A request waits for a desk that takes longer to start than most, as one that audits all its pages anew."""
+    port = free_port()
+    words = [PROGRAM, f"{folder}/desk.db", "serve", "--port", str(port), "--workers", "1", "--connections", "1000"]
+    with Queue(folder, port) as queue, Proxy("basic.conf", [queue.port]) as proxy:
+        replies: list[object] = []
+        waiting = threading.Thread(target=lambda: replies.append(ask(proxy, "PUT /sites/acme", b"", basic("ann")).brief))
+        waiting.start()
+        time.sleep(AWAY)
+        same("nobody has answered yet", replies, [])
+        with subprocess.Popen(words, stdin=subprocess.DEVNULL) as desk:
+            waiting.join(60)
+            desk.terminate()
+    same("the reply", replies, [(201, compact({"site": "acme"}))])
 
 
 def test_kills(folder: str) -> None:

@@ -1,54 +1,80 @@
-//! The accessibility audit desk, as a program: `act_desk STORE COMMAND ..`. What a command does stands in `desk_run`, and
+//! The accessibility audit desk, as a program: `act_desk STORE COMMAND ..`, and by the book of forty rules
+//! `act_desk forty STORE COMMAND ..`. What a command does stands in `desk_run`, and
 //! over a store in `store_run`, over any source, sinks, keeper, door and books of rules. The adapters over standard input,
 //! output and error, over TCP and over a file, and what stands here, are the trusted edge.
 #![tactic(auto)]
 
-use desk_run::{Found, StorePlace, Task, made_books, read_arguments, run, tell};
+ghost use Rattle.std.specs.Prelude.{◌≡◌, None};
+
+use book_forty::Forty;
+use desk_run::{
+    BookName, Found, MadeBook, StorePlace, Task, made_books, read_arguments, run, tell,
+};
 use keep_core::MemoryKeeper;
 use keep_sql::SqlKeeper;
-use snap_tree::List;
+use links::Door;
+use rule_book::Thirty;
+use snap_tree::{List, Text};
 use sqlite::{Connection, Error, ErrorCode, File, FileStore};
 use std::process::ExitCode;
+use std::thread::Threads;
 use store_run::run_store;
-use streams::{Reader, Sink, Writer};
+use streams::{Reader, Writer};
 use tcp_door::{Patience, TcpDoor};
 
 fn main(rt: HostRuntime) -> ExitCode {
-    let alloc = rt.alloc();
-    let mut out = Writer::new(rt.stdout());
-    let mut err = Writer::new(rt.stderr());
-    let asked = match read_arguments(&rt) {
-        Ok(asked) => asked,
-        Err(found) => return ending(&mut out, &mut err, &found),
-    };
-    let Ok(mut books) = made_books(alloc) else {
-        return ending(&mut out, &mut err, &Found::NoMemory);
-    };
-    let Task { store, words } = asked;
-    let mut input = Reader::new(rt.stdin());
     let mut door = TcpDoor::new(&rt, Patience::usual());
-    let number = match store {
+    let ended = match read_arguments(&rt) {
+        Ok(task) => match task.book {
+            BookName::Thirty => done_by::<Thirty, _, _>(&rt, &rt, &mut door, &task),
+            BookName::Forty => done_by::<Forty, _, _>(&rt, &rt, &mut door, &task),
+        },
+        Err(found) => Err(found),
+    };
+    match ended {
+        Ok(number) => ExitCode::from(number),
+        Err(found) => ending(&rt, &found),
+    }
+}
+
+// Does a task by the books of one type, and gives the status that `run` or `run_store` ends with, or what is found before.
+fn done_by<B: MadeBook, R: Threads + Sync, D: Door>(
+    system: &HostRuntime,
+    threads: &R,
+    door: &mut D,
+    task: &Task,
+) -> Result<u8, Found>
+    requires unheard { (D.told door.old).heard ≡ None }
+{
+    let alloc = system.alloc();
+    let Ok(mut books) = made_books::<B>(alloc) else {
+        return Err(Found::NoMemory);
+    };
+    let mut input = Reader::new(system.stdin());
+    let mut out = Writer::new(system.stdout());
+    let mut err = Writer::new(system.stderr());
+    let Task { store, words, .. } = task;
+    match store {
         StorePlace::Memory => {
             let mut kept = MemoryKeeper::new(alloc, List::from_vec(Vec::new(alloc)));
-            run(
-                &rt, alloc, &words, &mut input, &mut out, &mut err, &mut kept, &mut door,
-                &mut books,
-            )
+            Ok(run(
+                threads, alloc, words, &mut input, &mut out, &mut err, &mut kept, door, &mut books,
+            ))
         }
-        StorePlace::File { path } => match opened(&rt, path.as_str()) {
-            Ok(mut kept) => run_store(
-                &rt, alloc, &words, &mut input, &mut out, &mut err, &mut kept, &mut door,
-                &mut books,
-            ),
-            Err(found) => return ending(&mut out, &mut err, &found),
-        },
-    };
-    ExitCode::from(number)
+        StorePlace::File { path } => {
+            let mut kept = opened(system, path.as_str())?;
+            Ok(run_store(
+                threads, alloc, words, &mut input, &mut out, &mut err, &mut kept, door, &mut books,
+            ))
+        }
+    }
 }
 
 // The program ends by what is found before a run.
-fn ending<O: Sink, E: Sink>(out: &mut O, err: &mut E, found: &Found) -> ExitCode {
-    ExitCode::from(tell(out, err, found).number())
+fn ending(rt: &HostRuntime, found: &Found) -> ExitCode {
+    let mut out = Writer::new(rt.stdout());
+    let mut err = Writer::new(rt.stderr());
+    ExitCode::from(tell(&mut out, &mut err, found).number())
 }
 
 // A keeper over the file of this name, which is made where there is none.

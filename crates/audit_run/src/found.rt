@@ -3,7 +3,7 @@ use snap_tree::{List, Text};
 /// What a run has found, before it writes.
 #[derive(Drop)]
 pub enum Found {
-    /// A command has done its work: what it writes, and whether some final outcome is failed.
+    /// A command has done its work: what it writes, and whether some outcome is failed, or is another than was expected.
     Finished { output: List<u8>, failed: bool },
     /// All connections are served.
     Served,
@@ -11,9 +11,9 @@ pub enum Found {
     Usage,
     /// The source met a fault.
     ReadFault,
-    /// The input is no snapshot: the line that names the fault.
+    /// The input is no snapshot, or no list of cases: the line that names the fault.
     NotSnapshot { line: Text },
-    /// The store can't be opened, or can't be read.
+    /// The store can't be opened, read or refreshed.
     StoreFault,
     /// The door met a fault.
     ListenFault,

@@ -6,7 +6,7 @@ ghost use Rattle.audit_run.specs.Status.{status_number, status_line};
 pub enum Status {
     /// The command is done: of an audit, no final outcome is failed; of a serve, all connections are served.
     Done,
-    /// A page was audited, and some final outcome is failed.
+    /// A page was audited, and some final outcome is failed; or cases were, and some outcome is another than was expected.
     SomeFailed,
     /// The words are no command, want more workers than there are, or name a site that isn't kept.
     UsageFault,
@@ -14,9 +14,9 @@ pub enum Status {
     ReadFault,
     /// A sink met a fault.
     WriteFault,
-    /// The input is no snapshot.
+    /// The input is no snapshot, or no list of cases.
     SnapshotFault,
-    /// The store can't be opened, or can't be read.
+    /// The store can't be opened, read or refreshed.
     StoreFault,
     /// The door met a fault.
     ListenFault,

@@ -4,7 +4,7 @@ use Rattle.std.specs.Option.{option_map_or}
 use Rattle.std.specs.Str.{bytes_eq}
 use Rattle.snap_tree.specs.declared.row.Raw.{Raw}
 use Rattle.snap_tree.specs.declared.fault.TreeFault.{TreeFault}
-use Rattle.snap_tree.specs.Trees.{Trees, Document, with_trees}
+use Rattle.snap_tree.specs.Trees.{Trees, Document, with_trees, with_langs}
 use Rattle.snap_tree.specs.Grown.{page_of}
 use Rattle.snap_tree.specs.Faults.{tree_fault}
 use Rattle.snap_edit.specs.declared.edit.Edit.{Edit}
@@ -58,7 +58,7 @@ put_member_accepts name caller user held site = unless_accepts (not (bytes_eq us
 pub put_page_accepts : (book : Book) (site caller page : List ℕ) (rev : ℕ) (raw : Raw) (s : Site) (there : Option ℕ) (js : List Judgement) (pages : ℕ)
     → Accepts (put_page book site caller page rev raw s there js pages)
 put_page_accepts book site caller page rev raw s there js pages =
-    let next = renewed book site caller page s.counter js in
+    let next : Document → Decision = λ tree. renewed book site caller page s.counter js (with_langs tree s.languages) in
     let refused = option_map_or (λ (f : TreeFault). Some (refusal.TreeFault f None)) (tree_fault raw.rows) None in
     unless_accepts (has_room there pages) (refusal.PageLimit limit.Pages) _ (
     unless_accepts (has_revisions s.counter 1) (refusal.PageLimit limit.Revisions) _ (
@@ -76,8 +76,8 @@ edit_page_accepts book site caller page rev edits s kept =
 pub drop_page_accepts : (site page : List ℕ) (rev : ℕ) (kept : Page) → Accepts (drop_page site page rev kept)
 drop_page_accepts site page rev kept = unless_accepts (rev == kept.head.rev) (refusal.StaleRevision kept.head.rev None) _ tt
 
-pub import_placed_accepts : (book : Book) (site caller : List ℕ) (counter pages : ℕ) (all : List Placed) → Accepts (import_placed book site caller counter pages all)
-import_placed_accepts book site caller counter pages all =
+pub import_placed_accepts : (book : Book) (site : List ℕ) (langs : List (List ℕ)) (caller : List ℕ) (counter pages : ℕ) (all : List Placed) → Accepts (import_placed book site langs caller counter pages all)
+import_placed_accepts book site langs caller counter pages all =
     unless_accepts (has_room_for (new_among all) pages) (refusal.PageLimit limit.Pages) _ (
     unless_accepts (has_revisions counter (length all)) (refusal.PageLimit limit.Revisions) _ (
     unless_refused_accepts (stale_among all) _ (

@@ -2,6 +2,9 @@
 use Rattle.std.proofs.Common.{◌≡◌, ℕ, ◌+◌, ◌<◌, ◌≤◌, ◌==◌, List, [], ◌∷◌, ◌++◌, length, map, reverse, Bool, true, false, if◌then◌else◌, Option, Some, None, option_map, IfSome, Ok, Err, refl, sym, ap, ◌∙◌, subst, arith, inl, inr, ◌⊎◌}
 use Rattle.std.specs.Option.{option_map_or}
 use Rattle.std.specs.List.{find}
+use Rattle.std.specs.declared.cmp.Ordering.{Ordering}
+use Rattle.std.specs.declared.cmp.Ordering.TheVariants.{Less, Equal, Greater}
+use Rattle.std.specs.Ordering.{match_ordering}
 use Rattle.std.proofs.lemmas.Bool.Decides.{nat_tests}
 use Rattle.std.proofs.lemmas.List.{reverse-append}
 use Rattle.snap_tree.specs.declared.row.NodeId.{NodeId}
@@ -15,7 +18,7 @@ use Rattle.judge_core.specs.Judgements.{is_on}
 use Rattle.judge_core.specs.Outcomes.{outcomes}
 use Rattle.judge_core.specs.RowLookups.{row_at}
 use Rattle.judge_core.proofs.Equal.{judgements_decide}
-use Rattle.named_rows.specs.ByName.{at, put_row, put_rows, with_row, IsInOrder}
+use Rattle.named_rows.specs.ByName.{names_cmp, at, put_row, put_rows, with_row, IsInOrder}
 use Rattle.named_rows.proofs.Lookups.{at_put, at_put_other, at_with_row, all_at}
 use Rattle.named_rows.proofs.Order.{at_take}
 use Rattle.named_rows.proofs.Twice.{put_same, take_twice}
@@ -24,15 +27,16 @@ use Rattle.keep_core.specs.declared.member.MemberRole.{MemberRole}
 use Rattle.keep_core.specs.declared.site.Site.{Site}
 use Rattle.keep_core.specs.declared.page.PagePut.{PagePut}
 use Rattle.keep_core.specs.declared.change.Change.{Change}
-use Rattle.keep_core.specs.declared.change.Change.TheVariants.{PutSite, PutPages, DropPage, AddJudgement}
+use Rattle.keep_core.specs.declared.change.Change.TheVariants.{PutSite, PutPages, DropPage, AddJudgements, PutLanguages}
 use Rattle.keep_core.specs.declared.tables.KeptPage.{KeptPage}
 use Rattle.keep_core.specs.declared.tables.KeptSite.{KeptSite}
-use Rattle.keep_core.specs.Tables.{Tables, kept_site, pages_in, pages_of, site_name, page_name}
-use Rattle.keep_core.specs.Changes.{put_over, with_pages, without_page, with_judgement, with_judged, changed}
+use Rattle.keep_core.specs.declared.tables.Tables.{Tables}
+use Rattle.keep_core.specs.Tables.{kept_site, pages_in, pages_of, site_name, page_name}
+use Rattle.keep_core.specs.Changes.{put_over, with_pages, without_page, with_judgements, with_judged, with_languages, with_outcomes, changed}
 use Rattle.desk_core.specs.Members.{user_of, new_site, members_with, site_with}
 use Rattle.desk_core.specs.Judging.{is_latest, judge}
 use Rattle.snap_tree.specs.declared.row.Raw.{Raw}
-use Rattle.snap_tree.specs.Trees.{with_trees}
+use Rattle.snap_tree.specs.Trees.{with_trees, with_langs}
 use Rattle.snap_tree.specs.Grown.{page_of}
 use Rattle.snap_edit.specs.declared.edit.Edit.{Edit}
 use Rattle.rule_core.specs.declared.verdict.Auto.{Auto}
@@ -43,7 +47,7 @@ use Rattle.desk_core.specs.declared.refusal.Needed.TheVariants as needed
 use Rattle.desk_core.specs.declared.refusal.Refusal.{Refusal}
 use Rattle.desk_core.specs.declared.refusal.Refusal.TheVariants as refusal
 use Rattle.desk_core.specs.Refusals.{Decision}
-use Rattle.desk_core.specs.State.{PageState, page_state, site_state, state_of, page_at, site_at}
+use Rattle.desk_core.specs.State.{PageState, site_state, state_of, page_at, site_at}
 use Rattle.desk_core.specs.Pages.{revision_in, rev_of, judged, page_put, edit_page, drop_page}
 use Rattle.desk_core.specs.Imports.{puts, first_stale}
 use Rattle.desk_core.specs.Steps.{Request, site_of, decision, decided, stepped, step}
@@ -51,11 +55,12 @@ use Rattle.desk_core.specs.Changes.{after}
 use Rattle.desk_core.specs.Fitting.{FitsParts, FitsRequest, FitsEntries}
 use Rattle.desk_core.specs.Soundness.{rev_in, IsSoundSite, IsSound, made}
 use Rattle.desk_core.specs.Once.{IsOnce, IsRefused}
-use Rattle.desk_core.proofs.Views.{page_seen, changes_seen, same_or_other}
-use Rattle.desk_core.proofs.Deciding.{Brings, put_member_brings, put_page_brings, edit_page_brings, drop_page_brings, import_brings, judge_brings}
+use Rattle.desk_core.proofs.Views.{state_page, state_pages, page_seen, changes_seen, same_or_other}
+use Rattle.desk_core.proofs.Deciding.{Brings, put_member_brings, put_languages_brings, put_page_brings, edit_page_brings, drop_page_brings, import_brings, judge_brings}
 use Rattle.desk_core.proofs.Kept.{entering_kept, on_page_kept, new_site_kept, page_read, site_read}
 use Rattle.desk_core.proofs.SoundPages.{Given}
 use Rattle.desk_core.proofs.Sound.{kept_fits, kept_sound}
+use Rattle.desk_core.proofs.NewOutcomes.{order_stays, all_relisted, fresh, each_fresh}
 use Rattle.desk_core.proofs.Evidence.{same_evidence}
 
 -- ---- members, twice
@@ -82,21 +87,21 @@ latest_itself j js =
 -- ---- revisions
 
 -- a page's revision: 0 for one that isn't there
-abbrev pub rev_at : List ℕ → List KeptPage → ℕ
-rev_at page pages = rev_of (page_at page (map page_state pages))
+abbrev pub rev_at : List (List ℕ) → List ℕ → List KeptPage → ℕ
+rev_at langs page pages = rev_of (page_at page (state_pages langs pages))
 
-pub rev_found : (page : List ℕ) (pages : List KeptPage) (p : KeptPage) → at page_name page pages ≡ Some p → rev_at page pages ≡ rev_in p
-rev_found page pages p found = ap rev_of (page_seen page pages ∙ ap (option_map page_state) found)
+pub rev_found : (langs : List (List ℕ)) (page : List ℕ) (pages : List KeptPage) (p : KeptPage) → at page_name page pages ≡ Some p → rev_at langs page pages ≡ rev_in p
+rev_found langs page pages p found = ap rev_of (page_seen langs page pages ∙ ap (option_map (state_page langs)) found)
 
-given_by : (counter : ℕ) (o : Option KeptPage) → IfSome o (Given counter) → rev_of (option_map page_state o) ≤ counter
-given_by counter None given = omega arith
-given_by counter (Some p) given = given.within
+given_by : (langs : List (List ℕ)) (counter : ℕ) (o : Option KeptPage) → IfSome o (Given counter) → rev_of (option_map (state_page langs) o) ≤ counter
+given_by langs counter None given = omega arith
+given_by langs counter (Some p) given = given.within
 
 -- no page of a sound site has a revision above its counter
-pub old_rev : (book : Book) (k : KeptSite) (page : List ℕ) → IsSoundSite book k → rev_at page k.pages ≤ k.site.counter
+pub old_rev : (book : Book) (k : KeptSite) (page : List ℕ) → IsSoundSite book k → rev_at k.site.languages page k.pages ≤ k.site.counter
 old_rev book k page sound =
-    subst (λ o. rev_of o ≤ k.site.counter) (sym (page_seen page k.pages))
-    (given_by k.site.counter (at page_name page k.pages) (all_at page_name (Given k.site.counter) page k.pages sound.given))
+    subst (λ o. rev_of o ≤ k.site.counter) (sym (page_seen k.site.languages page k.pages))
+    (given_by k.site.languages k.site.counter (at page_name page k.pages) (all_at page_name (Given k.site.counter) page k.pages sound.given))
 
 -- a revision that is sent isn't both the one before and a newer one
 stale : (sent old new counter : ℕ) → (sent == old) ≡ true → old ≤ counter → counter < new → (sent == new) ≡ true → ⊥
@@ -106,24 +111,24 @@ stale sent old new counter before within newer now =
     omega arith
 
 -- a page that is put has a newer revision
-pub put_newer : (counter : ℕ) (row : KeptPage) (pages : List KeptPage) → counter < rev_in row → counter < rev_at (page_name row) (put_row page_name row pages)
-put_newer counter row pages newer =
-    let same : rev_at (page_name row) (put_row page_name row pages) ≡ rev_in row = rev_found (page_name row) (put_row page_name row pages) row (at_put page_name row pages) in
+pub put_newer : (langs : List (List ℕ)) (counter : ℕ) (row : KeptPage) (pages : List KeptPage) → counter < rev_in row → counter < rev_at langs (page_name row) (put_row page_name row pages)
+put_newer langs counter row pages newer =
+    let same : rev_at langs (page_name row) (put_row page_name row pages) ≡ rev_in row = rev_found langs (page_name row) (put_row page_name row pages) row (at_put page_name row pages) in
     omega arith
 
-newer_by : (counter : ℕ) (n : List ℕ) (row : KeptPage) (pages : List KeptPage) → (n ≡ page_name row) ⊎ (n ≡ page_name row → ⊥) → counter < rev_in row → counter < rev_at n pages
-    → counter < rev_at n (put_row page_name row pages)
-newer_by counter n row pages (inl same) newer old = subst (λ n. counter < rev_at n (put_row page_name row pages)) (sym same) (put_newer counter row pages newer)
-newer_by counter n row pages (inr other) newer old =
-    subst (λ o. counter < rev_of o) (sym (page_seen n (put_row page_name row pages) ∙ ap (option_map page_state) (at_put_other page_name n row pages other) ∙ sym (page_seen n pages))) old
+newer_by : (langs : List (List ℕ)) (counter : ℕ) (n : List ℕ) (row : KeptPage) (pages : List KeptPage) → (n ≡ page_name row) ⊎ (n ≡ page_name row → ⊥) → counter < rev_in row → counter < rev_at langs n pages
+    → counter < rev_at langs n (put_row page_name row pages)
+newer_by langs counter n row pages (inl same) newer old = subst (λ n. counter < rev_at langs n (put_row page_name row pages)) (sym same) (put_newer langs counter row pages newer)
+newer_by langs counter n row pages (inr other) newer old =
+    subst (λ o. counter < rev_of o) (sym (page_seen langs n (put_row page_name row pages) ∙ ap (option_map (state_page langs)) (at_put_other page_name n row pages other) ∙ sym (page_seen langs n pages))) old
 
 -- and has it still when more are put
-pub puts_newer : (book : Book) (caller n : List ℕ) (orig cur : List KeptPage) (least counter : ℕ) (entries : List Entry) → least ≤ counter → least < rev_at n cur
-    → least < rev_at n (put_rows page_name (map (put_over orig) (puts book caller (map page_state orig) counter entries)) cur)
-puts_newer book caller n orig cur least counter [] within newer = newer
-puts_newer book caller n orig cur least counter (e ∷ entries) within newer =
-    let row : KeptPage = put_over orig (page_put book e.page (counter + 1) caller (page_of e.raw) (judged (page_at e.page (map page_state orig)))) in
-    puts_newer book caller n orig (put_row page_name row cur) least (counter + 1) entries (omega arith) (newer_by least n row cur (same_or_other n (page_name row)) (omega arith) newer)
+pub puts_newer : (book : Book) (langs : List (List ℕ)) (caller n : List ℕ) (orig cur : List KeptPage) (least counter : ℕ) (entries : List Entry) → least ≤ counter → least < rev_at langs n cur
+    → least < rev_at langs n (put_rows page_name (map (put_over orig) (puts book langs caller (state_pages langs orig) counter entries)) cur)
+puts_newer book langs caller n orig cur least counter [] within newer = newer
+puts_newer book langs caller n orig cur least counter (e ∷ entries) within newer =
+    let row : KeptPage = put_over orig (page_put book e.page (counter + 1) caller (with_langs (page_of e.raw) langs) (judged (page_at e.page (state_pages langs orig)))) in
+    puts_newer book langs caller n orig (put_row page_name row cur) least (counter + 1) entries (omega arith) (newer_by langs least n row cur (same_or_other n (page_name row)) (omega arith) newer)
 
 fresh_by : (e : Entry) (current : ℕ) (rest : Option Refusal) (b : Bool) → (e.rev == current) ≡ b → (if e.rev == current then rest else Some (refusal.StaleRevision current (Some e.page))) ≡ None
     → (e.rev == current) ≡ true
@@ -133,6 +138,24 @@ fresh_by e current rest false is none = let no : Some (refusal.StaleRevision cur
 -- the first entry of an import that isn't stale carries its page's revision
 pub first_fresh : (pages : List PageState) (e : Entry) (entries : List Entry) → first_stale pages (e ∷ entries) ≡ None → (e.rev == rev_of (page_at e.page pages)) ≡ true
 first_fresh pages e entries none = let current = rev_of (page_at e.page pages) in fresh_by e current (first_stale pages entries) (e.rev == current) refl none
+
+-- ---- rows that stay
+
+-- a row that a change leaves as it is
+module _ {T : Type 0} (name : T → List ℕ) (n : List ℕ) (f : T → T) (r : T) (keeps : f r ≡ r) where
+  row_kept_by : (s : T) (rs : List T) (o : Ordering) → match_ordering o None (Some s) (at name n rs) ≡ Some r → (at name n rs ≡ Some r → with_row name n f rs ≡ rs)
+      → match_ordering o (s ∷ rs) (f s ∷ rs) (s ∷ with_row name n f rs) ≡ s ∷ rs
+  row_kept_by s rs Less is below = refl
+  row_kept_by s rs Equal is below = let same : s ≡ r = cc in ap (λ u. u ∷ rs) (ap f same ∙ keeps ∙ sym same)
+  row_kept_by s rs Greater is below = ap (λ rest. s ∷ rest) (below is)
+
+  row_kept : (rows : List T) → at name n rows ≡ Some r → with_row name n f rows ≡ rows
+  row_kept [] is = refl
+  row_kept (s ∷ rs) is = row_kept_by s rs (names_cmp n (name s)) is (row_kept rs)
+
+fresh_twice : (book : Book) (langs : List (List ℕ)) (pages : List KeptPage) → map (fresh book langs langs) (map (fresh book langs langs) pages) ≡ map (fresh book langs langs) pages
+fresh_twice book langs [] = refl
+fresh_twice book langs (p ∷ ps) = ap (λ rest. fresh book langs langs p ∷ rest) (fresh_twice book langs ps)
 
 -- ---- once more
 
@@ -158,14 +181,14 @@ module _ (book : Book) (t : Tables) (sound : IsSound book t) (caller : List ℕ)
 
   -- the site of a name after it was changed
   found_changed : (site : List ℕ) (k : KeptSite) (f : KeptSite → KeptSite) → ((s : KeptSite) → (f s).site.name ≡ s.site.name) → kept_site site t ≡ Some k
-      → (k' : KeptSite) → kept_site site (with_row site_name site f t) ≡ Some k' → f k ≡ k'
+      → (k' : KeptSite) → kept_site site (record { edition = t.edition; sites = with_row site_name site f t.sites }) ≡ Some k' → f k ≡ k'
   found_changed site k f keeps is k' is' =
-      same_of (kept_site site (with_row site_name site f t)) (f k) k' (at_with_row site_name site f (λ s _. keeps s) t ∙ ap (option_map f) is) is'
+      same_of (kept_site site (record { edition = t.edition; sites = with_row site_name site f t.sites })) (f k) k' (at_with_row site_name site f (λ s _. keeps s) t.sites ∙ ap (option_map f) is) is'
 
   site_once : (site : List ℕ) → kept_site site t ≡ None → Second Nothing (command.PutSite site) (Some (PutSite (new_site site caller)))
   site_once site none =
       let t' = changed (PutSite (new_site site caller)) t in
-      new_site_kept Nothing t' site caller (λ none'. let no : Some _ ≡ None = sym (at_put site_name _ t) ∙ none' in cc)
+      new_site_kept Nothing t' site caller (λ none'. let no : Some _ ≡ None = sym (at_put site_name _ t.sites) ∙ none' in cc)
 
   kept_row : Site → List KeptPage → KeptSite
   kept_row site pages = record { site = site; pages = pages }
@@ -176,42 +199,43 @@ module _ (book : Book) (t : Tables) (sound : IsSound book t) (caller : List ℕ)
   member_again site user held k is =
       let members = members_with user held k.site.members in
       let row = kept_row (site_with site k.site members) (pages_of site t) in
-      let t' = put_row site_name row t in
-      let there : kept_site site t' ≡ Some row = at_put site_name row t in
+      let t' : Tables = record { edition = t.edition; sites = put_row site_name row t.sites } in
+      let there : kept_site site t' ≡ Some row = at_put site_name row t.sites in
       let P : Option Change → Type 0 = λ second. made second t' ≡ t' in
       let Made : KeptSite → Type 0 = λ k'. changed (PutSite (site_with site k'.site (members_with user held k'.site.members))) t' ≡ t' in
       let twice : members_with user held members ≡ members = members_twice user held k.site.members (kept_fits book t sound site k is).site.in_order in
       let again : Made row =
-      ap (λ r. put_row site_name r t') (ap (λ ms. kept_row (site_with site k.site ms) (pages_of site t')) twice ∙ ap (λ o. kept_row (site_with site k.site members) (pages_in o)) there)
-      ∙ put_same site_name row t' there in
+      ap (λ sites. record { edition = t.edition; sites = sites })
+      (ap (λ r. put_row site_name r t'.sites) (ap (λ ms. kept_row (site_with site k.site ms) (pages_of site t')) twice ∙ ap (λ o. kept_row (site_with site k.site members) (pages_in o)) there)
+      ∙ put_same site_name row t'.sites there) in
       entering_kept P t' needed.Owner caller site _ (λ k' is' _.
       put_member_brings P site caller user held k'.site (λ _. subst Made (same_of (kept_site site t') row k' there is') again))
 
   module _ (site page : List ℕ) (k : KeptSite) (is : kept_site site t ≡ Some k) where
     -- a page was put by the next revision
-    module _ (put : PagePut) (named : put.page.head.page ≡ page) (rev : put.page.head.rev ≡ k.site.counter + 1) (sent : ℕ) (was : (sent == rev_at page k.pages) ≡ true) where
-      pub stale_then : (k' : KeptSite) → kept_site site (changed (PutPages site (k.site.counter + 1) (put ∷ [])) t) ≡ Some k' → (sent == rev_at page k'.pages) ≡ true → ⊥
+    module _ (put : PagePut) (named : put.page.head.page ≡ page) (rev : put.page.head.rev ≡ k.site.counter + 1) (sent : ℕ) (was : (sent == rev_at k.site.languages page k.pages) ≡ true) where
+      pub stale_then : (k' : KeptSite) → kept_site site (changed (PutPages site (k.site.counter + 1) (put ∷ [])) t) ≡ Some k' → (sent == rev_at k'.site.languages page k'.pages) ≡ true → ⊥
       stale_then k' is' now =
           let same = found_changed site k (with_pages (k.site.counter + 1) (put ∷ [])) (λ _. refl) is k' is' in
           let row = put_over k.pages put in
-          let newer : k.site.counter < rev_at page (put_row page_name row k.pages) =
-          subst (λ n. k.site.counter < rev_at n (put_row page_name row k.pages)) named (put_newer k.site.counter row k.pages (omega arith)) in
-          stale sent (rev_at page k.pages) (rev_at page k'.pages) k.site.counter was (old_rev book k page (kept_sound book t sound site k is))
-          (subst (λ (k' : KeptSite). k.site.counter < rev_at page k'.pages) same newer) now
+          let newer : k.site.counter < rev_at k.site.languages page (put_row page_name row k.pages) =
+          subst (λ n. k.site.counter < rev_at k.site.languages n (put_row page_name row k.pages)) named (put_newer k.site.languages k.site.counter row k.pages (omega arith)) in
+          stale sent (rev_at k.site.languages page k.pages) (rev_at k'.site.languages page k'.pages) k.site.counter was (old_rev book k page (kept_sound book t sound site k is))
+          (subst (λ (k' : KeptSite). k.site.counter < rev_at k'.site.languages page k'.pages) same newer) now
 
       put_once : (raw : Raw) → Second Nothing (command.PutPage site page sent raw) (Some (PutPages site (k.site.counter + 1) (put ∷ [])))
       put_once raw =
           let t' = changed (PutPages site (k.site.counter + 1) (put ∷ [])) t in
           entering_kept Nothing t' needed.Editor caller site _ (λ k' is' _.
-          put_page_brings Nothing book site caller page sent raw k'.site (revision_in (page_at page (map page_state k'.pages))) (judged (page_at page (map page_state k'.pages))) (length (map page_state k'.pages)) (λ _ _ now _. stale_then k' is' now))
+          put_page_brings Nothing book site caller page sent raw k'.site (revision_in (page_at page (state_pages k'.site.languages k'.pages))) (judged (page_at page (state_pages k'.site.languages k'.pages))) (length (state_pages k'.site.languages k'.pages)) (λ _ _ now _. stale_then k' is' now))
 
       edit_once : (edits : List Edit) → Second Nothing (command.EditPage site page sent edits) (Some (PutPages site (k.site.counter + 1) (put ∷ [])))
       edit_once edits =
           let t' = changed (PutPages site (k.site.counter + 1) (put ∷ [])) t in
           entering_kept Nothing t' needed.Editor caller site _ (λ k' is' _.
           on_page_kept Nothing t' page k' (edit_page book site caller page sent edits k'.site) (λ p' found.
-          edit_page_brings Nothing book site caller page sent edits k'.site (page_state p') (λ _ now _ _.
-          stale_then k' is' (ap (λ r. sent == r) (rev_found page k'.pages p' found) ∙ now))))
+          edit_page_brings Nothing book site caller page sent edits k'.site (state_page k'.site.languages p') (λ _ now _ _.
+          stale_then k' is' (ap (λ r. sent == r) (rev_found k'.site.languages page k'.pages p' found) ∙ now))))
 
     drop_once : (sent : ℕ) → Second Nothing (command.DropPage site page sent) (Some (DropPage site page))
     drop_once sent =
@@ -225,13 +249,13 @@ module _ (book : Book) (t : Tables) (sound : IsSound book t) (caller : List ℕ)
 
     -- a judgement that was added, and one that was there already
     module _ (p : KeptPage) (found : at page_name page k.pages ≡ Some p) (rule : RuleNo) (node : NodeId) (verdict : Auto) (seen note : List ℕ) (row : OutRow)
-        (at_row : row_at rule node (outcomes book p.page.tree p.judgements) ≡ Some row) where
+        (at_row : row_at rule node (outcomes book (with_langs p.page.tree k.site.languages) p.judgements) ≡ Some row) where
       abbrev judgement : List ℕ → Judgement
       judgement evidence = record { rule = rule; node = node; verdict = verdict; hand = caller; note = note; evidence = evidence }
 
       -- the same judgement is the latest of these
       module _ (t' : Tables) (k' : KeptSite) (p' : KeptPage) (js : List Judgement) (is' : kept_site site t' ≡ Some k') (found' : at page_name page k'.pages ≡ Some p')
-          (tree : p'.page.tree ≡ p.page.tree) (judgements : p'.judgements ≡ js) (latest : is_latest (judgement row.evidence) js ≡ true) where
+          (langs : k'.site.languages ≡ k.site.languages) (tree : p'.page.tree ≡ p.page.tree) (judgements : p'.judgements ≡ js) (latest : is_latest (judgement row.evidence) js ≡ true) where
         judged_then : Brings (λ second. made second t' ≡ t') (decision book caller (command.Judge site page rule node verdict seen note) (site_at site (state_of t')))
         judged_then =
             let P : Option Change → Type 0 = λ second. made second t' ≡ t' in
@@ -239,11 +263,14 @@ module _ (book : Book) (t : Tables) (sound : IsSound book t) (caller : List ℕ)
             on_page_kept P t' page k2 (judge book site caller page rule node verdict seen note) (λ p2 found2.
             let same_site : k' ≡ k2 = same_of (kept_site site t') k' k2 is' is2 in
             let same_page : p' ≡ p2 = same_of (at page_name page k2.pages) p' p2 (ap (λ (k' : KeptSite). at page_name page k'.pages) (sym same_site) ∙ found') found2 in
-            judge_brings P book site caller page rule node verdict seen note (page_state p2) (λ row2 at_row2.
-            let at_row' : row_at rule node (outcomes book p.page.tree js) ≡ Some row2 =
-            sym (ap (λ (q : KeptPage). row_at rule node (outcomes book q.page.tree q.judgements)) (sym same_page)
-            ∙ ap (λ tree. row_at rule node (outcomes book tree p'.judgements)) tree ∙ ap (λ js. row_at rule node (outcomes book p.page.tree js)) judgements) ∙ at_row2 in
-            let evidence : row.evidence ≡ row2.evidence = same_evidence book p.page.tree p.judgements js rule node row row2 at_row at_row' in
+            judge_brings P book site caller page rule node verdict seen note (state_page k2.site.languages p2) (λ row2 at_row2.
+            let listed_by = λ (l : List (List ℕ)) (q : KeptPage). row_at rule node (outcomes book (with_langs q.page.tree l) q.judgements) in
+            let at_row' : row_at rule node (outcomes book (with_langs p.page.tree k.site.languages) js) ≡ Some row2 =
+            sym (ap (λ (s : KeptSite). listed_by s.site.languages p2) (sym same_site) ∙ ap (λ l. listed_by l p2) langs
+            ∙ ap (listed_by k.site.languages) (sym same_page)
+            ∙ ap (λ tree. row_at rule node (outcomes book (with_langs tree k.site.languages) p'.judgements)) tree
+            ∙ ap (λ js. row_at rule node (outcomes book (with_langs p.page.tree k.site.languages) js)) judgements) ∙ at_row2 in
+            let evidence : row.evidence ≡ row2.evidence = same_evidence book (with_langs p.page.tree k.site.languages) p.judgements js rule node row row2 at_row at_row' in
             let there : is_latest (judgement row2.evidence) p2.judgements ≡ true =
             sym (ap (λ (q : KeptPage). is_latest (judgement row2.evidence) q.judgements) same_page) ∙ ap (is_latest (judgement row2.evidence)) judgements
             ∙ ap (λ evidence. is_latest (judgement evidence) js) (sym evidence) ∙ latest in
@@ -251,38 +278,62 @@ module _ (book : Book) (t : Tables) (sound : IsSound book t) (caller : List ℕ)
 
     -- ---- imports
 
-    pub import_stale : (e : Entry) (entries : List Entry) → first_stale (map page_state k.pages) (e ∷ entries) ≡ None → (k' : KeptSite)
-        → kept_site site (changed (PutPages site (k.site.counter + length (e ∷ entries)) (puts book caller (map page_state k.pages) k.site.counter (e ∷ entries))) t) ≡ Some k'
-        → first_stale (map page_state k'.pages) (e ∷ entries) ≡ None → ⊥
+    pub import_stale : (e : Entry) (entries : List Entry) → first_stale (state_pages k.site.languages k.pages) (e ∷ entries) ≡ None → (k' : KeptSite)
+        → kept_site site (changed (PutPages site (k.site.counter + length (e ∷ entries)) (puts book k.site.languages caller (state_pages k.site.languages k.pages) k.site.counter (e ∷ entries))) t) ≡ Some k'
+        → first_stale (state_pages k'.site.languages k'.pages) (e ∷ entries) ≡ None → ⊥
     import_stale e entries fresh k' is' now =
         let counter = k.site.counter in
-        let all = puts book caller (map page_state k.pages) counter (e ∷ entries) in
-        let row : KeptPage = put_over k.pages (page_put book e.page (counter + 1) caller (page_of e.raw) (judged (page_at e.page (map page_state k.pages)))) in
-        let newer : counter < rev_at e.page (put_rows page_name (map (put_over k.pages) all) k.pages) =
-        puts_newer book caller e.page k.pages (put_row page_name row k.pages) counter (counter + 1) entries (omega arith) (put_newer counter row k.pages (omega arith)) in
+        let all = puts book k.site.languages caller (state_pages k.site.languages k.pages) counter (e ∷ entries) in
+        let row : KeptPage = put_over k.pages (page_put book e.page (counter + 1) caller (with_langs (page_of e.raw) k.site.languages) (judged (page_at e.page (state_pages k.site.languages k.pages)))) in
+        let newer : counter < rev_at k.site.languages e.page (put_rows page_name (map (put_over k.pages) all) k.pages) =
+        puts_newer book k.site.languages caller e.page k.pages (put_row page_name row k.pages) counter (counter + 1) entries (omega arith) (put_newer k.site.languages counter row k.pages (omega arith)) in
         let same = found_changed site k (with_pages (counter + length (e ∷ entries)) all) (λ _. refl) is k' is' in
-        stale e.rev (rev_at e.page k.pages) (rev_at e.page k'.pages) counter (first_fresh (map page_state k.pages) e entries fresh)
-        (old_rev book k e.page (kept_sound book t sound site k is)) (subst (λ (k' : KeptSite). counter < rev_at e.page k'.pages) same newer)
-        (first_fresh (map page_state k'.pages) e entries now)
+        stale e.rev (rev_at k.site.languages e.page k.pages) (rev_at k'.site.languages e.page k'.pages) counter (first_fresh (state_pages k.site.languages k.pages) e entries fresh)
+        (old_rev book k e.page (kept_sound book t sound site k is)) (subst (λ (k' : KeptSite). counter < rev_at k'.site.languages e.page k'.pages) same newer)
+        (first_fresh (state_pages k'.site.languages k'.pages) e entries now)
 
-    import_once : (entries : List Entry) → FitsEntries entries → first_stale (map page_state k.pages) entries ≡ None
-        → Second Nothing (command.Import site entries) (Some (PutPages site (k.site.counter + length entries) (puts book caller (map page_state k.pages) k.site.counter entries)))
+    import_once : (entries : List Entry) → FitsEntries entries → first_stale (state_pages k.site.languages k.pages) entries ≡ None
+        → Second Nothing (command.Import site entries) (Some (PutPages site (k.site.counter + length entries) (puts book k.site.languages caller (state_pages k.site.languages k.pages) k.site.counter entries)))
     import_once [] fits fresh = absurd (omega (arith, fits.some))
     import_once (e ∷ entries) fits fresh =
-        let t' = changed (PutPages site (k.site.counter + length (e ∷ entries)) (puts book caller (map page_state k.pages) k.site.counter (e ∷ entries))) t in
+        let t' = changed (PutPages site (k.site.counter + length (e ∷ entries)) (puts book k.site.languages caller (state_pages k.site.languages k.pages) k.site.counter (e ∷ entries))) t in
         entering_kept Nothing t' needed.Editor caller site _ (λ k' is' _.
         import_brings Nothing book site caller (e ∷ entries) (site_state k') (λ _ _ now _. import_stale e entries fresh k' is' now))
+
+  -- ---- languages
+
+  -- the same list, once more: each page has its outcomes under it already
+  relisted_again : (site : List ℕ) (langs : List (List ℕ)) (k : KeptSite) → kept_site site t ≡ Some k
+      → Stays (command.PutLanguages site langs) (Some (PutLanguages site langs (all_relisted book langs k.site.languages k.pages)))
+  relisted_again site langs k is =
+      let new = all_relisted book langs k.site.languages k.pages in
+      let f = with_languages langs new in
+      let k1 = f k in
+      let t' = changed (PutLanguages site langs new) t in
+      let order = (kept_fits book t sound site k is).in_order in
+      let there : kept_site site t' ≡ Some k1 = at_with_row site_name site f (λ _ _. refl) t.sites ∙ ap (option_map f) is in
+      let once : k1.pages ≡ map (fresh book langs langs) k.pages = each_fresh book langs k.site.languages k.pages order in
+      let again : with_outcomes (all_relisted book langs langs k1.pages) k1.pages ≡ k1.pages =
+      each_fresh book langs langs k1.pages (order_stays new k.pages order) ∙ ap (map (fresh book langs langs)) once ∙ fresh_twice book langs k.pages ∙ sym once in
+      let P : Option Change → Type 0 = λ second. made second t' ≡ t' in
+      let Made : KeptSite → Type 0 = λ k'. changed (PutLanguages site langs (all_relisted book langs k'.site.languages k'.pages)) t' ≡ t' in
+      let done : Made k1 =
+      ap (λ sites. record { edition = t.edition; sites = sites })
+      (row_kept site_name site (with_languages langs (all_relisted book langs langs k1.pages)) k1 (ap (λ (pages : List KeptPage). record { site = k1.site; pages = pages }) again) t'.sites there) in
+      entering_kept P t' needed.Owner caller site _ (λ k' is' _.
+      put_languages_brings P book site langs (site_state k') (subst Made (same_of (kept_site site t') k1 k' there is') done))
 
   -- ---- commands
 
   once_by : (c : Command) → IsOnce c → FitsParts book c → Brings (Second Nothing c) (decision book caller c (site_at (site_of c) (state_of t)))
   once_by (command.PutSite site) once parts = new_site_kept (Second Nothing (command.PutSite site)) t site caller (λ none. site_once site none)
   once_by (command.PutMember site user held) once parts = absurd once
+  once_by (command.PutLanguages site langs) once parts = absurd once
   once_by (command.PutPage site page rev raw) once parts =
       let P = Second Nothing (command.PutPage site page rev raw) in
       entering_kept P t needed.Editor caller site _ (λ k is _.
-      put_page_brings P book site caller page rev raw k.site (revision_in (page_at page (map page_state k.pages))) (judged (page_at page (map page_state k.pages))) (length (map page_state k.pages)) (λ _ _ was _.
-      put_once site page k is (page_put book page (k.site.counter + 1) caller (page_of raw) (judged (page_at page (map page_state k.pages)))) refl refl rev was raw))
+      put_page_brings P book site caller page rev raw k.site (revision_in (page_at page (state_pages k.site.languages k.pages))) (judged (page_at page (state_pages k.site.languages k.pages))) (length (state_pages k.site.languages k.pages)) (λ _ _ was _.
+      put_once site page k is (page_put book page (k.site.counter + 1) caller (with_langs (page_of raw) k.site.languages) (judged (page_at page (state_pages k.site.languages k.pages)))) refl refl rev was raw))
   once_by (command.DropPage site page rev) once parts =
       let P = Second Nothing (command.DropPage site page rev) in
       entering_kept P t needed.Editor caller site _ (λ k is _.
@@ -295,9 +346,9 @@ module _ (book : Book) (t : Tables) (sound : IsSound book t) (caller : List ℕ)
       let P = Second Nothing (command.EditPage site page rev edits) in
       entering_kept P t needed.Editor caller site _ (λ k is _.
       on_page_kept P t page k (edit_page book site caller page rev edits k.site) (λ p found.
-      edit_page_brings P book site caller page rev edits k.site (page_state p) (λ _ was new _.
-      edit_once site page k is (page_put book page (k.site.counter + 1) caller (with_trees p.page.tree new) p.judgements) refl refl rev
-      (ap (λ r. rev == r) (rev_found page k.pages p found) ∙ was) edits)))
+      edit_page_brings P book site caller page rev edits k.site (state_page k.site.languages p) (λ _ was new _.
+      edit_once site page k is (page_put book page (k.site.counter + 1) caller (with_langs (with_trees p.page.tree new) k.site.languages) p.judgements) refl refl rev
+      (ap (λ r. rev == r) (rev_found k.site.languages page k.pages p found) ∙ was) edits)))
   once_by (command.Judge site page rule node verdict seen note) once parts = absurd once
   once_by (command.GetPage site page) once parts = absurd once
   once_by (command.GetOutcomes site page) once parts = absurd once
@@ -322,16 +373,16 @@ module _ (book : Book) (t : Tables) (sound : IsSound book t) (caller : List ℕ)
       let P = Stays (command.Judge site page rule node verdict seen note) in
       entering_kept P t needed.Judge caller site _ (λ k is _.
       on_page_kept P t page k (judge book site caller page rule node verdict seen note) (λ p found.
-      judge_brings P book site caller page rule node verdict seen note (page_state p) (λ row at_row.
+      judge_brings P book site caller page rule node verdict seen note (state_page k.site.languages p) (λ row at_row.
       let j : Judgement = record { rule = rule; node = node; verdict = verdict; hand = caller; note = note; evidence = row.evidence } in
-      let o : Outcomes = record { rows = outcomes book p.page.tree (p.judgements ++ j ∷ []) } in
-      let k1 = with_judged page j o k in
-      let p1 = with_judgement j o p in
-      let t1 = changed (AddJudgement site page j o) t in
-      let is1 : kept_site site t1 ≡ Some k1 = at_with_row site_name site (with_judged page j o) (λ _ _. refl) t ∙ ap (option_map (with_judged page j o)) is in
-      let found1 : at page_name page k1.pages ≡ Some p1 = at_with_row page_name page (with_judgement j o) (λ _ _. refl) k.pages ∙ ap (option_map (with_judgement j o)) found in (
-        λ latest. judged_then site page k is p found rule node verdict seen note row at_row t k p p.judgements is found refl refl latest,
-        λ _. judged_then site page k is p found rule node verdict seen note row at_row t1 k1 p1 (p.judgements ++ j ∷ []) is1 found1 refl refl (latest_itself j p.judgements),
+      let o : Outcomes = record { rows = outcomes book (with_langs p.page.tree k.site.languages) (p.judgements ++ j ∷ []) } in
+      let k1 = with_judged page (j ∷ []) o k in
+      let p1 = with_judgements (j ∷ []) o p in
+      let t1 = changed (AddJudgements site page (j ∷ []) o) t in
+      let is1 : kept_site site t1 ≡ Some k1 = at_with_row site_name site (with_judged page (j ∷ []) o) (λ _ _. refl) t.sites ∙ ap (option_map (with_judged page (j ∷ []) o)) is in
+      let found1 : at page_name page k1.pages ≡ Some p1 = at_with_row page_name page (with_judgements (j ∷ []) o) (λ _ _. refl) k.pages ∙ ap (option_map (with_judgements (j ∷ []) o)) found in (
+        λ latest. judged_then site page k is p found rule node verdict seen note row at_row t k p p.judgements is found refl refl refl latest,
+        λ _. judged_then site page k is p found rule node verdict seen note row at_row t1 k1 p1 (p.judgements ++ j ∷ []) is1 found1 refl refl refl (latest_itself j p.judgements),
       ))))
 
   again_by : (c : Command) → FitsParts book c → Brings (Stays c) (decision book caller c (site_at (site_of c) (state_of t)))
@@ -339,6 +390,9 @@ module _ (book : Book) (t : Tables) (sound : IsSound book t) (caller : List ℕ)
   again_by (command.PutMember site user held) parts =
       let P = Stays (command.PutMember site user held) in
       entering_kept P t needed.Owner caller site _ (λ k is _. put_member_brings P site caller user held k.site (λ _. member_again site user held k is))
+  again_by (command.PutLanguages site langs) parts =
+      let P = Stays (command.PutLanguages site langs) in
+      entering_kept P t needed.Owner caller site _ (λ k is _. put_languages_brings P book site langs (site_state k) (relisted_again site langs k is))
   again_by (command.PutPage site page rev raw) parts = once_stays (command.PutPage site page rev raw) tt parts
   again_by (command.DropPage site page rev) parts = once_stays (command.DropPage site page rev) tt parts
   again_by (command.Import site entries) parts = once_stays (command.Import site entries) tt parts

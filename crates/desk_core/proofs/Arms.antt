@@ -1,13 +1,13 @@
 -- What is known of a request in the arm of its command.
 use Rattle.std.proofs.Common.{◌≡◌, ℕ, List, Option, Result, sym, subst}
 use Rattle.rule_core.specs.Books.{Book}
-use Rattle.keep_core.specs.Tables.{Tables}
+use Rattle.keep_core.specs.declared.tables.Tables.{Tables}
 use Rattle.desk_core.specs.declared.command.Command.{Command}
-use Rattle.desk_core.specs.declared.command.Command.TheVariants.{Import}
+use Rattle.desk_core.specs.declared.command.Command.TheVariants.{Import, PutLanguages}
 use Rattle.desk_core.specs.declared.command.Entry.{Entry}
 use Rattle.desk_core.specs.declared.decided.Decided.{Decided}
 use Rattle.desk_core.specs.declared.refusal.Refusal.{Refusal}
-use Rattle.desk_core.specs.Costs.{IsImport, Costs}
+use Rattle.desk_core.specs.Costs.{IsOfMany, Costs}
 use Rattle.desk_core.specs.Fitting.{FitsRequest}
 use Rattle.desk_core.specs.Told.{Told}
 use Rattle.desk_core.specs.Serving.{Decides}
@@ -24,5 +24,8 @@ module _ {book : Book} {q arm : Command} (is : q ≡ arm) where
   pub costs_at : {old new : Option Tables} {from to : ℕ} → Costs book arm old new from to → Costs book q old new from to
   costs_at {old} {new} {from} {to} costs = let P : Command → Type 0 = λ c. Costs book c old new from to in subst P (sym is) costs
 
-pub import_at : {q : Command} {site : List ℕ} {entries : List Entry} → q ≡ Import site entries → IsImport q
-import_at is = subst IsImport (sym is) tt
+pub import_at : {q : Command} {site : List ℕ} {entries : List Entry} → q ≡ Import site entries → IsOfMany q
+import_at is = subst IsOfMany (sym is) tt
+
+pub languages_at : {q : Command} {site : List ℕ} {langs : List (List ℕ)} → q ≡ PutLanguages site langs → IsOfMany q
+languages_at is = subst IsOfMany (sym is) tt

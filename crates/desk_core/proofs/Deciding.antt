@@ -1,12 +1,12 @@
 -- What holds of the change that is decided, where a request isn't refused: one lemma for each way in which decisions are put
 -- together, and one for each command.
-use Rattle.std.proofs.Common.{◌≡◌, ℕ, ◌+◌, ◌==◌, List, [], ◌∷◌, ◌++◌, length, Bool, true, false, not, Option, Some, None, Result, Ok, Err, refl, subst}
+use Rattle.std.proofs.Common.{◌≡◌, ℕ, ◌+◌, ◌==◌, List, [], ◌∷◌, ◌++◌, length, map, Bool, true, false, not, Option, Some, None, Result, Ok, Err, refl, subst}
 use Rattle.std.specs.Option.{option_map_or}
 use Rattle.std.specs.Str.{bytes_eq}
 use Rattle.snap_tree.specs.declared.row.NodeId.{NodeId}
 use Rattle.snap_tree.specs.declared.row.Raw.{Raw}
 use Rattle.snap_tree.specs.declared.fault.TreeFault.{TreeFault}
-use Rattle.snap_tree.specs.Trees.{Trees, Document, with_trees}
+use Rattle.snap_tree.specs.Trees.{Trees, Document, with_trees, with_langs}
 use Rattle.snap_tree.specs.Grown.{page_of}
 use Rattle.snap_tree.specs.Faults.{tree_fault}
 use Rattle.snap_edit.specs.declared.edit.Edit.{Edit}
@@ -26,7 +26,7 @@ use Rattle.keep_core.specs.declared.page.Page.{Page}
 use Rattle.keep_core.specs.declared.member.MemberRole.{MemberRole}
 use Rattle.keep_core.specs.declared.site.Site.{Site}
 use Rattle.keep_core.specs.declared.change.Change.{Change}
-use Rattle.keep_core.specs.declared.change.Change.TheVariants.{PutSite, PutPages, DropPage, AddJudgement}
+use Rattle.keep_core.specs.declared.change.Change.TheVariants.{PutSite, PutPages, DropPage, AddJudgements, PutLanguages}
 use Rattle.desk_core.specs.declared.command.Entry.{Entry}
 use Rattle.desk_core.specs.declared.decided.Decided.{Decided}
 use Rattle.desk_core.specs.declared.refusal.Needed.{Needed}
@@ -38,6 +38,7 @@ use Rattle.desk_core.specs.Refusals.{Decision, unless, on, unless_refused}
 use Rattle.desk_core.specs.State.{PageState, SiteState, page_at}
 use Rattle.desk_core.specs.Rights.{may, role_of, allowed, entering, on_page}
 use Rattle.desk_core.specs.Members.{new_site, site_with, members_with, put_site, put_member}
+use Rattle.desk_core.specs.Languages.{relisted, put_languages}
 use Rattle.desk_core.specs.Pages.{due, has_room, has_room_for, has_revisions, page_put, renewed, built, put_page, edited, edit_page, drop_page}
 use Rattle.desk_core.specs.Imports.{new_pages, first_stale, first_fault, puts, import}
 use Rattle.desk_core.specs.Judging.{is_latest, added, judge}
@@ -95,12 +96,16 @@ module _ (P : Option Change → Type 0) where
       → (not (bytes_eq user caller) ≡ true → P (Some (PutSite (site_with name site (members_with user held site.members))))) → Brings P (put_member name caller user held site)
   put_member_brings name caller user held site brings = unless_brings (not (bytes_eq user caller)) (refusal.NotAllowed needed.AnotherOwner) _ brings
 
+  pub put_languages_brings : (book : Book) (site : List ℕ) (langs : List (List ℕ)) (s : SiteState)
+      → P (Some (PutLanguages site langs (map (relisted book langs) s.pages))) → Brings P (put_languages book site langs s)
+  put_languages_brings book site langs s brings = brings
+
   pub put_page_brings : (book : Book) (site caller page : List ℕ) (rev : ℕ) (raw : Raw) (s : Site) (there : Option ℕ) (js : List Judgement) (pages : ℕ)
       → (has_room there pages ≡ true → has_revisions s.counter 1 ≡ true → (rev == due there) ≡ true → tree_fault raw.rows ≡ None
-      → P (Some (PutPages site (s.counter + 1) (page_put book page (s.counter + 1) caller (page_of raw) js ∷ []))))
+      → P (Some (PutPages site (s.counter + 1) (page_put book page (s.counter + 1) caller (with_langs (page_of raw) s.languages) js ∷ []))))
       → Brings P (put_page book site caller page rev raw s there js pages)
   put_page_brings book site caller page rev raw s there js pages brings =
-      let next = renewed book site caller page s.counter js in
+      let next : Document → Decision = λ tree. renewed book site caller page s.counter js (with_langs tree s.languages) in
       unless_brings (has_room there pages) (refusal.PageLimit limit.Pages) _ (λ room.
       unless_brings (has_revisions s.counter 1) (refusal.PageLimit limit.Revisions) _ (λ more.
       unless_brings (rev == due there) (refusal.StaleRevision (due there) None) _ (λ same.
@@ -122,7 +127,7 @@ module _ (P : Option Change → Type 0) where
   pub import_brings : (book : Book) (site caller : List ℕ) (entries : List Entry) (s : SiteState)
       → (has_room_for (new_pages s.pages entries) (length s.pages) ≡ true → has_revisions s.site.counter (length entries) ≡ true
       → first_stale s.pages entries ≡ None → first_fault entries ≡ None
-      → P (Some (PutPages site (s.site.counter + length entries) (puts book caller s.pages s.site.counter entries))))
+      → P (Some (PutPages site (s.site.counter + length entries) (puts book s.site.languages caller s.pages s.site.counter entries))))
       → Brings P (import book site caller entries s)
   import_brings book site caller entries s brings =
       unless_brings (has_room_for (new_pages s.pages entries) (length s.pages)) (refusal.PageLimit limit.Pages) _ (λ room.
@@ -132,7 +137,7 @@ module _ (P : Option Change → Type 0) where
 
   added_by : (book : Book) (site page : List ℕ) (j : Judgement) (kept : PageState) (there : Bool) → is_latest j kept.judgements ≡ there
       → (is_latest j kept.judgements ≡ true → P None)
-      → (is_latest j kept.judgements ≡ false → P (Some (AddJudgement site page j (record { rows = outcomes book kept.page.tree (kept.judgements ++ j ∷ []) }))))
+      → (is_latest j kept.judgements ≡ false → P (Some (AddJudgements site page (j ∷ []) (record { rows = outcomes book kept.page.tree (kept.judgements ++ j ∷ []) }))))
       → Brings P (added book site page j kept)
   added_by book site page j kept true is stays adds = rw is (stays is)
   added_by book site page j kept false is stays adds = rw is (adds is)
@@ -141,7 +146,7 @@ module _ (P : Option Change → Type 0) where
       → ((row : OutRow) → row_at rule node (outcomes book kept.page.tree kept.judgements) ≡ Some row
       → let j : Judgement = record { rule = rule; node = node; verdict = verdict; hand = caller; note = note; evidence = row.evidence } in
       (is_latest j kept.judgements ≡ true → P None)
-      × (is_latest j kept.judgements ≡ false → P (Some (AddJudgement site page j (record { rows = outcomes book kept.page.tree (kept.judgements ++ j ∷ []) })))))
+      × (is_latest j kept.judgements ≡ false → P (Some (AddJudgements site page (j ∷ []) (record { rows = outcomes book kept.page.tree (kept.judgements ++ j ∷ []) })))))
       → Brings P (judge book site caller page rule node verdict seen note kept)
   judge_brings book site caller page rule node verdict seen note kept brings =
       on_brings (row_at rule node (outcomes book kept.page.tree kept.judgements)) refusal.NoTarget _ (λ row found.

@@ -17,11 +17,11 @@ use Rattle.desk_core.specs.Imports.{first_fault}
 use Rattle.desk_core.specs.Fitting.{FitsEntry, FitsEntries}
 use Rattle.desk_core.specs.Placing.{entries_of, new_among, stale_among, heads_from, work_of, puts_by, storing_all, import_placed}
 use Rattle.desk_core.proofs.Deciding.{Brings, unless_brings, unless_refused_brings}
-use Rattle.desk_core.proofs.Fitted.{IfAnyFits, has_revisions_le, PutFits, Apart, EntriesApart, first_apart, rest_apart}
+use Rattle.desk_core.proofs.Fitted.{IfAnyFits, IfAnyKeeps, has_revisions_le, PutFits, Apart, EntriesApart, first_apart, rest_apart}
 
-module _ (book : Book) (caller : List ℕ) where
+module _ (book : Book) (langs : List (List ℕ)) (caller : List ℕ) where
   made : ℕ → List Placed → List PagePut
-  made counter all = puts_by book (heads_from caller counter all) (map work_of all)
+  made counter all = puts_by book langs (heads_from caller counter all) (map work_of all)
 
   made_fit : (counter : ℕ) (all : List Placed) → All FitsEntry (entries_of all) → counter + length all ≤ MOST_REVISION → All PutFits (made counter all)
   unfolding made
@@ -47,7 +47,7 @@ module _ (book : Book) (caller : List ℕ) where
       (made_apart (counter + 1) all (rest_apart w.entry (entries_of all) apart))
 
   pub import_placed_fits : (site : List ℕ) (counter pages : ℕ) (all : List Placed) → IsTrue (is_name site) → FitsEntries (entries_of all)
-      → Brings IfAnyFits (import_placed book site caller counter pages all)
+      → Brings IfAnyFits (import_placed book site langs caller counter pages all)
   unfolding made
   import_placed_fits site counter pages all named fits =
       let put : Decision = storing_all book site (counter + length all) (made counter all) in
@@ -65,3 +65,15 @@ module _ (book : Book) (caller : List ℕ) where
         each = made_fit counter all fits.each within;
         distinct = made_apart counter all fits.distinct;
       }))))
+
+  pub import_placed_keeps : (site : List ℕ) (counter pages : ℕ) (all : List Placed) → Brings IfAnyKeeps (import_placed book site langs caller counter pages all)
+  unfolding made
+  import_placed_keeps site counter pages all =
+      let put : Decision = storing_all book site (counter + length all) (made counter all) in
+      let whole : Decision = unless_refused (first_fault (entries_of all)) put in
+      let fresh : Decision = unless_refused (stale_among all) whole in
+      let given : Decision = unless (has_revisions counter (length all)) (refusal.PageLimit limit.Revisions) fresh in
+      unless_brings IfAnyKeeps (has_room_for (new_among all) pages) (refusal.PageLimit limit.Pages) given (λ _.
+      unless_brings IfAnyKeeps (has_revisions counter (length all)) (refusal.PageLimit limit.Revisions) fresh (λ _.
+      unless_refused_brings IfAnyKeeps (stale_among all) whole (λ _.
+      unless_refused_brings IfAnyKeeps (first_fault (entries_of all)) put (λ _. tt))))

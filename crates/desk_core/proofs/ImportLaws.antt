@@ -5,7 +5,7 @@ use Rattle.std.proofs.lemmas.List.Sums.{sum_by-cons}
 use Rattle.std.specs.Option.{option_map_or, option_or}
 use Rattle.std.specs.List.{find, zip}
 use Rattle.snap_tree.specs.declared.fault.TreeFault.{TreeFault}
-use Rattle.snap_tree.specs.Trees.{Document}
+use Rattle.snap_tree.specs.Trees.{Document, with_langs}
 use Rattle.snap_tree.specs.Grown.{page_of}
 use Rattle.snap_tree.specs.Faults.{tree_fault}
 use Rattle.rule_core.specs.Books.{Book}
@@ -20,7 +20,8 @@ use Rattle.keep_core.specs.declared.page.PageHead.{PageHead}
 use Rattle.keep_core.specs.declared.page.PagePut.{PagePut}
 use Rattle.keep_core.specs.declared.change.Change.TheVariants.{PutPages}
 use Rattle.keep_core.specs.declared.tables.KeptPage.{KeptPage}
-use Rattle.keep_core.specs.Tables.{Tables, page_name, pages_of, heads_of}
+use Rattle.keep_core.specs.declared.tables.Tables.{Tables}
+use Rattle.keep_core.specs.Tables.{page_name, pages_of, heads_of}
 use Rattle.desk_core.specs.declared.command.Entry.{Entry}
 use Rattle.desk_core.specs.declared.decided.Decided.{Decided}
 use Rattle.desk_core.specs.declared.placed.Placed.{Placed}
@@ -30,47 +31,47 @@ use Rattle.desk_core.specs.declared.refusal.Refusal.TheVariants as refusal
 use Rattle.desk_core.specs.declared.reply.Stored.{Stored}
 use Rattle.desk_core.specs.declared.reply.Reply.TheVariants as reply
 use Rattle.desk_core.specs.Refusals.{Decision, unless, unless_refused}
-use Rattle.desk_core.specs.State.{PageState, SiteState, page_state, page_at}
+use Rattle.desk_core.specs.State.{PageState, SiteState, page_at}
 use Rattle.desk_core.specs.Pages.{revision_in, judged, rev_of, has_room_for, has_revisions, built, page_put, stored}
 use Rattle.desk_core.specs.Imports.{new_pages, first_stale, first_fault, puts, import}
 use Rattle.desk_core.specs.Costs.{import_judgings}
 use Rattle.desk_core.specs.Told.{Told}
-use Rattle.desk_core.specs.Placing.{placed, head_name, current_in, read_place, entries_of, new_among, current_of, is_stale, stale_of, stale_among, heads_from, work_of, put_of, puts_by, storing_all, import_placed, PlacesSome, Places}
+use Rattle.desk_core.specs.Placing.{placed, head_name, current_in, read_place, entries_of, new_among, current_of, is_stale, stale_of, stale_among, heads_from, work_of, put_of, work_listed, puts_by, storing_all, import_placed, PlacesSome, Places}
 use Rattle.keep_core.specs.declared.site.Site.{Site}
 use Rattle.desk_core.specs.declared.refusal.Needed.TheVariants.{Editor}
 use Rattle.desk_core.specs.State.{site_state, state_of, site_at}
 use Rattle.desk_core.specs.Rights.{entering}
 use Rattle.desk_core.specs.Serving.{IsIn, Stands, Agrees}
-use Rattle.desk_core.proofs.Views.{page_seen, judged_seen}
+use Rattle.desk_core.proofs.Views.{state_page, state_pages, page_seen, judged_seen}
 use Rattle.desk_core.proofs.Ways.{entered, pages_are}
 
 -- ---- what is read is what is kept
 
-rev_by : (o : Option KeptPage) → option_map (λ (p : PageState). p.page.head.rev) (option_map page_state o) ≡ option_map (λ (h : PageHead). h.rev) (option_map (λ (p : KeptPage). p.page.head) o)
-rev_by None = refl
-rev_by (Some p) = refl
+rev_by : (langs : List (List ℕ)) (o : Option KeptPage) → option_map (λ (p : PageState). p.page.head.rev) (option_map (state_page langs) o) ≡ option_map (λ (h : PageHead). h.rev) (option_map (λ (p : KeptPage). p.page.head) o)
+rev_by langs None = refl
+rev_by langs (Some p) = refl
 
 -- the revision of a page that is kept stands among the heads
-pub current_kept : (page : List ℕ) (pages : List KeptPage) → revision_in (option_map page_state (at page_name page pages)) ≡ current_in (map (λ (p : KeptPage). p.page.head) pages) page
-current_kept page pages =
-    rev_by (at page_name page pages) ∙ sym (ap (option_map (λ (h : PageHead). h.rev)) (at_map page_name head_name (λ (p : KeptPage). p.page.head) (λ _. refl) page pages))
+pub current_kept : (langs : List (List ℕ)) (page : List ℕ) (pages : List KeptPage) → revision_in (option_map (state_page langs) (at page_name page pages)) ≡ current_in (map (λ (p : KeptPage). p.page.head) pages) page
+current_kept langs page pages =
+    rev_by langs (at page_name page pages) ∙ sym (ap (option_map (λ (h : PageHead). h.rev)) (at_map page_name head_name (λ (p : KeptPage). p.page.head) (λ _. refl) page pages))
 
-current_read : (page : List ℕ) (pages : List KeptPage) → revision_in (page_at page (map page_state pages)) ≡ current_in (map (λ (p : KeptPage). p.page.head) pages) page
-current_read page pages = ap revision_in (page_seen page pages) ∙ current_kept page pages
+current_read : (langs : List (List ℕ)) (page : List ℕ) (pages : List KeptPage) → revision_in (page_at page (state_pages langs pages)) ≡ current_in (map (λ (p : KeptPage). p.page.head) pages) page
+current_read langs page pages = ap revision_in (page_seen langs page pages) ∙ current_kept langs page pages
 
 place_with : Entry → Option ℕ → List Judgement → Placed
 place_with e current js = record { entry = e; current = current; judgements = js }
 
-pub place_read : (site : List ℕ) (t : Tables) (e : Entry) → placed (map page_state (pages_of site t)) e ≡ read_place (heads_of site t) site t e
+pub place_read : (langs : List (List ℕ)) (site : List ℕ) (t : Tables) (e : Entry) → placed (state_pages langs (pages_of site t)) e ≡ read_place (heads_of site t) site t e
 unfolding place_with
-place_read site t e =
-    ap (λ current. place_with e current (judged (page_at e.page (map page_state (pages_of site t))))) (current_read e.page (pages_of site t))
-    ∙ ap (place_with e (current_in (heads_of site t) e.page)) (judged_seen e.page (pages_of site t))
+place_read langs site t e =
+    ap (λ current. place_with e current (judged (page_at e.page (state_pages langs (pages_of site t))))) (current_read langs e.page (pages_of site t))
+    ∙ ap (place_with e (current_in (heads_of site t) e.page)) (judged_seen langs e.page (pages_of site t))
 
-pub places_read : (site : List ℕ) (t : Tables) (entries : List Entry) → map (placed (map page_state (pages_of site t))) entries ≡ map (read_place (heads_of site t) site t) entries
-places_read site t [] = refl
-places_read site t (e ∷ entries) =
-    ap (λ w. w ∷ map (placed (map page_state (pages_of site t))) entries) (place_read site t e) ∙ ap (λ ws. read_place (heads_of site t) site t e ∷ ws) (places_read site t entries)
+pub places_read : (langs : List (List ℕ)) (site : List ℕ) (t : Tables) (entries : List Entry) → map (placed (state_pages langs (pages_of site t))) entries ≡ map (read_place (heads_of site t) site t) entries
+places_read langs site t [] = refl
+places_read langs site t (e ∷ entries) =
+    ap (λ w. w ∷ map (placed (state_pages langs (pages_of site t))) entries) (place_read langs site t e) ∙ ap (λ ws. read_place (heads_of site t) site t e ∷ ws) (places_read langs site t entries)
 
 -- one entry more is placed
 pub place_more : (site : List ℕ) (heads : List PageHead) (entries : List Entry) (e : Entry) (old mid new : Told) (all more : List Placed) (w : Placed)
@@ -128,11 +129,11 @@ module _ (pages : List PageState) where
       stale_by e (map (placed pages) entries) (first_stale pages entries) (rev_of (page_at e.page pages)) (placed pages e) refl refl
       (e.rev == rev_of (page_at e.page pages)) refl (stale_placed entries)
 
-  puts_placed : (book : Book) (caller : List ℕ) (counter : ℕ) (entries : List Entry)
-      → puts_by book (heads_from caller counter (map (placed pages) entries)) (map work_of (map (placed pages) entries)) ≡ puts book caller pages counter entries
-  puts_placed book caller counter [] = refl
-  puts_placed book caller counter (e ∷ entries) =
-      ap (λ ps. page_put book e.page (counter + 1) caller (page_of e.raw) (judged (page_at e.page pages)) ∷ ps) (puts_placed book caller (counter + 1) entries)
+  puts_placed : (book : Book) (langs : List (List ℕ)) (caller : List ℕ) (counter : ℕ) (entries : List Entry)
+      → puts_by book langs (heads_from caller counter (map (placed pages) entries)) (map work_of (map (placed pages) entries)) ≡ puts book langs caller pages counter entries
+  puts_placed book langs caller counter [] = refl
+  puts_placed book langs caller counter (e ∷ entries) =
+      ap (λ ps. page_put book e.page (counter + 1) caller (with_langs (page_of e.raw) langs) (judged (page_at e.page pages)) ∷ ps) (puts_placed book langs caller (counter + 1) entries)
 
 -- ---- the whole
 
@@ -142,45 +143,45 @@ if_allowed room more stale fault next =
 
 -- what is carried out with what is kept in the places of the entries is what is decided on them
 pub import_is : (book : Book) (site caller : List ℕ) (entries : List Entry) (s : SiteState)
-    → import book site caller entries s ≡ import_placed book site caller s.site.counter (length s.pages) (map (placed s.pages) entries)
+    → import book site caller entries s ≡ import_placed book site s.site.languages caller s.site.counter (length s.pages) (map (placed s.pages) entries)
 unfolding if_allowed
 import_is book site caller entries s =
     let all = map (placed s.pages) entries in
     let counter = s.site.counter in
     let many : length entries ≡ length all = sym (length-map entries (placed s.pages)) in
-    let made = puts_by book (heads_from caller counter all) (map work_of all) in
+    let made = puts_by book s.site.languages (heads_from caller counter all) (map work_of all) in
     ap (λ n. if_allowed (has_room_for n (length s.pages)) (has_revisions counter (length entries)) (first_stale s.pages entries) (first_fault entries)
-    (storing_all book site (counter + length entries) (puts book caller s.pages counter entries))) (sym (new_placed s.pages entries))
+    (storing_all book site (counter + length entries) (puts book s.site.languages caller s.pages counter entries))) (sym (new_placed s.pages entries))
     ∙ (ap (λ n. if_allowed (has_room_for (new_among all) (length s.pages)) (has_revisions counter n) (first_stale s.pages entries) (first_fault entries)
-    (storing_all book site (counter + n) (puts book caller s.pages counter entries))) many
+    (storing_all book site (counter + n) (puts book s.site.languages caller s.pages counter entries))) many
     ∙ (ap (λ (r : Option Refusal). if_allowed (has_room_for (new_among all) (length s.pages)) (has_revisions counter (length all)) r (first_fault entries)
-    (storing_all book site (counter + length all) (puts book caller s.pages counter entries))) (sym (stale_placed s.pages entries))
+    (storing_all book site (counter + length all) (puts book s.site.languages caller s.pages counter entries))) (sym (stale_placed s.pages entries))
     ∙ (ap (λ (es : List Entry). if_allowed (has_room_for (new_among all) (length s.pages)) (has_revisions counter (length all)) (stale_among all) (first_fault es)
-    (storing_all book site (counter + length all) (puts book caller s.pages counter entries))) (sym (entries_placed s.pages entries))
+    (storing_all book site (counter + length all) (puts book s.site.languages caller s.pages counter entries))) (sym (entries_placed s.pages entries))
     ∙ ap (λ (ps : List PagePut). if_allowed (has_room_for (new_among all) (length s.pages)) (has_revisions counter (length all)) (stale_among all) (first_fault (entries_of all))
-    (storing_all book site (counter + length all) ps)) (sym (puts_placed s.pages book caller counter entries)))))
+    (storing_all book site (counter + length all) ps)) (sym (puts_placed s.pages book s.site.languages caller counter entries)))))
 
-module _ (book : Book) (site caller : List ℕ) (counter pages : ℕ) (all : List Placed) where
+module _ (book : Book) (site : List ℕ) (langs : List (List ℕ)) (caller : List ℕ) (counter pages : ℕ) (all : List Placed) where
   next_placed : Decision
-  next_placed = storing_all book site (counter + length all) (puts_by book (heads_from caller counter all) (map work_of all))
+  next_placed = storing_all book site (counter + length all) (puts_by book langs (heads_from caller counter all) (map work_of all))
 
   -- what is carried out where neither limit stands against it
   within : has_room_for (new_among all) pages ≡ true → has_revisions counter (length all) ≡ true
-      → import_placed book site caller counter pages all ≡ unless_refused (stale_among all) (unless_refused (first_fault (entries_of all)) next_placed)
+      → import_placed book site langs caller counter pages all ≡ unless_refused (stale_among all) (unless_refused (first_fault (entries_of all)) next_placed)
   unfolding next_placed
   within room more =
       let next = unless_refused (stale_among all) (unless_refused (first_fault (entries_of all)) next_placed) in
       ap (λ b. unless b (refusal.PageLimit limit.Pages) (unless (has_revisions counter (length all)) (refusal.PageLimit limit.Revisions) next)) room
       ∙ ap (λ b. unless b (refusal.PageLimit limit.Revisions) next) more
 
-  pub no_room : has_room_for (new_among all) pages ≡ false → import_placed book site caller counter pages all ≡ Err (refusal.PageLimit limit.Pages)
+  pub no_room : has_room_for (new_among all) pages ≡ false → import_placed book site langs caller counter pages all ≡ Err (refusal.PageLimit limit.Pages)
   unfolding next_placed
   no_room isnt =
       let next = unless_refused (stale_among all) (unless_refused (first_fault (entries_of all)) next_placed) in
       ap (λ b. unless b (refusal.PageLimit limit.Pages) (unless (has_revisions counter (length all)) (refusal.PageLimit limit.Revisions) next)) isnt
 
   pub no_revisions : has_room_for (new_among all) pages ≡ true → has_revisions counter (length all) ≡ false
-      → import_placed book site caller counter pages all ≡ Err (refusal.PageLimit limit.Revisions)
+      → import_placed book site langs caller counter pages all ≡ Err (refusal.PageLimit limit.Revisions)
   unfolding next_placed
   no_revisions room isnt =
       let next = unless_refused (stale_among all) (unless_refused (first_fault (entries_of all)) next_placed) in
@@ -188,67 +189,70 @@ module _ (book : Book) (site caller : List ℕ) (counter pages : ℕ) (all : Lis
       ∙ ap (λ b. unless b (refusal.PageLimit limit.Revisions) next) isnt
 
   pub to_stale : has_room_for (new_among all) pages ≡ true → has_revisions counter (length all) ≡ true
-      → import_placed book site caller counter pages all
-      ≡ unless_refused (stale_among all) (unless_refused (first_fault (entries_of all)) (storing_all book site (counter + length all) (puts_by book (heads_from caller counter all) (map work_of all))))
+      → import_placed book site langs caller counter pages all
+      ≡ unless_refused (stale_among all) (unless_refused (first_fault (entries_of all)) (storing_all book site (counter + length all) (puts_by book langs (heads_from caller counter all) (map work_of all))))
   unfolding next_placed
   to_stale room more = within room more
 
   pub to_fault : has_room_for (new_among all) pages ≡ true → has_revisions counter (length all) ≡ true → stale_among all ≡ None
-      → import_placed book site caller counter pages all
-      ≡ unless_refused (first_fault (entries_of all)) (storing_all book site (counter + length all) (puts_by book (heads_from caller counter all) (map work_of all)))
+      → import_placed book site langs caller counter pages all
+      ≡ unless_refused (first_fault (entries_of all)) (storing_all book site (counter + length all) (puts_by book langs (heads_from caller counter all) (map work_of all)))
   unfolding next_placed
   to_fault room more fresh =
       within room more ∙ ap (λ (r : Option Refusal). unless_refused r (unless_refused (first_fault (entries_of all)) next_placed)) fresh
 
   pub to_puts : has_room_for (new_among all) pages ≡ true → has_revisions counter (length all) ≡ true → stale_among all ≡ None → first_fault (entries_of all) ≡ None
-      → import_placed book site caller counter pages all ≡ storing_all book site (counter + length all) (puts_by book (heads_from caller counter all) (map work_of all))
+      → import_placed book site langs caller counter pages all ≡ storing_all book site (counter + length all) (puts_by book langs (heads_from caller counter all) (map work_of all))
   unfolding next_placed
   to_puts room more fresh whole = to_fault room more fresh ∙ ap (λ (r : Option Refusal). unless_refused r next_placed) whole
 
-module _ (book : Book) (site caller : List ℕ) (counter pages : ℕ) (all : List Placed) where
+module _ (book : Book) (site : List ℕ) (langs : List (List ℕ)) (caller : List ℕ) (counter pages : ℕ) (all : List Placed) where
   pub refused_stale : (r : Refusal) → has_room_for (new_among all) pages ≡ true → has_revisions counter (length all) ≡ true
-      → ((next : Decision) → Stands ⊥ r (unless_refused (stale_among all) next)) → Stands ⊥ r (import_placed book site caller counter pages all)
-  refused_stale r room more refused = subst (Stands ⊥ r) (sym (to_stale book site caller counter pages all room more)) (refused _)
+      → ((next : Decision) → Stands ⊥ r (unless_refused (stale_among all) next)) → Stands ⊥ r (import_placed book site langs caller counter pages all)
+  refused_stale r room more refused = subst (Stands ⊥ r) (sym (to_stale book site langs caller counter pages all room more)) (refused _)
 
   pub refused_fault : (r : Refusal) → has_room_for (new_among all) pages ≡ true → has_revisions counter (length all) ≡ true → stale_among all ≡ None
-      → ((next : Decision) → Stands ⊥ r (unless_refused (first_fault (entries_of all)) next)) → Stands ⊥ r (import_placed book site caller counter pages all)
-  refused_fault r room more fresh refused = subst (Stands ⊥ r) (sym (to_fault book site caller counter pages all room more fresh)) (refused _)
+      → ((next : Decision) → Stands ⊥ r (unless_refused (first_fault (entries_of all)) next)) → Stands ⊥ r (import_placed book site langs caller counter pages all)
+  refused_fault r room more fresh refused = subst (Stands ⊥ r) (sym (to_fault book site langs caller counter pages all room more fresh)) (refused _)
 
   -- pages that are stored are those that are decided
   pub agrees_there : (result : Result Decided Refusal) (upto : ℕ) (heads : List PageHead) (works : List PageWork)
       → has_room_for (new_among all) pages ≡ true → has_revisions counter (length all) ≡ true → stale_among all ≡ None → first_fault (entries_of all) ≡ None
       → upto ≡ counter + length all → heads ≡ heads_from caller counter all → works ≡ map work_of all
-      → Agrees ⊥ result (storing_all book site upto (puts_by book heads works)) → Agrees ⊥ result (import_placed book site caller counter pages all)
+      → Agrees ⊥ result (storing_all book site upto (puts_by book langs heads works)) → Agrees ⊥ result (import_placed book site langs caller counter pages all)
   agrees_there result upto heads works room more fresh whole last first second agrees =
-      subst (Agrees ⊥ result) (sym (to_puts book site caller counter pages all room more fresh whole))
-      (subst (λ n. Agrees ⊥ result (storing_all book site n (puts_by book (heads_from caller counter all) (map work_of all)))) last
-      (subst (λ hs. Agrees ⊥ result (storing_all book site upto (puts_by book hs (map work_of all)))) first
-      (subst (λ ws. Agrees ⊥ result (storing_all book site upto (puts_by book heads ws))) second agrees)))
+      subst (Agrees ⊥ result) (sym (to_puts book site langs caller counter pages all room more fresh whole))
+      (subst (λ n. Agrees ⊥ result (storing_all book site n (puts_by book langs (heads_from caller counter all) (map work_of all)))) last
+      (subst (λ hs. Agrees ⊥ result (storing_all book site upto (puts_by book langs hs (map work_of all)))) first
+      (subst (λ ws. Agrees ⊥ result (storing_all book site upto (puts_by book langs heads ws))) second agrees)))
 
-pub stored_is : (book : Book) (site : List ℕ) (upto : ℕ) (heads : List PageHead) (works : List PageWork) (outcomes : List Outcomes) (made : List PagePut) (told : List Stored)
-    → outcomes ≡ pages_outcomes book works → made ≡ map put_of (zip heads (zip works outcomes)) → told ≡ map (stored book) made
-    → storing_all book site upto (puts_by book heads works) ≡ Ok (record { change = Some (PutPages site upto made); reply = reply.Imported told })
-stored_is book site upto heads works outcomes made told audited put said =
-    let puts_are : puts_by book heads works ≡ made = ap (λ os. map put_of (zip heads (zip works os))) (sym audited) ∙ sym put in
+pub stored_is : (book : Book) (langs : List (List ℕ)) (site : List ℕ) (upto : ℕ) (heads : List PageHead) (works : List PageWork) (outcomes : List Outcomes) (made : List PagePut) (told : List Stored)
+    → outcomes ≡ pages_outcomes book (map (work_listed langs) works) → made ≡ map put_of (zip heads (zip works outcomes)) → told ≡ map (stored book) made
+    → storing_all book site upto (puts_by book langs heads works) ≡ Ok (record { change = Some (PutPages site upto made); reply = reply.Imported told })
+stored_is book langs site upto heads works outcomes made told audited put said =
+    let puts_are : puts_by book langs heads works ≡ made = ap (λ os. map put_of (zip heads (zip works os))) (sym audited) ∙ sym put in
     ap (storing_all book site upto) puts_are ∙ ap (stored_with site upto made) (sym said)
   where
     stored_with : List ℕ → ℕ → List PagePut → List Stored → Decision
     stored_with site upto made told = Ok (record { change = Some (PutPages site upto made); reply = reply.Imported told })
 
 -- what is decided in the site that was entered
-pub arrived : (book : Book) (caller site : List ℕ) (entries : List Entry) (t : Tables) (s : Site) (counter pages : ℕ) (all : List Placed) → IsIn Editor caller site s t → counter ≡ s.counter
-    → pages ≡ length (pages_of site t) → all ≡ map (placed (map page_state (pages_of site t))) entries
-    → entering Editor caller (site_at site (state_of t)) (import book site caller entries) ≡ import_placed book site caller counter pages all
-arrived book caller site entries t s counter pages all is count many there =
-    entered Editor caller site t s (import book site caller entries) (import_placed book site caller counter pages all) is
+pub arrived : (book : Book) (caller site : List ℕ) (entries : List Entry) (t : Tables) (s : Site) (counter : ℕ) (langs : List (List ℕ)) (pages : ℕ) (all : List Placed)
+    → IsIn Editor caller site s t → counter ≡ s.counter → langs ≡ s.languages
+    → pages ≡ length (pages_of site t) → all ≡ map (placed (state_pages s.languages (pages_of site t))) entries
+    → entering Editor caller (site_at site (state_of t)) (import book site caller entries) ≡ import_placed book site langs caller counter pages all
+arrived book caller site entries t s counter langs pages all is count tongues many there =
+    entered Editor caller site t s (import book site caller entries) (import_placed book site langs caller counter pages all) is
     (λ k kept same.
+    let seen = state_pages s.languages k.pages in
     import_is book site caller entries (site_state k)
-    ∙ (ap (λ (r : Site). import_placed book site caller r.counter (length (map page_state k.pages)) (map (placed (map page_state k.pages)) entries)) same
-    ∙ (ap (λ n. import_placed book site caller n (length (map page_state k.pages)) (map (placed (map page_state k.pages)) entries)) (sym count)
-    ∙ (ap (λ n. import_placed book site caller counter n (map (placed (map page_state k.pages)) entries))
-    (length-map k.pages page_state ∙ (ap length (sym (pages_are site t k kept)) ∙ sym many))
-    ∙ ap (λ (ws : List Placed). import_placed book site caller counter pages ws)
-    (ap (λ (ps : List KeptPage). map (placed (map page_state ps)) entries) (sym (pages_are site t k kept)) ∙ sym there)))))
+    ∙ (ap (λ (r : Site). import_placed book site r.languages caller r.counter (length (state_pages r.languages k.pages)) (map (placed (state_pages r.languages k.pages)) entries)) same
+    ∙ (ap (λ n. import_placed book site s.languages caller n (length seen) (map (placed seen) entries)) (sym count)
+    ∙ (ap (λ l. import_placed book site l caller counter (length seen) (map (placed seen) entries)) (sym tongues)
+    ∙ (ap (λ n. import_placed book site langs caller counter n (map (placed seen) entries))
+    (length-map k.pages (state_page s.languages) ∙ (ap length (sym (pages_are site t k kept)) ∙ sym many))
+    ∙ ap (λ (ws : List Placed). import_placed book site langs caller counter pages ws)
+    (ap (λ (ps : List KeptPage). map (placed (state_pages s.languages ps)) entries) (sym (pages_are site t k kept)) ∙ sym there))))))
 
 -- ---- faults, and costs
 
@@ -274,6 +278,13 @@ sum_placed book [] = refl
 sum_placed book (w ∷ all) =
     sum_by-cons (λ (p : PageWork). judgings book p.tree) (work_of w) (map work_of all)
     ∙ (ap (λ n. judgings book (page_of w.entry.raw) + n) (sum_placed book all) ∙ sym (sum_by-cons (λ (e : Entry). judgings book (page_of e.raw)) w.entry (entries_of all)))
+
+-- whatever their languages are
+pub listed_judgings : (book : Book) (langs : List (List ℕ)) (works : List PageWork) → pages_judgings book (map (work_listed langs) works) ≡ pages_judgings book works
+listed_judgings book langs [] = refl
+listed_judgings book langs (w ∷ works) =
+    sum_by-cons (λ (p : PageWork). judgings book p.tree) (work_listed langs w) (map (work_listed langs) works)
+    ∙ (ap (λ n. judgings book w.tree + n) (listed_judgings book langs works) ∙ sym (sum_by-cons (λ (p : PageWork). judgings book p.tree) w works))
 
 -- pages that are audited cost their judgings
 pub import_cost : (book : Book) (all : List Placed) → first_fault (entries_of all) ≡ None → import_judgings book (entries_of all) ≡ pages_judgings book (map work_of all)

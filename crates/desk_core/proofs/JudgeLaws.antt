@@ -7,10 +7,11 @@ use Rattle.rule_core.specs.Books.{Book}
 use Rattle.judge_core.specs.declared.judgement.Judgement.{Judgement}
 use Rattle.judge_core.specs.declared.outcomes.OutRow.{OutRow}
 use Rattle.keep_core.specs.declared.change.Change.{Change}
-use Rattle.keep_core.specs.declared.change.Change.TheVariants.{PutSite, PutPages, DropPage, AddJudgement}
+use Rattle.keep_core.specs.declared.change.Change.TheVariants.{PutSite, PutPages, DropPage, AddJudgements, PutLanguages, Refresh, SetEdition}
 use Rattle.keep_core.specs.declared.tables.KeptPage.{KeptPage}
 use Rattle.keep_core.specs.Names.{is_name}
-use Rattle.keep_core.specs.Tables.{Tables, kept_page}
+use Rattle.keep_core.specs.declared.tables.Tables.{Tables}
+use Rattle.keep_core.specs.Tables.{kept_page, languages_of}
 use Rattle.keep_core.specs.Fits.{Fits, IsThere}
 use Rattle.desk_core.specs.declared.command.Command.TheVariants as command
 use Rattle.desk_core.specs.declared.decided.Decided.{Decided}
@@ -22,7 +23,8 @@ use Rattle.desk_core.specs.Refusals.{Decision}
 use Rattle.desk_core.specs.Steps.{Request}
 use Rattle.desk_core.specs.Judging.{judged_row, judge, added, AddsTo}
 use Rattle.desk_core.specs.Told.{Told}
-use Rattle.desk_core.specs.Serving.{Stands, Agrees, Judges, JudgesOn, IsFirm, Decides, FindsKept, IsTrueTo}
+use Rattle.desk_core.specs.Serving.{Stands, Agrees, KeepsEdition, Judges, JudgesOn, IsFirm, Decides, FindsKept, IsTrueTo}
+use Rattle.desk_core.proofs.Views.{state_page}
 use Rattle.desk_core.proofs.Ways.{followed}
 use Rattle.desk_core.proofs.Onward.{untold, not_fault, agrees_with, only_read, read_as}
 use Rattle.desk_core.proofs.ReadLaws.{found_is_true}
@@ -32,7 +34,10 @@ fits_of site page named page_named None is = tt
 fits_of site page named page_named (Some (PutSite s)) is = absurd is
 fits_of site page named page_named (Some (PutPages s counter pages)) is = absurd is
 fits_of site page named page_named (Some (DropPage s p)) is = absurd is
-fits_of site page named page_named (Some (AddJudgement s p j o)) is =
+fits_of site page named page_named (Some (PutLanguages s langs new)) is = absurd is
+fits_of site page named page_named (Some (Refresh s new)) is = absurd is
+fits_of site page named page_named (Some (SetEdition number)) is = absurd is
+fits_of site page named page_named (Some (AddJudgements s p js o)) is =
     let P : List ℕ → Type 0 = λ n. IsTrue (is_name n) in (subst P (sym is.0) named, subst P (sym is.1) page_named)
 
 there_of : (site page : List ℕ) (t : Tables) → IsSome (kept_page site page t) → (change : Option Change) → IfSome change (AddsTo site page)
@@ -41,19 +46,37 @@ there_of site page t kept None is = tt
 there_of site page t kept (Some (PutSite s)) is = absurd is
 there_of site page t kept (Some (PutPages s counter pages)) is = absurd is
 there_of site page t kept (Some (DropPage s p)) is = absurd is
-there_of site page t kept (Some (AddJudgement s p j o)) is =
+there_of site page t kept (Some (PutLanguages s langs new)) is = absurd is
+there_of site page t kept (Some (Refresh s new)) is = absurd is
+there_of site page t kept (Some (SetEdition number)) is = absurd is
+there_of site page t kept (Some (AddJudgements s p js o)) is =
     let P : List ℕ → Type 0 = λ n. IsSome (kept_page n p t) in
     let Q : List ℕ → Type 0 = λ n. IsSome (kept_page site n t) in
     subst P (sym is.0) (subst Q (sym is.1) kept)
 
-there_in : (o : Option KeptPage) (p : PageState) → option_map page_state o ≡ Some p → IsSome o
-there_in None p is = cc
-there_in (Some k) p is = refl
+there_in : (langs : List (List ℕ)) (o : Option KeptPage) (p : PageState) → option_map (state_page langs) o ≡ Some p → IsSome o
+there_in langs None p is = cc
+there_in langs (Some k) p is = refl
 
 all_fit : (site page : List ℕ) → IsTrue (is_name site) → IsTrue (is_name page) → (result : Result Decided Refusal) → IfOk result (λ d. IfSome d.change (AddsTo site page))
     → IfOk result (λ d. IfSome d.change Fits)
 all_fit site page named page_named (Ok d) is = fits_of site page named page_named d.change is
 all_fit site page named page_named (Err r) is = tt
+
+-- and leaves the edition
+keeps_of : (site page : List ℕ) (change : Option Change) → IfSome change (AddsTo site page) → IfSome change KeepsEdition
+keeps_of site page None is = tt
+keeps_of site page (Some (PutSite s)) is = absurd is
+keeps_of site page (Some (PutPages s counter pages)) is = absurd is
+keeps_of site page (Some (DropPage s p)) is = absurd is
+keeps_of site page (Some (AddJudgements s p js o)) is = tt
+keeps_of site page (Some (PutLanguages s langs new)) is = absurd is
+keeps_of site page (Some (Refresh s new)) is = absurd is
+keeps_of site page (Some (SetEdition number)) is = absurd is
+
+all_keep : (site page : List ℕ) (result : Result Decided Refusal) → IfOk result (λ d. IfSome d.change (AddsTo site page)) → IfOk result (λ d. IfSome d.change KeepsEdition)
+all_keep site page (Ok d) is = keeps_of site page d.change is
+all_keep site page (Err r) is = tt
 
 all_there : (site page : List ℕ) (new : Option Tables) → ((t : Tables) → new ≡ Some t → IsSome (kept_page site page t)) → (result : Result Decided Refusal)
     → IfOk result (λ d. IfSome d.change (AddsTo site page)) → IfOk result (λ d. IfSome d.change (λ change. IfSome new (IsThere change)))
@@ -112,8 +135,9 @@ module _ (book : Book) (site caller page : List ℕ) (rule : RuleNo) (node : Nod
         (followed needed.Judge caller site page t f.0 (Some (page_state kept)) (λ _ p. judge book site caller page rule node verdict seen note p) _ f.1 f.2 (λ k has same. refl))
         (agrees (found_is_true book t sound site page kept f.2 f.3));
     fits = all_fit site page named page_named result judges.adds;
-    there = all_there site page new.tables (λ t told. there_in (kept_page site page t) (page_state kept) (finds.found t told).2) result judges.adds;
+    there = all_there site page new.tables (λ t told. there_in (languages_of site t) (kept_page site page t) (page_state kept) (finds.found t told).2) result judges.adds;
     accepted = judges.accepted;
+    edition = all_keep site page result judges.adds;
     firm = judged_firm book (record { caller = caller; command = command.Judge site page rule node verdict seen note }) new.tables result judges.judged;
   }
 
@@ -125,5 +149,6 @@ module _ (book : Book) (site caller page : List ℕ) (rule : RuleNo) (node : Nod
     fits = tt;
     there = tt;
     accepted = tt;
+    edition = tt;
     firm = tt;
   }

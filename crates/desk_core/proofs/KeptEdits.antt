@@ -1,6 +1,6 @@
 -- What is decided on edits of a page, by the outcomes that are kept of it.
 use Rattle.std.proofs.Common.{◌≡◌, ℕ, ◌≤◌, List, [], ◌∷◌, inl, inr, Option, Some, None, Result, Ok, Err, IsTrue, IsSome, IfSome, IfOk, IsErrOf, option_map, refl, sym, ap, subst, ◌∙◌}
-use Rattle.snap_tree.specs.Trees.{Document, with_trees}
+use Rattle.snap_tree.specs.Trees.{Document, with_trees, with_langs}
 use Rattle.snap_edit.specs.declared.edit.Edit.{Edit}
 use Rattle.rule_core.specs.Books.{Book}
 use Rattle.web_address.specs.Address.{IsWebAddress}
@@ -8,13 +8,14 @@ use Rattle.keep_core.specs.declared.page.Page.{Page}
 use Rattle.keep_core.specs.declared.page.PagePut.{PagePut}
 use Rattle.keep_core.specs.declared.site.Site.{Site}
 use Rattle.keep_core.specs.declared.change.Change.{Change}
-use Rattle.keep_core.specs.declared.change.Change.TheVariants.{PutSite, PutPages, DropPage, AddJudgement}
+use Rattle.keep_core.specs.declared.change.Change.TheVariants.{PutSite, PutPages, DropPage, AddJudgements, PutLanguages, Refresh, SetEdition}
 use Rattle.keep_core.specs.declared.limits.TheConstants.{MOST_REVISION}
 use Rattle.keep_core.specs.declared.tables.KeptPage.{KeptPage}
 use Rattle.keep_core.specs.declared.tables.KeptSite.{KeptSite}
 use Rattle.keep_core.specs.Fits.{FitsPage, Fits, IsThere}
 use Rattle.keep_core.specs.Names.{is_name}
-use Rattle.keep_core.specs.Tables.{Tables, kept_site, outcomes_of}
+use Rattle.keep_core.specs.declared.tables.Tables.{Tables}
+use Rattle.keep_core.specs.Tables.{kept_site, outcomes_of}
 use Rattle.desk_core.specs.declared.command.Command.TheVariants as command
 use Rattle.desk_core.specs.declared.decided.Decided.{Decided}
 use Rattle.desk_core.specs.declared.refusal.Needed.TheVariants as needed
@@ -27,18 +28,18 @@ use Rattle.desk_core.specs.Refusals.{Decision}
 use Rattle.desk_core.specs.State.{page_state, state_of}
 use Rattle.desk_core.specs.Steps.{Request}
 use Rattle.desk_core.specs.Told.{Told}
-use Rattle.desk_core.specs.Serving.{Stands, Agrees, Edits, PutsInto, IsStored, IsAccepted, Accepts, IsFirm, Decides, Finds, FindsWhole, IsTrueTo}
+use Rattle.desk_core.specs.Serving.{Stands, Agrees, Edits, PutsInto, KeepsEdition, FitsListed, IsStored, IsAccepted, Accepts, IsFirm, Decides, Finds, FindsWhole, IsTrueTo}
 use Rattle.desk_core.proofs.Fitted.{one_fits}
 use Rattle.desk_core.proofs.Onward.{untold, agrees_with, only_read, read_as, found_next, decides_not_found}
 use Rattle.desk_core.proofs.ReadLaws.{found_is_true}
 
 -- ---- a page that is put
 
-pub edited_fits : (page hand : List ℕ) (rev : ℕ) (tree : Document) (kept p : Page) → IsTrue (is_name page) → rev ≤ MOST_REVISION → kept.tree.address ≡ tree.address → kept.tree.langs ≡ tree.langs → FitsPage kept
-    → p ≡ record { head = record { page = page; rev = rev; hand = hand }; tree = tree } → FitsPage p
-edited_fits page hand rev tree kept p named within address langs fits is =
+pub edited_fits : (page hand : List ℕ) (rev : ℕ) (tree : Document) (kept p : Page) → IsTrue (is_name page) → rev ≤ MOST_REVISION → kept.tree.address ≡ tree.address → FitsListed kept
+    → p ≡ record { head = record { page = page; rev = rev; hand = hand }; tree = with_langs tree [] } → FitsPage p
+edited_fits page hand rev tree kept p named within address fits is =
     let web = subst IsWebAddress address fits.address in
-    subst FitsPage (sym is) (record { head = record { page = named; rev = within }; address = web; no_langs = sym langs ∙ fits.no_langs })
+    subst FitsPage (sym is) (record { head = record { page = named; rev = within }; address = web; no_langs = refl })
 
 pub edits_by : (book : Book) (site page : List ℕ) (put : PagePut) (result : Result Decided Refusal) → IsTrue (is_name site) → FitsPage put.page → put.page.head.page ≡ page
     → Agrees ⊥ result (storing book site put.page.head.rev put) → Edits site page result
@@ -74,7 +75,25 @@ there_of site t kept None is = tt
 there_of site t kept (Some (PutSite s)) is = absurd is.1
 there_of site t kept (Some (PutPages s counter pages)) is = let P : List ℕ → Type 0 = λ n. IsSome (kept_site n t) in subst P (sym is.1) kept
 there_of site t kept (Some (DropPage s p)) is = absurd is.1
-there_of site t kept (Some (AddJudgement s p j o)) is = absurd is.1
+there_of site t kept (Some (AddJudgements s p js o)) is = absurd is.1
+there_of site t kept (Some (PutLanguages s langs new)) is = absurd is.1
+there_of site t kept (Some (Refresh s new)) is = absurd is.1
+there_of site t kept (Some (SetEdition number)) is = absurd is.1
+
+-- and the edition stays
+keeps_of : (site : List ℕ) (change : Option Change) → IfSome change (λ c. Fits c × PutsInto site c) → IfSome change KeepsEdition
+keeps_of site None is = tt
+keeps_of site (Some (PutSite s)) is = absurd is.1
+keeps_of site (Some (PutPages s counter pages)) is = tt
+keeps_of site (Some (DropPage s p)) is = absurd is.1
+keeps_of site (Some (AddJudgements s p js o)) is = absurd is.1
+keeps_of site (Some (PutLanguages s langs new)) is = absurd is.1
+keeps_of site (Some (Refresh s new)) is = absurd is.1
+keeps_of site (Some (SetEdition number)) is = absurd is.1
+
+all_keep : (site page : List ℕ) (result : Result Decided Refusal) → Edits site page result → IfOk result (λ d. IfSome d.change KeepsEdition)
+all_keep site page (Ok d) e = keeps_of site d.change e.0
+all_keep site page (Err r) e = tt
 
 there_in : (o : Option KeptSite) (s : Site) → option_map (λ (k : KeptSite). k.site) o ≡ Some s → IsSome o
 there_in None s is = cc
@@ -101,7 +120,7 @@ module _ (book : Book) (site caller page : List ℕ) (rev : ℕ) (edits : List E
 
   -- an edit rests on what is kept, whatever that is
   all_firm : (new : Option Tables) (result : Result Decided Refusal) → Edits site page result → IfOk result (IsFirm book editing new)
-  all_firm new (Ok d) e = inr (inl (inr e.1))
+  all_firm new (Ok d) e = inr (inl (inr (inl e.1)))
   all_firm new (Err r) e = tt
 
   pub decides_edit : (old new : Told) (s : Site) (kept : KeptPage) (result : Result Decided Refusal)
@@ -119,6 +138,7 @@ module _ (book : Book) (site caller page : List ℕ) (rev : ℕ) (edits : List E
     fits = all_fit site page result e;
     there = all_there site page new.tables (λ t told. there_in (kept_site site t) s (finds.found t told).0.kept) result e;
     accepted = all_accepted site page result e;
+    edition = all_keep site page result e;
     firm = all_firm new.tables result e;
   }
 

@@ -29,3 +29,13 @@ pub mod Evidence
 pub mod Again
 pub mod Refusing
 pub mod Revisions
+pub mod NewOutcomes
+pub mod LanguageLaws
+pub mod NewLists
+pub mod Refreshing
+pub mod Freshened
+pub mod SeenAlike
+pub mod ByHeads
+pub mod Batches
+pub mod Rounds
+pub mod WholeRefresh

@@ -2,7 +2,8 @@
 use Rattle.std.proofs.Common.{◌≡◌, ℕ, List, Option, Some, None, Err, option_map, refl, ap, ◌∙◌}
 use Rattle.keep_core.specs.declared.site.Site.{Site}
 use Rattle.keep_core.specs.declared.tables.KeptSite.{KeptSite}
-use Rattle.keep_core.specs.Tables.{Tables, kept_site, site_of}
+use Rattle.keep_core.specs.declared.tables.Tables.{Tables}
+use Rattle.keep_core.specs.Tables.{kept_site, site_of}
 use Rattle.desk_core.specs.declared.refusal.Refusal.TheVariants.{SiteExists}
 use Rattle.desk_core.specs.State.{site_state, state_of, site_at}
 use Rattle.desk_core.specs.Members.{put_site}

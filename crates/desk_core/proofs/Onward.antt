@@ -7,7 +7,8 @@ use Rattle.keep_core.specs.declared.change.Change.{Change}
 use Rattle.keep_core.specs.declared.site.Site.{Site}
 use Rattle.keep_core.specs.declared.page.Page.{Page}
 use Rattle.keep_core.specs.declared.page.SitePage.{SitePage}
-use Rattle.keep_core.specs.Tables.{Tables, pages_of, site_of}
+use Rattle.keep_core.specs.declared.tables.Tables.{Tables}
+use Rattle.keep_core.specs.Tables.{pages_of, site_of}
 use Rattle.keep_core.specs.Fits.{Fits, FitsSite, IsThere}
 use Rattle.desk_core.specs.declared.decided.Decided.{Decided}
 use Rattle.desk_core.specs.declared.refusal.Needed.{Needed}
@@ -17,13 +18,14 @@ use Rattle.desk_core.specs.declared.refusal.Refusal.TheVariants as refusal
 use Rattle.judge_core.specs.declared.judgement.Judgement.{Judgement}
 use Rattle.desk_core.specs.Refusals.{Decision}
 use Rattle.desk_core.specs.Pages.{revision_in, judged}
-use Rattle.desk_core.specs.State.{PageState, page_state, site_state, state_of, site_at, page_at}
+use Rattle.desk_core.specs.State.{PageState, site_state, state_of, site_at, page_at}
 use Rattle.desk_core.specs.Rights.{entering, on_page}
 use Rattle.desk_core.specs.Steps.{Request, decided}
 use Rattle.desk_core.specs.Told.{Told}
-use Rattle.desk_core.specs.Serving.{Stands, Agrees, Accepts, IsFirm, Admits, OnlyReads, IsIn, Enters, Finds, FindsPage, ReadsPage, Decides, page_in}
+use Rattle.desk_core.specs.Serving.{Stands, Agrees, Accepts, KeepsEdition, IsFirm, Admits, OnlyReads, IsIn, Enters, Finds, FindsPage, ReadsPage, Decides, page_in}
 use Rattle.desk_core.proofs.Deciding.{Brings, brought}
-use Rattle.desk_core.proofs.Fitted.{IfAnyFits}
+use Rattle.desk_core.proofs.Fitted.{IfAnyFits, IfAnyKeeps}
+use Rattle.desk_core.proofs.Views.{state_page}
 use Rattle.desk_core.proofs.Accepting.{accepted_by}
 use Rattle.desk_core.proofs.Kept.{IfAnyIsThere, decided_is_there}
 use Rattle.desk_core.proofs.Ways.{not_allowed, entered, followed, page_is, pages_are}
@@ -102,17 +104,23 @@ firm_by : (book : Book) (request : Request) (new : Option Tables) (result : Resu
 firm_by book request new (Ok d) decision agrees is = inr (inr (λ t told. is t told ∙ agrees))
 firm_by book request new (Err r) decision agrees is = tt
 
+-- and what is decided leaves the edition
+keeps_by : (result : Result Decided Refusal) (decision : Decision) → Agrees ⊥ result decision → Brings IfAnyKeeps decision → IfOk result (λ d. IfSome d.change KeepsEdition)
+keeps_by (Ok d) decision agrees keeps = brought IfAnyKeeps decision d agrees keeps
+keeps_by (Err r) decision agrees keeps = tt
+
 -- a request whose answer is what is decided, whatever else is kept
 pub decides_by : {A : Type 0} (book : Book) (request : Request) (old new : Told) (r : Result A Refusal) (result : Result Decided Refusal) (decision : Decision)
-    → OnlyReads old new r → Agrees ⊥ result decision → Brings IfAnyFits decision → Accepts decision
+    → OnlyReads old new r → Agrees ⊥ result decision → Brings IfAnyFits decision → Brings IfAnyKeeps decision → Accepts decision
     → ((t : Tables) → new.tables ≡ Some t → decided book request (state_of t) ≡ decision)
     → Decides book request old new result
-decides_by book request old new r result decision reads agrees brings accepts is = record {
+decides_by book request old new r result decision reads agrees brings keeps accepts is = record {
   reads = only_read old new r result (λ e. absurd (not_fault result decision agrees e)) reads;
   agrees = λ t told sound. agrees_with result decision (decided book request (state_of t)) (is t told) agrees;
   fits = fits_by result decision agrees brings;
   there = there_by book request new.tables result (λ t told. agrees_as result decision (decided book request (state_of t)) (is t told) agrees);
   accepted = accepted_by result decision agrees accepts;
+  edition = keeps_by result decision agrees keeps;
   firm = firm_by book request new.tables result decision agrees is;
 }
 
@@ -149,10 +157,10 @@ module _ (book : Book) (request : Request) (leave : Needed) (site page : List �
 
   -- a request about a page that was found is decided
   pub decides_found : (old new : Told) (found : Site) (p : PageState) (result : Result Decided Refusal)
-      → Finds leave request.caller site page old new (Ok (found, p)) → Agrees ⊥ result (next found p) → Brings IfAnyFits (next found p) → Accepts (next found p)
+      → Finds leave request.caller site page old new (Ok (found, p)) → Agrees ⊥ result (next found p) → Brings IfAnyFits (next found p) → Brings IfAnyKeeps (next found p) → Accepts (next found p)
       → Decides book request old new result
-  decides_found old new found p result finds agrees brings accepts =
-      decides_by book request old new (let r : Result (Site × PageState) Refusal = Ok (found, p) in r) result (next found p) finds.reads agrees brings accepts
+  decides_found old new found p result finds agrees brings keeps accepts =
+      decides_by book request old new (let r : Result (Site × PageState) Refusal = Ok (found, p) in r) result (next found p) finds.reads agrees brings keeps accepts
       (λ t told. found_next t found p (finds.found t told).0 (finds.found t told).1)
 
   -- and one about a page that wasn't is refused
@@ -164,6 +172,7 @@ module _ (book : Book) (request : Request) (leave : Needed) (site page : List �
     fits = tt;
     there = tt;
     accepted = tt;
+    edition = tt;
     firm = tt;
   }
 
@@ -171,10 +180,10 @@ module _ (book : Book) (request : Request) (leave : Needed) (site page : List �
     (is : (t : Tables) → decided book request (state_of t) ≡ entering leave request.caller (site_at site (state_of t)) (λ s. on_page page s (λ p. next p.page))) where
   -- a request about a page alone that was found is decided
   pub decides_page : (old new : Told) (found : Page) (result : Result Decided Refusal)
-      → FindsPage leave request.caller site page old new (Ok found) → Agrees ⊥ result (next found) → Brings IfAnyFits (next found) → Accepts (next found)
+      → FindsPage leave request.caller site page old new (Ok found) → Agrees ⊥ result (next found) → Brings IfAnyFits (next found) → Brings IfAnyKeeps (next found) → Accepts (next found)
       → Decides book request old new result
-  decides_page old new found result finds agrees brings accepts =
-      decides_by book request old new (let r : Result Page Refusal = Ok found in r) result (next found) finds.reads agrees brings accepts
+  decides_page old new found result finds agrees brings keeps accepts =
+      decides_by book request old new (let r : Result Page Refusal = Ok found in r) result (next found) finds.reads agrees brings keeps accepts
       (λ t told.
       let f = finds.found t told in
       is t ∙ followed leave request.caller site page t f.0 (Some (record { page = found; judgements = f.1 })) (λ s p. next p.page) (next found) f.2 f.3 (λ k kept same. refl))
@@ -188,6 +197,7 @@ module _ (book : Book) (request : Request) (leave : Needed) (site page : List �
     fits = tt;
     there = tt;
     accepted = tt;
+    edition = tt;
     firm = tt;
   }
 
@@ -205,7 +215,7 @@ surveyed caller site page t found there js count next is by under many =
     ∙ (ap (λ (o : Option PageState). next found (revision_in o) (judged o) (length pages)) (page_is site page t k has)
     ∙ (ap (λ (o : Option ℕ). next found o (judged (page_in site page t)) (length pages)) by
     ∙ (ap (λ (l : List Judgement). next found there l (length pages)) under
-    ∙ ap (λ n. next found there js n) (length-map k.pages page_state ∙ (ap length (sym (pages_are site t k has)) ∙ many))))))
+    ∙ ap (λ n. next found there js n) (length-map k.pages (state_page k.site.languages) ∙ (ap length (sym (pages_are site t k has)) ∙ many))))))
 
 -- ---- what holds of a refusal holds of the answer that is refused so
 

@@ -3,7 +3,7 @@ use Rattle.std.proofs.Common.{◌≡◌, ℕ, List, true, Option, Some, None, sy
 use Rattle.std.specs.Option.{option_map_or}
 use Rattle.snap_tree.specs.declared.row.Raw.{Raw}
 use Rattle.snap_tree.specs.declared.fault.TreeFault.{TreeFault}
-use Rattle.snap_tree.specs.Trees.{Document}
+use Rattle.snap_tree.specs.Trees.{Document, with_langs}
 use Rattle.snap_tree.specs.Grown.{page_of}
 use Rattle.snap_tree.specs.Faults.{tree_fault}
 use Rattle.rule_core.specs.Books.{Book}
@@ -25,15 +25,19 @@ built_is page raw next tree is none =
 
 module _ (book : Book) (site caller page : List ℕ) (rev : ℕ) (raw : Raw) (s : Site) (there : Option ℕ) (js : List Judgement) (pages : ℕ)
     (room : has_room there pages ≡ true) (more : has_revisions s.counter 1 ≡ true) (same : rev ≡ due there) where
-  put_at : put_page book site caller page rev raw s there js pages ≡ built None raw (renewed book site caller page s.counter js)
+  -- the new page, with the site's languages
+  abbrev pub listed_next : Document → Decision
+  listed_next tree = renewed book site caller page s.counter js (with_langs tree s.languages)
+
+  put_at : put_page book site caller page rev raw s there js pages ≡ built None raw listed_next
   put_at =
-      let next = built None raw (renewed book site caller page s.counter js) in
+      let next = built None raw listed_next in
       ap (λ b. unless b (refusal.PageLimit limit.Pages) (unless (has_revisions s.counter 1) (refusal.PageLimit limit.Revisions) (current rev (due there) next))) room
       ∙ (ap (λ b. unless b (refusal.PageLimit limit.Revisions) (current rev (due there) next)) more ∙ current_is rev (due there) next same)
 
   pub put_is : (tree : Document) → tree ≡ page_of raw → tree_fault raw.rows ≡ None
-      → put_page book site caller page rev raw s there js pages ≡ renewed book site caller page s.counter js tree
-  put_is tree is none = put_at ∙ built_is None raw (renewed book site caller page s.counter js) tree is none
+      → put_page book site caller page rev raw s there js pages ≡ listed_next tree
+  put_is tree is none = put_at ∙ built_is None raw listed_next tree is none
 
-  pub put_refused : (r : Refusal) → Stands ⊥ r (built None raw (renewed book site caller page s.counter js)) → Stands ⊥ r (put_page book site caller page rev raw s there js pages)
+  pub put_refused : (r : Refusal) → Stands ⊥ r (built None raw listed_next) → Stands ⊥ r (put_page book site caller page rev raw s there js pages)
   put_refused r stands = subst (Stands ⊥ r) (sym put_at) stands

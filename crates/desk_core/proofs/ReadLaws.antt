@@ -10,20 +10,22 @@ use Rattle.keep_core.specs.declared.site.Site.{Site}
 use Rattle.keep_core.specs.declared.page.SitePage.{SitePage}
 use Rattle.keep_core.specs.declared.tables.KeptPage.{KeptPage}
 use Rattle.keep_core.specs.declared.tables.KeptSite.{KeptSite}
-use Rattle.keep_core.specs.Tables.{Tables, site_name, page_name, kept_site, kept_page, pages_in, outcomes_of, outcomes_in}
+use Rattle.keep_core.specs.declared.tables.Tables.{Tables}
+use Rattle.keep_core.specs.Tables.{site_name, page_name, kept_site, kept_page, pages_in, languages_in, languages_of, outcomes_of, outcomes_in}
 use Rattle.keep_core.specs.Fits.{Fits, IsThere}
 use Rattle.desk_core.specs.declared.decided.Decided.{Decided}
 use Rattle.desk_core.specs.declared.reply.Reply.{Reply}
 use Rattle.desk_core.specs.declared.refusal.Needed.TheVariants.{Reader}
 use Rattle.desk_core.specs.declared.refusal.Refusal.{Refusal}
-use Rattle.desk_core.specs.State.{PageState, page_state, state_of, site_at}
+use Rattle.desk_core.specs.State.{PageState, kept_listed, page_state, state_of, site_at}
 use Rattle.desk_core.specs.declared.reads.PageForm.{PageForm}
 use Rattle.desk_core.specs.declared.reads.PageForm.TheVariants as showing
 use Rattle.desk_core.specs.Reading.{answered, site_page, asked_as, shown_as}
 use Rattle.desk_core.specs.Steps.{Request, read_page, decided}
 use Rattle.desk_core.specs.Soundness.{IsSound, IsSoundSite, IsSoundPage}
 use Rattle.desk_core.specs.Told.{Told}
-use Rattle.desk_core.specs.Serving.{Stands, IsAccepted, IsIn, IsTrueTo, ReadsPage, Decides, page_in}
+use Rattle.desk_core.specs.Serving.{Stands, IsAccepted, KeepsEdition, IsIn, IsTrueTo, ReadsPage, Decides, page_in}
+use Rattle.desk_core.proofs.Views.{state_page}
 use Rattle.desk_core.proofs.Ways.{followed}
 use Rattle.desk_core.proofs.Onward.{only_read, read_as}
 
@@ -31,24 +33,25 @@ if_some : {X : Type 0} (P Q : X → Type 0) (o : Option X) → ((x : X) → P x 
 if_some P Q None follows holds = tt
 if_some P Q (Some x) follows holds = follows x holds
 
-true_in : (book : Book) (page : List ℕ) (o : Option KeptSite) → IfSome o (IsSoundSite book) → IfSome (at page_name page (pages_in o)) (IsTrueTo book)
+true_in : (book : Book) (page : List ℕ) (o : Option KeptSite) → IfSome o (IsSoundSite book) → IfSome (at page_name page (pages_in o)) (λ p. IsTrueTo book (kept_listed (languages_in o) p))
 true_in book page None sound = tt
 true_in book page (Some s) sound =
-    if_some (IsSoundPage book) (IsTrueTo book) (at page_name page s.pages) (λ p is. is.told) (all_at page_name (IsSoundPage book) page s.pages sound.pages)
+    if_some (IsSoundPage book s.site.languages) (λ p. IsTrueTo book (kept_listed s.site.languages p)) (at page_name page s.pages) (λ p is. is.told)
+    (all_at page_name (IsSoundPage book s.site.languages) page s.pages sound.pages)
 
 -- what is kept of a page is true in sound tables
-pub page_is_true : (book : Book) (t : Tables) → IsSound book t → (site page : List ℕ) → IfSome (kept_page site page t) (IsTrueTo book)
-page_is_true book t sound site page = true_in book page (kept_site site t) (all_at site_name (IsSoundSite book) site t sound.sites)
+pub page_is_true : (book : Book) (t : Tables) → IsSound book t → (site page : List ℕ) → IfSome (kept_page site page t) (λ p. IsTrueTo book (kept_listed (languages_of site t) p))
+page_is_true book t sound site page = true_in book page (kept_site site t) (all_at site_name (IsSoundSite book) site t.sites sound.sites)
 
-true_by : (book : Book) (o : Option KeptPage) (kept : KeptPage) → IfSome o (IsTrueTo book) → option_map page_state o ≡ Some (page_state kept) → outcomes_in o ≡ kept.outcomes → IsTrueTo book kept
-true_by book None kept holds is has = cc
-true_by book (Some k) kept holds is has =
-    let same : page_state k ≡ page_state kept = cc in
+true_by : (book : Book) (langs : List (List ℕ)) (o : Option KeptPage) (kept : KeptPage) → IfSome o (λ p. IsTrueTo book (kept_listed langs p)) → option_map (state_page langs) o ≡ Some (page_state kept) → outcomes_in o ≡ kept.outcomes → IsTrueTo book kept
+true_by book langs None kept holds is has = cc
+true_by book langs (Some k) kept holds is has =
+    let same : state_page langs k ≡ page_state kept = cc in
     sym (ap (λ (o : Outcomes). o.rows) has) ∙ (holds ∙ ap (λ (s : PageState). outcomes book s.page.tree s.judgements) same)
 
 -- and so is what was read of one
 pub found_is_true : (book : Book) (t : Tables) → IsSound book t → (site page : List ℕ) (kept : KeptPage) → page_in site page t ≡ Some (page_state kept) → outcomes_of site page t ≡ kept.outcomes → IsTrueTo book kept
-found_is_true book t sound site page kept is has = true_by book (kept_page site page t) kept (page_is_true book t sound site page) is has
+found_is_true book t sound site page kept is has = true_by book (languages_of site t) (kept_page site page t) kept (page_is_true book t sound site page) is has
 
 -- what is shown of a page that is true to its outcomes
 pub shown_is : (book : Book) (kept : KeptPage) (shown : SitePage) → shown ≡ record { head = kept.page.head; address = kept.page.tree.address; outcomes = kept.outcomes } → IsTrueTo book kept
@@ -88,6 +91,7 @@ module _ (book : Book) (caller site page : List ℕ) (way : PageForm) where
     fits = let P : Decided → Type 0 = λ e. IfSome e.change Fits in subst P (sym same) tt;
     there = let P : Decided → Type 0 = λ e. IfSome e.change (λ change. IfSome new.tables (IsThere change)) in subst P (sym same) tt;
     accepted = let P : Decided → Type 0 = λ e. IsAccepted e.reply in subst P (sym same) (shown_accepted way shown);
+    edition = let P : Decided → Type 0 = λ e. IfSome e.change KeepsEdition in subst P (sym same) tt;
     firm = inl (ap (λ (e : Decided). e.change) same);
   }
 
@@ -99,5 +103,6 @@ module _ (book : Book) (caller site page : List ℕ) (way : PageForm) where
     fits = tt;
     there = tt;
     accepted = tt;
+    edition = tt;
     firm = tt;
   }

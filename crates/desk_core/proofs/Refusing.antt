@@ -4,7 +4,7 @@ use Rattle.std.proofs.lemmas.Bool.Decides.{nat_tests}
 use Rattle.std.proofs.lemmas.List.{length-map}
 use Rattle.std.proofs.lemmas.List.Sums.{sum_by-cons}
 use Rattle.snap_tree.specs.declared.row.Raw.{Raw}
-use Rattle.snap_tree.specs.Trees.{with_trees}
+use Rattle.snap_tree.specs.Trees.{with_trees, with_langs}
 use Rattle.snap_tree.specs.Grown.{page_of}
 use Rattle.snap_edit.specs.declared.edit.Edit.{Edit}
 use Rattle.rule_core.specs.Books.{Book}
@@ -15,7 +15,8 @@ use Rattle.keep_core.specs.declared.page.PagePut.{PagePut}
 use Rattle.keep_core.specs.declared.change.Change.{Change}
 use Rattle.keep_core.specs.declared.change.Change.TheVariants.{PutSite, PutPages, DropPage}
 use Rattle.keep_core.specs.declared.tables.KeptSite.{KeptSite}
-use Rattle.keep_core.specs.Tables.{Tables, kept_site, site_name, page_name}
+use Rattle.keep_core.specs.declared.tables.Tables.{Tables}
+use Rattle.keep_core.specs.Tables.{kept_site, site_name, page_name}
 use Rattle.keep_core.specs.Changes.{put_over, with_pages, without_page, changed}
 use Rattle.desk_core.specs.declared.limits.TheConstants.{MOST_PAGES}
 use Rattle.desk_core.specs.declared.command.Command.{Command}
@@ -28,7 +29,7 @@ use Rattle.desk_core.specs.declared.refusal.Limit.TheVariants as limit
 use Rattle.desk_core.specs.declared.refusal.Refusal.{Refusal}
 use Rattle.desk_core.specs.declared.refusal.Refusal.TheVariants as refusal
 use Rattle.desk_core.specs.Refusals.{Decision, unless, on, unless_refused}
-use Rattle.desk_core.specs.State.{PageState, SiteState, page_state, site_state, state_of, page_at, site_at}
+use Rattle.desk_core.specs.State.{PageState, SiteState, site_state, state_of, page_at, site_at}
 use Rattle.desk_core.specs.Rights.{may, role_of, entering}
 use Rattle.desk_core.specs.Members.{new_site, put_site}
 use Rattle.desk_core.specs.Pages.{revision_in, rev_of, judged, has_room, has_room_for, has_revisions, page_put, edit_page, drop_page}
@@ -39,7 +40,7 @@ use Rattle.desk_core.specs.Fitting.{FitsParts, FitsRequest, FitsEntries}
 use Rattle.desk_core.specs.Soundness.{IsSound, made}
 use Rattle.desk_core.specs.Once.{IsOnce, Refuses, IsBehind, IsFor}
 use Rattle.desk_core.specs.Revisions.{HasEntry}
-use Rattle.desk_core.proofs.Views.{page_seen, site_seen}
+use Rattle.desk_core.proofs.Views.{state_page, state_pages, page_seen, site_seen}
 use Rattle.desk_core.proofs.Deciding.{Brings, brought, put_page_brings, edit_page_brings, drop_page_brings, import_brings}
 use Rattle.desk_core.proofs.Kept.{entering_kept, on_page_kept, new_site_kept}
 use Rattle.desk_core.proofs.Sound.{kept_fits, kept_sound}
@@ -103,37 +104,41 @@ module _ (book : Book) (t : Tables) (sound : IsSound book t) (caller : List ℕ)
   abbrev After : Command → Option Change → Type 0
   After c change = IsSound book (made change t) → Refuses (IsFor c) (decision book caller c (site_at (site_of c) (state_of (made change t))))
 
+  -- the tables with a site changed so
+  abbrev with_site : List ℕ → (KeptSite → KeptSite) → Tables
+  with_site site f = record { edition = t.edition; sites = with_row site_name site f t.sites }
+
   kept_then : (site : List ℕ) (k : KeptSite) (f : KeptSite → KeptSite) → ((s : KeptSite) → (f s).site.name ≡ s.site.name) → kept_site site t ≡ Some k
-      → kept_site site (with_row site_name site f t) ≡ Some (f k)
-  kept_then site k f keeps is = at_with_row site_name site f (λ s _. keeps s) t ∙ ap (option_map f) is
+      → kept_site site (with_site site f) ≡ Some (f k)
+  kept_then site k f keeps is = at_with_row site_name site f (λ s _. keeps s) t.sites ∙ ap (option_map f) is
 
   there_then : (site : List ℕ) (k : KeptSite) (f : KeptSite → KeptSite) → ((s : KeptSite) → (f s).site.name ≡ s.site.name) → kept_site site t ≡ Some k
-      → site_at site (state_of (with_row site_name site f t)) ≡ Some (site_state (f k))
-  there_then site k f keeps is = site_seen site (with_row site_name site f t) ∙ ap (option_map site_state) (kept_then site k f keeps is)
+      → site_at site (state_of (with_site site f)) ≡ Some (site_state (f k))
+  there_then site k f keeps is = site_seen site (with_site site f) ∙ ap (option_map site_state) (kept_then site k f keeps is)
 
   site_refused : (site : List ℕ) → After (command.PutSite site) (Some (PutSite (new_site site caller)))
   site_refused site _ =
       let t' = changed (PutSite (new_site site caller)) t in
-      let there : site_at site (state_of t') ≡ Some _ = site_seen site t' ∙ ap (option_map site_state) (at_put site_name _ t) in
+      let there : site_at site (state_of t') ≡ Some _ = site_seen site t' ∙ ap (option_map site_state) (at_put site_name _ t.sites) in
       subst (λ o. Refuses (IsFor (command.PutSite site)) (put_site site caller o)) (sym there) refl
 
   module _ (site page : List ℕ) (k : KeptSite) (is : kept_site site t ≡ Some k) where
-    module _ (put : PagePut) (named : put.page.head.page ≡ page) (rev : put.page.head.rev ≡ k.site.counter + 1) (sent : ℕ) (was : (sent == rev_at page k.pages) ≡ true)
+    module _ (put : PagePut) (named : put.page.head.page ≡ page) (rev : put.page.head.rev ≡ k.site.counter + 1) (sent : ℕ) (was : (sent == rev_at k.site.languages page k.pages) ≡ true)
         (allows : may needed.Editor (role_of caller k.site.members) ≡ true) where
       put_refused : (raw : Raw) → After (command.PutPage site page sent raw) (Some (PutPages site (k.site.counter + 1) (put ∷ [])))
       put_refused raw sound' =
           let f = with_pages (k.site.counter + 1) (put ∷ []) in
           let row = put_over k.pages put in
           let found : at page_name page (f k).pages ≡ Some row = subst (λ n. at page_name n (put_row page_name row k.pages) ≡ Some row) named (at_put page_name row k.pages) in
-          let there : page_at page (map page_state (f k).pages) ≡ Some (page_state row) = page_seen page (f k).pages ∙ ap (option_map page_state) found in
-          let room : has_room (revision_in (page_at page (map page_state (f k).pages))) (length (map page_state (f k).pages)) ≡ true =
-          ap (λ o. has_room (revision_in o) (length (map page_state (f k).pages))) there
-          ∙ room_there (length (map page_state (f k).pages)) (f k).pages (length-map (f k).pages page_state)
+          let there : page_at page (state_pages k.site.languages (f k).pages) ≡ Some (state_page k.site.languages row) = page_seen k.site.languages page (f k).pages ∙ ap (option_map (state_page k.site.languages)) found in
+          let room : has_room (revision_in (page_at page (state_pages k.site.languages (f k).pages))) (length (state_pages k.site.languages (f k).pages)) ≡ true =
+          ap (λ o. has_room (revision_in o) (length (state_pages k.site.languages (f k).pages))) there
+          ∙ room_there (length (state_pages k.site.languages (f k).pages)) (f k).pages (length-map (f k).pages (state_page k.site.languages))
           (kept_sound book (changed (PutPages site (k.site.counter + 1) (put ∷ [])) t) sound' site (f k) (kept_then site k f (λ _. refl) is)).few in
           enters IsBehind needed.Editor caller _ _ (site_state (f k)) (there_then site k f (λ _. refl) is) allows
-          (unless_refuses IsBehind (has_room (revision_in (page_at page (map page_state (f k).pages))) (length (map page_state (f k).pages))) (refusal.PageLimit limit.Pages) _ (λ full. let no : true ≡ false = sym room ∙ full in cc) (λ _.
+          (unless_refuses IsBehind (has_room (revision_in (page_at page (state_pages k.site.languages (f k).pages))) (length (state_pages k.site.languages (f k).pages))) (refusal.PageLimit limit.Pages) _ (λ full. let no : true ≡ false = sym room ∙ full in cc) (λ _.
           unless_refuses IsBehind (has_revisions (f k).site.counter 1) (refusal.PageLimit limit.Revisions) _ (λ _. tt) (λ _.
-          unless_refuses IsBehind (sent == rev_at page (f k).pages) (refusal.StaleRevision (rev_at page (f k).pages) None) _ (λ _. tt) (λ now.
+          unless_refuses IsBehind (sent == rev_at k.site.languages page (f k).pages) (refusal.StaleRevision (rev_at k.site.languages page (f k).pages) None) _ (λ _. tt) (λ now.
           absurd (stale_then book t sound caller site page k is put named rev sent was (f k) (kept_then site k f (λ _. refl) is) now)))))
 
       edit_refused : (edits : List Edit) → After (command.EditPage site page sent edits) (Some (PutPages site (k.site.counter + 1) (put ∷ [])))
@@ -142,33 +147,33 @@ module _ (book : Book) (t : Tables) (sound : IsSound book t) (caller : List ℕ)
           let row = put_over k.pages put in
           let found : at page_name page (f k).pages ≡ Some row = subst (λ n. at page_name n (put_row page_name row k.pages) ≡ Some row) named (at_put page_name row k.pages) in
           enters IsBehind needed.Editor caller _ _ (site_state (f k)) (there_then site k f (λ _. refl) is) allows
-          (on_there IsBehind _ refusal.NoPage _ (page_state row) (page_seen page (f k).pages ∙ ap (option_map page_state) found)
+          (on_there IsBehind _ refusal.NoPage _ (state_page k.site.languages row) (page_seen k.site.languages page (f k).pages ∙ ap (option_map (state_page k.site.languages)) found)
           (unless_refuses IsBehind (has_revisions (f k).site.counter 1) (refusal.PageLimit limit.Revisions) _ (λ _. tt) (λ _.
-          unless_refuses IsBehind (sent == rev_of (Some (page_state row))) (refusal.StaleRevision (rev_of (Some (page_state row))) None) _ (λ _. tt) (λ now.
+          unless_refuses IsBehind (sent == rev_of (Some (state_page k.site.languages row))) (refusal.StaleRevision (rev_of (Some (state_page k.site.languages row))) None) _ (λ _. tt) (λ now.
           absurd (stale_then book t sound caller site page k is put named rev sent was (f k) (kept_then site k f (λ _. refl) is)
-          (ap (λ r. sent == r) (rev_found page (f k).pages row found) ∙ now))))))
+          (ap (λ r. sent == r) (rev_found k.site.languages page (f k).pages row found) ∙ now))))))
 
     drop_refused : (sent : ℕ) → may needed.Editor (role_of caller k.site.members) ≡ true → After (command.DropPage site page sent) (Some (DropPage site page))
     drop_refused sent allows _ =
         let f = without_page page in
         let gone : at page_name page (take_row page_name page k.pages) ≡ None = at_take page_name page k.pages (kept_fits book t sound site k is).in_order in
         enters (λ r. r ≡ refusal.NoPage) needed.Editor caller _ _ (site_state (f k)) (there_then site k f (λ _. refl) is) allows
-        (on_none (λ r. r ≡ refusal.NoPage) _ refusal.NoPage _ (page_seen page (f k).pages ∙ ap (option_map page_state) gone) refl)
+        (on_none (λ r. r ≡ refusal.NoPage) _ refusal.NoPage _ (page_seen k.site.languages page (f k).pages ∙ ap (option_map (state_page k.site.languages)) gone) refl)
 
     -- ---- imports
 
-    import_refused : (entries : List Entry) → FitsEntries entries → first_stale (map page_state k.pages) entries ≡ None → may needed.Editor (role_of caller k.site.members) ≡ true
-        → After (command.Import site entries) (Some (PutPages site (k.site.counter + length entries) (puts book caller (map page_state k.pages) k.site.counter entries)))
+    import_refused : (entries : List Entry) → FitsEntries entries → first_stale (state_pages k.site.languages k.pages) entries ≡ None → may needed.Editor (role_of caller k.site.members) ≡ true
+        → After (command.Import site entries) (Some (PutPages site (k.site.counter + length entries) (puts book k.site.languages caller (state_pages k.site.languages k.pages) k.site.counter entries)))
     import_refused [] fits fresh allows sound' = absurd (omega (arith, fits.some))
     import_refused (e ∷ entries) fits fresh allows sound' =
-        let given = puts book caller (map page_state k.pages) k.site.counter (e ∷ entries) in
+        let given = puts book k.site.languages caller (state_pages k.site.languages k.pages) k.site.counter (e ∷ entries) in
         let f = with_pages (k.site.counter + length (e ∷ entries)) given in
-        let pages = map page_state (f k).pages in
+        let pages = state_pages k.site.languages (f k).pages in
         let kept : kept_site site (changed (PutPages site (k.site.counter + length (e ∷ entries)) given) t) ≡ Some (f k) = kept_then site k f (λ _. refl) is in
         let few : length (f k).pages ≤ MOST_PAGES = (kept_sound book (changed (PutPages site (k.site.counter + length (e ∷ entries)) given) t) sound' site (f k) kept).few in
-        let same : length pages ≡ length (f k).pages = length-map (f k).pages page_state in
+        let same : length pages ≡ length (f k).pages = length-map (f k).pages (state_page k.site.languages) in
         let newer : (p : List ℕ) (rev : ℕ) → HasEntry p rev (e ∷ entries) → 0 < rev_of (page_at p pages) =
-        λ p rev has. puts_newer_at book caller p rev k.pages k.pages 0 k.site.counter (e ∷ entries) (omega arith) has in
+        λ p rev has. puts_newer_at book k.site.languages caller p rev k.pages k.pages 0 k.site.counter (e ∷ entries) (omega arith) has in
         let none : new_pages pages (e ∷ entries) ≡ 0 = none_new pages (e ∷ entries) newer in
         enters IsBehind needed.Editor caller _ _ (site_state (f k)) (there_then site k f (λ _. refl) is) allows
         (unless_refuses IsBehind (has_room_for (new_pages pages (e ∷ entries)) (length pages)) (refusal.PageLimit limit.Pages) _
@@ -182,11 +187,12 @@ module _ (book : Book) (t : Tables) (sound : IsSound book t) (caller : List ℕ)
   refused_by : (c : Command) → IsOnce c → FitsParts book c → Brings (After c) (decision book caller c (site_at (site_of c) (state_of t)))
   refused_by (command.PutSite site) once parts = new_site_kept (After (command.PutSite site)) t site caller (λ _. site_refused site)
   refused_by (command.PutMember site user held) once parts = absurd once
+  refused_by (command.PutLanguages site langs) once parts = absurd once
   refused_by (command.PutPage site page rev raw) once parts =
       let P = After (command.PutPage site page rev raw) in
       entering_kept P t needed.Editor caller site _ (λ k is allows.
-      put_page_brings P book site caller page rev raw k.site (revision_in (page_at page (map page_state k.pages))) (judged (page_at page (map page_state k.pages))) (length (map page_state k.pages)) (λ _ _ was _.
-      put_refused site page k is (page_put book page (k.site.counter + 1) caller (page_of raw) (judged (page_at page (map page_state k.pages)))) refl refl rev was allows raw))
+      put_page_brings P book site caller page rev raw k.site (revision_in (page_at page (state_pages k.site.languages k.pages))) (judged (page_at page (state_pages k.site.languages k.pages))) (length (state_pages k.site.languages k.pages)) (λ _ _ was _.
+      put_refused site page k is (page_put book page (k.site.counter + 1) caller (with_langs (page_of raw) k.site.languages) (judged (page_at page (state_pages k.site.languages k.pages)))) refl refl rev was allows raw))
   refused_by (command.DropPage site page rev) once parts =
       let P = After (command.DropPage site page rev) in
       entering_kept P t needed.Editor caller site _ (λ k is allows.
@@ -199,9 +205,9 @@ module _ (book : Book) (t : Tables) (sound : IsSound book t) (caller : List ℕ)
       let P = After (command.EditPage site page rev edits) in
       entering_kept P t needed.Editor caller site _ (λ k is allows.
       on_page_kept P t page k (edit_page book site caller page rev edits k.site) (λ p found.
-      edit_page_brings P book site caller page rev edits k.site (page_state p) (λ _ was new _.
-      edit_refused site page k is (page_put book page (k.site.counter + 1) caller (with_trees p.page.tree new) p.judgements) refl refl rev
-      (ap (λ r. rev == r) (rev_found page k.pages p found) ∙ was) allows edits)))
+      edit_page_brings P book site caller page rev edits k.site (state_page k.site.languages p) (λ _ was new _.
+      edit_refused site page k is (page_put book page (k.site.counter + 1) caller (with_langs (with_trees p.page.tree new) k.site.languages) p.judgements) refl refl rev
+      (ap (λ r. rev == r) (rev_found k.site.languages page k.pages p found) ∙ was) allows edits)))
   refused_by (command.Judge site page rule node verdict seen note) once parts = absurd once
   refused_by (command.GetPage site page) once parts = absurd once
   refused_by (command.GetOutcomes site page) once parts = absurd once

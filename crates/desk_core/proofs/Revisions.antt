@@ -3,7 +3,7 @@ use Rattle.std.proofs.Common.{◌≡◌, ℕ, ◌+◌, ◌<◌, ◌≤◌, ◌==
 use Rattle.std.specs.List.{All}
 use Rattle.std.proofs.lemmas.Bool.Decides.{nat_tests}
 use Rattle.std.proofs.lemmas.List.Elements.{All-head, All-tail}
-use Rattle.snap_tree.specs.Trees.{with_trees}
+use Rattle.snap_tree.specs.Trees.{with_trees, with_langs}
 use Rattle.snap_tree.specs.Grown.{page_of}
 use Rattle.rule_core.specs.Books.{Book}
 use Rattle.judge_core.specs.declared.judgement.Judgement.{Judgement}
@@ -13,12 +13,14 @@ use Rattle.named_rows.specs.ByName.{at, put_row, put_rows, take_row, with_row, I
 use Rattle.named_rows.proofs.Lookups.{at_put, at_put_other, at_with_row, at_with_row_other}
 use Rattle.named_rows.proofs.Order.{at_take, at_take_other}
 use Rattle.keep_core.specs.declared.page.PagePut.{PagePut}
+use Rattle.keep_core.specs.declared.page.PageOutcomes.{PageOutcomes}
 use Rattle.keep_core.specs.declared.change.Change.{Change}
-use Rattle.keep_core.specs.declared.change.Change.TheVariants.{PutSite, PutPages, DropPage, AddJudgement}
+use Rattle.keep_core.specs.declared.change.Change.TheVariants.{PutSite, PutPages, DropPage, AddJudgements, PutLanguages}
 use Rattle.keep_core.specs.declared.tables.KeptPage.{KeptPage}
 use Rattle.keep_core.specs.declared.tables.KeptSite.{KeptSite}
-use Rattle.keep_core.specs.Tables.{Tables, kept_site, pages_in, pages_of, site_name, page_name}
-use Rattle.keep_core.specs.Changes.{put_over, with_pages, without_page, with_judgement, with_judged, changed}
+use Rattle.keep_core.specs.declared.tables.Tables.{Tables}
+use Rattle.keep_core.specs.Tables.{kept_site, pages_in, pages_of, site_name, page_name}
+use Rattle.keep_core.specs.Changes.{put_over, with_pages, without_page, with_judgements, with_judged, with_languages, with_outcomes, changed}
 use Rattle.desk_core.specs.declared.command.Command.{Command}
 use Rattle.desk_core.specs.declared.command.Command.TheVariants as command
 use Rattle.desk_core.specs.declared.command.Entry.{Entry}
@@ -27,7 +29,7 @@ use Rattle.desk_core.specs.declared.refusal.Needed.TheVariants as needed
 use Rattle.desk_core.specs.declared.refusal.Refusal.TheVariants as refusal
 use Rattle.desk_core.specs.declared.reply.Reply.{Reply}
 use Rattle.desk_core.specs.Refusals.{Decision}
-use Rattle.desk_core.specs.State.{PageState, SiteState, State, page_state, site_state, state_of, page_at, site_at}
+use Rattle.desk_core.specs.State.{PageState, SiteState, State, site_state, state_of, page_at, site_at}
 use Rattle.desk_core.specs.Members.{new_site, site_with, members_with}
 use Rattle.desk_core.specs.Pages.{revision_in, rev_of, judged, page_put, edit_page, drop_page}
 use Rattle.desk_core.specs.Imports.{puts, first_stale}
@@ -39,57 +41,68 @@ use Rattle.desk_core.specs.Fitting.{FitsRequest}
 use Rattle.desk_core.specs.Soundness.{rev_in, IsSound, made}
 use Rattle.desk_core.specs.Once.{IsRefused}
 use Rattle.desk_core.specs.Revisions.{counter_of, revision_of, Moves, Rises, HasEntry, Carries, Puts}
-use Rattle.desk_core.proofs.Views.{page_seen, site_seen, same_or_other}
-use Rattle.desk_core.proofs.Deciding.{Brings, brought, entering_brings, on_page_brings, put_member_brings, put_page_brings, edit_page_brings, drop_page_brings, import_brings, judge_brings}
+use Rattle.desk_core.proofs.Views.{state_page, state_pages, page_seen, outcomes_unseen, site_seen, same_or_other}
+use Rattle.desk_core.proofs.Deciding.{Brings, brought, entering_brings, on_page_brings, put_member_brings, put_languages_brings, put_page_brings, edit_page_brings, drop_page_brings, import_brings, judge_brings}
 use Rattle.desk_core.proofs.Kept.{entering_kept, on_page_kept, new_site_kept, page_read, site_read}
 use Rattle.desk_core.proofs.Sites.{other_sites_stay}
 use Rattle.desk_core.proofs.Sound.{kept_fits, kept_sound}
+use Rattle.desk_core.proofs.NewOutcomes.{all_relisted}
 use Rattle.desk_core.proofs.Keeping.{keeps_sound}
 use Rattle.desk_core.proofs.Again.{rev_at, old_rev, put_newer, puts_newer, weakened, after_made, Nothing, first_fresh, refused_by}
 
 -- ---- a page's revision, where pages change
 
-rev_seen : (page : List ℕ) (pages cur : List KeptPage) → at page_name page pages ≡ at page_name page cur → rev_at page pages ≡ rev_at page cur
-rev_seen page pages cur same = ap rev_of (page_seen page pages ∙ ap (option_map page_state) same ∙ sym (page_seen page cur))
+rev_seen : (langs : List (List ℕ)) (page : List ℕ) (pages cur : List KeptPage) → at page_name page pages ≡ at page_name page cur → rev_at langs page pages ≡ rev_at langs page cur
+rev_seen langs page pages cur same = ap rev_of (page_seen langs page pages ∙ ap (option_map (state_page langs)) same ∙ sym (page_seen langs page cur))
 
 moves_still : (counter old mid new : ℕ) → new ≡ mid → Moves counter old mid → Moves counter old new
 moves_still counter old mid new same moves = subst (Moves counter old) (sym same) moves
 
-put_moves_by : (least old : ℕ) (page : List ℕ) (row : KeptPage) (cur : List KeptPage) → (page ≡ page_name row) ⊎ (page ≡ page_name row → ⊥) → least < rev_in row
-    → Moves least old (rev_at page cur) → Moves least old (rev_at page (put_row page_name row cur))
-put_moves_by least old page row cur (inl same) newer moves =
-    inr (inr (subst (λ n. least < rev_at n (put_row page_name row cur)) (sym same) (put_newer least row cur newer)))
-put_moves_by least old page row cur (inr other) newer moves =
-    moves_still least old (rev_at page cur) (rev_at page (put_row page_name row cur)) (rev_seen page (put_row page_name row cur) cur (at_put_other page_name page row cur other)) moves
+put_moves_by : (langs : List (List ℕ)) (least old : ℕ) (page : List ℕ) (row : KeptPage) (cur : List KeptPage) → (page ≡ page_name row) ⊎ (page ≡ page_name row → ⊥) → least < rev_in row
+    → Moves least old (rev_at langs page cur) → Moves least old (rev_at langs page (put_row page_name row cur))
+put_moves_by langs least old page row cur (inl same) newer moves =
+    inr (inr (subst (λ n. least < rev_at langs n (put_row page_name row cur)) (sym same) (put_newer langs least row cur newer)))
+put_moves_by langs least old page row cur (inr other) newer moves =
+    moves_still least old (rev_at langs page cur) (rev_at langs page (put_row page_name row cur)) (rev_seen langs page (put_row page_name row cur) cur (at_put_other page_name page row cur other)) moves
 
-put_moves : (least old : ℕ) (page : List ℕ) (row : KeptPage) (cur : List KeptPage) → least < rev_in row → Moves least old (rev_at page cur) → Moves least old (rev_at page (put_row page_name row cur))
-put_moves least old page row cur newer moves = put_moves_by least old page row cur (same_or_other page (page_name row)) newer moves
+put_moves : (langs : List (List ℕ)) (least old : ℕ) (page : List ℕ) (row : KeptPage) (cur : List KeptPage) → least < rev_in row → Moves least old (rev_at langs page cur) → Moves least old (rev_at langs page (put_row page_name row cur))
+put_moves langs least old page row cur newer moves = put_moves_by langs least old page row cur (same_or_other page (page_name row)) newer moves
 
-puts_move : (book : Book) (caller page : List ℕ) (orig cur : List KeptPage) (least old counter : ℕ) (entries : List Entry) → least ≤ counter → Moves least old (rev_at page cur)
-    → Moves least old (rev_at page (put_rows page_name (map (put_over orig) (puts book caller (map page_state orig) counter entries)) cur))
-puts_move book caller page orig cur least old counter [] within moves = moves
-puts_move book caller page orig cur least old counter (e ∷ entries) within moves =
-    let row : KeptPage = put_over orig (page_put book e.page (counter + 1) caller (page_of e.raw) (judged (page_at e.page (map page_state orig)))) in
-    puts_move book caller page orig (put_row page_name row cur) least old (counter + 1) entries (omega arith) (put_moves least old page row cur (omega arith) moves)
+puts_move : (book : Book) (langs : List (List ℕ)) (caller page : List ℕ) (orig cur : List KeptPage) (least old counter : ℕ) (entries : List Entry) → least ≤ counter → Moves least old (rev_at langs page cur)
+    → Moves least old (rev_at langs page (put_rows page_name (map (put_over orig) (puts book langs caller (state_pages langs orig) counter entries)) cur))
+puts_move book langs caller page orig cur least old counter [] within moves = moves
+puts_move book langs caller page orig cur least old counter (e ∷ entries) within moves =
+    let row : KeptPage = put_over orig (page_put book e.page (counter + 1) caller (with_langs (page_of e.raw) langs) (judged (page_at e.page (state_pages langs orig)))) in
+    puts_move book langs caller page orig (put_row page_name row cur) least old (counter + 1) entries (omega arith) (put_moves langs least old page row cur (omega arith) moves)
 
-gone_rev : (page : List ℕ) (pages : List KeptPage) → at page_name page pages ≡ None → rev_at page pages ≡ 0
-gone_rev page pages none = ap rev_of (page_seen page pages ∙ ap (option_map page_state) none)
+gone_rev : (langs : List (List ℕ)) (page : List ℕ) (pages : List KeptPage) → at page_name page pages ≡ None → rev_at langs page pages ≡ 0
+gone_rev langs page pages none = ap rev_of (page_seen langs page pages ∙ ap (option_map (state_page langs)) none)
 
-take_moves : (counter : ℕ) (n page : List ℕ) (pages : List KeptPage) → IsInOrder page_name pages → (n ≡ page) ⊎ (n ≡ page → ⊥) → Moves counter (rev_at n pages) (rev_at n (take_row page_name page pages))
-take_moves counter n page pages order (inl same) =
-    inr (inl (subst (λ n. rev_at n (take_row page_name page pages) ≡ 0) (sym same) (gone_rev page (take_row page_name page pages) (at_take page_name page pages order))))
-take_moves counter n page pages order (inr other) = inl (rev_seen n (take_row page_name page pages) pages (at_take_other page_name page n pages other order))
+take_moves : (langs : List (List ℕ)) (counter : ℕ) (n page : List ℕ) (pages : List KeptPage) → IsInOrder page_name pages → (n ≡ page) ⊎ (n ≡ page → ⊥) → Moves counter (rev_at langs n pages) (rev_at langs n (take_row page_name page pages))
+take_moves langs counter n page pages order (inl same) =
+    inr (inl (subst (λ n. rev_at langs n (take_row page_name page pages) ≡ 0) (sym same) (gone_rev langs page (take_row page_name page pages) (at_take page_name page pages order))))
+take_moves langs counter n page pages order (inr other) = inl (rev_seen langs n (take_row page_name page pages) pages (at_take_other page_name page n pages other order))
 
-judged_rev : (j : Judgement) (o : Outcomes) (found : Option KeptPage) → rev_of (option_map page_state (option_map (with_judgement j o) found)) ≡ rev_of (option_map page_state found)
-judged_rev j o None = refl
-judged_rev j o (Some p) = refl
+judged_rev : (langs : List (List ℕ)) (js : List Judgement) (o : Outcomes) (found : Option KeptPage) → rev_of (option_map (state_page langs) (option_map (with_judgements js o) found)) ≡ rev_of (option_map (state_page langs) found)
+judged_rev langs js o None = refl
+judged_rev langs js o (Some p) = refl
 
-judge_moves : (n page : List ℕ) (j : Judgement) (o : Outcomes) (pages : List KeptPage) → (n ≡ page) ⊎ (n ≡ page → ⊥) → rev_at n (with_row page_name page (with_judgement j o) pages) ≡ rev_at n pages
-judge_moves n page j o pages (inl same) =
-    subst (λ n. rev_at n (with_row page_name page (with_judgement j o) pages) ≡ rev_at n pages) (sym same)
-    (ap rev_of (page_seen page (with_row page_name page (with_judgement j o) pages) ∙ ap (option_map page_state) (at_with_row page_name page (with_judgement j o) (λ _ _. refl) pages))
-    ∙ judged_rev j o (at page_name page pages) ∙ sym (ap rev_of (page_seen page pages)))
-judge_moves n page j o pages (inr other) = rev_seen n (with_row page_name page (with_judgement j o) pages) pages (at_with_row_other page_name page (with_judgement j o) (λ _ _. refl) n pages other)
+judge_moves : (langs : List (List ℕ)) (n page : List ℕ) (js : List Judgement) (o : Outcomes) (pages : List KeptPage) → (n ≡ page) ⊎ (n ≡ page → ⊥) → rev_at langs n (with_row page_name page (with_judgements js o) pages) ≡ rev_at langs n pages
+judge_moves langs n page js o pages (inl same) =
+    subst (λ n. rev_at langs n (with_row page_name page (with_judgements js o) pages) ≡ rev_at langs n pages) (sym same)
+    (ap rev_of (page_seen langs page (with_row page_name page (with_judgements js o) pages) ∙ ap (option_map (state_page langs)) (at_with_row page_name page (with_judgements js o) (λ _ _. refl) pages))
+    ∙ judged_rev langs js o (at page_name page pages) ∙ sym (ap rev_of (page_seen langs page pages)))
+judge_moves langs n page js o pages (inr other) = rev_seen langs n (with_row page_name page (with_judgements js o) pages) pages (at_with_row_other page_name page (with_judgements js o) (λ _ _. refl) n pages other)
+
+-- whatever the languages of its site are, and whatever its outcomes
+any_rev : (langs old : List (List ℕ)) (o : Option KeptPage) → rev_of (option_map (state_page langs) o) ≡ rev_of (option_map (state_page old) o)
+any_rev langs old None = refl
+any_rev langs old (Some p) = refl
+
+relisted_rev : (langs old : List (List ℕ)) (n : List ℕ) (new : List PageOutcomes) (pages : List KeptPage) → rev_at langs n (with_outcomes new pages) ≡ rev_at old n pages
+relisted_rev langs old n new pages =
+    ap (λ (seen : List PageState). rev_of (page_at n seen)) (outcomes_unseen langs new pages)
+    ∙ ap rev_of (page_seen langs n pages) ∙ any_rev langs old (at page_name n pages) ∙ sym (ap rev_of (page_seen old n pages))
 
 -- ---- a site, where it changes
 
@@ -106,60 +119,66 @@ module _ (book : Book) (t : Tables) (sound : IsSound book t) (caller n : List �
       subst (λ o. Rises n o (site_at site (state_of (made change t)))) (sym (site_seen site t ∙ ap (option_map site_state) is))
       (subst (Rises n (option_map site_state old)) (sym (site_seen site (made change t) ∙ ap (option_map site_state) is_new)) rises)
 
-  found : (site : List ℕ) (k : KeptSite) (f : KeptSite → KeptSite) → ((s : KeptSite) → (f s).site.name ≡ s.site.name) → kept_site site t ≡ Some k → kept_site site (with_row site_name site f t) ≡ Some (f k)
-  found site k f keeps is = at_with_row site_name site f (λ s _. keeps s) t ∙ ap (option_map f) is
+  found : (site : List ℕ) (k : KeptSite) (f : KeptSite → KeptSite) → ((s : KeptSite) → (f s).site.name ≡ s.site.name) → kept_site site t ≡ Some k → kept_site site (record { edition = t.edition; sites = with_row site_name site f t.sites }) ≡ Some (f k)
+  found site k f keeps is = at_with_row site_name site f (λ s _. keeps s) t.sites ∙ ap (option_map f) is
 
   pages_rise : (site : List ℕ) (k : KeptSite) (counter : ℕ) (puts : List PagePut) → kept_site site t ≡ Some k → k.site.counter ≤ counter
-      → Moves k.site.counter (rev_at n k.pages) (rev_at n (put_rows page_name (map (put_over k.pages) puts) k.pages)) → RisesBy site (Some (PutPages site counter puts))
+      → Moves k.site.counter (rev_at k.site.languages n k.pages) (rev_at k.site.languages n (put_rows page_name (map (put_over k.pages) puts) k.pages)) → RisesBy site (Some (PutPages site counter puts))
   pages_rise site k counter puts is within moves =
       by_rows site (Some (PutPages site counter puts)) (Some k) (Some (with_pages counter puts k)) is (found site k (with_pages counter puts) (λ _. refl) is)
       (record { counter = within; revision = moves })
 
   put_rises : (site : List ℕ) (k : KeptSite) (put : PagePut) → kept_site site t ≡ Some k → put.page.head.rev ≡ k.site.counter + 1 → RisesBy site (Some (PutPages site (k.site.counter + 1) (put ∷ [])))
   put_rises site k put is next =
-      pages_rise site k (k.site.counter + 1) (put ∷ []) is (omega arith) (put_moves k.site.counter (rev_at n k.pages) n (put_over k.pages put) k.pages (omega arith) (inl refl))
+      pages_rise site k (k.site.counter + 1) (put ∷ []) is (omega arith) (put_moves k.site.languages k.site.counter (rev_at k.site.languages n k.pages) n (put_over k.pages put) k.pages (omega arith) (inl refl))
 
   rises_by : (c : Command) → Brings (RisesBy (site_of c)) (decision book caller c (site_at (site_of c) (state_of t)))
   rises_by (command.PutSite site) =
       new_site_kept (RisesBy site) t site caller (λ none.
       let row : KeptSite = record { site = new_site site caller; pages = pages_of site t } in
-      by_rows site (Some (PutSite (new_site site caller))) None (Some row) none (at_put site_name row t)
-      (record { counter = omega arith; revision = inl (ap (λ o. rev_at n (pages_in o)) none) }))
+      by_rows site (Some (PutSite (new_site site caller))) None (Some row) none (at_put site_name row t.sites)
+      (record { counter = omega arith; revision = inl (ap (λ o. rev_at [] n (pages_in o)) none) }))
   rises_by (command.PutMember site user held) =
       entering_kept (RisesBy site) t needed.Owner caller site _ (λ k is _.
       put_member_brings (RisesBy site) site caller user held k.site (λ _.
       let new = site_with site k.site (members_with user held k.site.members) in
       let row : KeptSite = record { site = new; pages = pages_of site t } in
-      by_rows site (Some (PutSite new)) (Some k) (Some row) is (at_put site_name row t) (record { counter = omega arith; revision = inl (ap (λ o. rev_at n (pages_in o)) is) })))
+      by_rows site (Some (PutSite new)) (Some k) (Some row) is (at_put site_name row t.sites) (record { counter = omega arith; revision = inl (ap (λ o. rev_at k.site.languages n (pages_in o)) is) })))
+  rises_by (command.PutLanguages site langs) =
+      entering_kept (RisesBy site) t needed.Owner caller site _ (λ k is _.
+      put_languages_brings (RisesBy site) book site langs (site_state k)
+      (let new = all_relisted book langs k.site.languages k.pages in
+      by_rows site (Some (PutLanguages site langs new)) (Some k) (Some (with_languages langs new k)) is (found site k (with_languages langs new) (λ _. refl) is)
+      (record { counter = omega arith; revision = inl (relisted_rev langs k.site.languages n new k.pages) })))
   rises_by (command.PutPage site page rev raw) =
       entering_kept (RisesBy site) t needed.Editor caller site _ (λ k is _.
-      put_page_brings (RisesBy site) book site caller page rev raw k.site (revision_in (page_at page (map page_state k.pages))) (judged (page_at page (map page_state k.pages))) (length (map page_state k.pages)) (λ _ _ _ _.
-      put_rises site k (page_put book page (k.site.counter + 1) caller (page_of raw) (judged (page_at page (map page_state k.pages)))) is refl))
+      put_page_brings (RisesBy site) book site caller page rev raw k.site (revision_in (page_at page (state_pages k.site.languages k.pages))) (judged (page_at page (state_pages k.site.languages k.pages))) (length (state_pages k.site.languages k.pages)) (λ _ _ _ _.
+      put_rises site k (page_put book page (k.site.counter + 1) caller (with_langs (page_of raw) k.site.languages) (judged (page_at page (state_pages k.site.languages k.pages)))) is refl))
   rises_by (command.DropPage site page rev) =
       entering_kept (RisesBy site) t needed.Editor caller site _ (λ k is _.
       on_page_kept (RisesBy site) t page k (λ (q : PageState). drop_page site page rev q.page) (λ p _.
       drop_page_brings (RisesBy site) site page rev p.page (λ _.
       by_rows site (Some (DropPage site page)) (Some k) (Some (without_page page k)) is (found site k (without_page page) (λ _. refl) is)
-      (record { counter = omega arith; revision = take_moves k.site.counter n page k.pages (kept_fits book t sound site k is).in_order (same_or_other n page) }))))
+      (record { counter = omega arith; revision = take_moves k.site.languages k.site.counter n page k.pages (kept_fits book t sound site k is).in_order (same_or_other n page) }))))
   rises_by (command.Import site entries) =
       entering_kept (RisesBy site) t needed.Editor caller site _ (λ k is _.
       import_brings (RisesBy site) book site caller entries (site_state k) (λ _ _ _ _.
-      pages_rise site k (k.site.counter + length entries) (puts book caller (map page_state k.pages) k.site.counter entries) is (omega arith)
-      (puts_move book caller n k.pages k.pages k.site.counter (rev_at n k.pages) k.site.counter entries (omega arith) (inl refl))))
+      pages_rise site k (k.site.counter + length entries) (puts book k.site.languages caller (state_pages k.site.languages k.pages) k.site.counter entries) is (omega arith)
+      (puts_move book k.site.languages caller n k.pages k.pages k.site.counter (rev_at k.site.languages n k.pages) k.site.counter entries (omega arith) (inl refl))))
   rises_by (command.EditPage site page rev edits) =
       entering_kept (RisesBy site) t needed.Editor caller site _ (λ k is _.
       on_page_kept (RisesBy site) t page k (edit_page book site caller page rev edits k.site) (λ p _.
-      edit_page_brings (RisesBy site) book site caller page rev edits k.site (page_state p) (λ _ _ new _.
-      put_rises site k (page_put book page (k.site.counter + 1) caller (with_trees p.page.tree new) p.judgements) is refl)))
+      edit_page_brings (RisesBy site) book site caller page rev edits k.site (state_page k.site.languages p) (λ _ _ new _.
+      put_rises site k (page_put book page (k.site.counter + 1) caller (with_langs (with_trees p.page.tree new) k.site.languages) p.judgements) is refl)))
   rises_by (command.Judge site page rule node verdict seen note) =
       entering_kept (RisesBy site) t needed.Judge caller site _ (λ k is _.
       on_page_kept (RisesBy site) t page k (judge book site caller page rule node verdict seen note) (λ p _.
-      judge_brings (RisesBy site) book site caller page rule node verdict seen note (page_state p) (λ row _.
+      judge_brings (RisesBy site) book site caller page rule node verdict seen note (state_page k.site.languages p) (λ row _.
       let j : Judgement = record { rule = rule; node = node; verdict = verdict; hand = caller; note = note; evidence = row.evidence } in
-      let o : Outcomes = record { rows = outcomes book p.page.tree (p.judgements ++ j ∷ []) } in (
+      let o : Outcomes = record { rows = outcomes book (with_langs p.page.tree k.site.languages) (p.judgements ++ j ∷ []) } in (
         λ _. still n (site_at site (state_of t)),
-        λ _. by_rows site (Some (AddJudgement site page j o)) (Some k) (Some (with_judged page j o k)) is (found site k (with_judged page j o) (λ _. refl) is)
-            (record { counter = omega arith; revision = inl (judge_moves n page j o k.pages (same_or_other n page)) }),
+        λ _. by_rows site (Some (AddJudgements site page (j ∷ []) o)) (Some k) (Some (with_judged page (j ∷ []) o k)) is (found site k (with_judged page (j ∷ []) o) (λ _. refl) is)
+            (record { counter = omega arith; revision = inl (judge_moves k.site.languages n page (j ∷ []) o k.pages (same_or_other n page)) }),
       ))))
   rises_by (command.GetPage site page) = page_read (RisesBy site) t caller site page _ (still n (site_at site (state_of t)))
   rises_by (command.GetOutcomes site page) = page_read (RisesBy site) t caller site page _ (still n (site_at site (state_of t)))
@@ -191,7 +210,7 @@ rises_at book q t site page sound (inr other) =
 pub revisions_rise : (book : Book) (q : Request) (t : Tables) (site page : List ℕ) → IsSound book t → Rises page (site_at site (state_of t)) (site_at site (step book (state_of t) q).0)
 revisions_rise book q t site page sound = rises_at book q t site page sound (same_or_other site (site_of q.command))
 
-within_by : (book : Book) (page : List ℕ) (o : Option KeptSite) → ((k : KeptSite) → o ≡ Some k → rev_at page k.pages ≤ k.site.counter)
+within_by : (book : Book) (page : List ℕ) (o : Option KeptSite) → ((k : KeptSite) → o ≡ Some k → rev_at k.site.languages page k.pages ≤ k.site.counter)
     → revision_of page (option_map site_state o) ≤ counter_of (option_map site_state o)
 within_by book page None within = omega arith
 within_by book page (Some k) within = within k refl
@@ -248,6 +267,7 @@ module _ (book : Book) (caller page : List ℕ) (rev : ℕ) where
   current_by : (c : Command) (kept : Option SiteState) → Carries page rev c → Brings (Current kept) (decision book caller c kept)
   current_by (command.PutSite site) kept carries = absurd carries
   current_by (command.PutMember site user held) kept carries = absurd carries
+  current_by (command.PutLanguages site langs) kept carries = absurd carries
   current_by (command.PutPage site p sent raw) kept carries =
       entering_brings (Current kept) needed.Editor caller kept _ (λ s is _.
       put_page_brings (Current kept) book site caller p sent raw s.site (revision_in (page_at p s.pages)) (judged (page_at p s.pages)) (length s.pages) (λ _ _ same _.
@@ -275,27 +295,27 @@ module _ (book : Book) (caller page : List ℕ) (rev : ℕ) where
 
 -- ---- what is put has a newer revision
 
-pub puts_newer_at : (book : Book) (caller page : List ℕ) (rev : ℕ) (orig cur : List KeptPage) (least counter : ℕ) (entries : List Entry) → least ≤ counter → HasEntry page rev entries
-    → least < rev_at page (put_rows page_name (map (put_over orig) (puts book caller (map page_state orig) counter entries)) cur)
-puts_newer_at book caller page rev orig cur least counter [] within has = absurd has
-puts_newer_at book caller page rev orig cur least counter (e ∷ entries) within (inl is) =
-    let row : KeptPage = put_over orig (page_put book e.page (counter + 1) caller (page_of e.raw) (judged (page_at e.page (map page_state orig)))) in
-    puts_newer book caller page orig (put_row page_name row cur) least (counter + 1) entries (omega arith)
-    (subst (λ n. least < rev_at n (put_row page_name row cur)) is.0 (put_newer least row cur (omega arith)))
-puts_newer_at book caller page rev orig cur least counter (e ∷ entries) within (inr has) =
-    let row : KeptPage = put_over orig (page_put book e.page (counter + 1) caller (page_of e.raw) (judged (page_at e.page (map page_state orig)))) in
-    puts_newer_at book caller page rev orig (put_row page_name row cur) least (counter + 1) entries (omega arith) has
+pub puts_newer_at : (book : Book) (langs : List (List ℕ)) (caller page : List ℕ) (rev : ℕ) (orig cur : List KeptPage) (least counter : ℕ) (entries : List Entry) → least ≤ counter → HasEntry page rev entries
+    → least < rev_at langs page (put_rows page_name (map (put_over orig) (puts book langs caller (state_pages langs orig) counter entries)) cur)
+puts_newer_at book langs caller page rev orig cur least counter [] within has = absurd has
+puts_newer_at book langs caller page rev orig cur least counter (e ∷ entries) within (inl is) =
+    let row : KeptPage = put_over orig (page_put book e.page (counter + 1) caller (with_langs (page_of e.raw) langs) (judged (page_at e.page (state_pages langs orig)))) in
+    puts_newer book langs caller page orig (put_row page_name row cur) least (counter + 1) entries (omega arith)
+    (subst (λ n. least < rev_at langs n (put_row page_name row cur)) is.0 (put_newer langs least row cur (omega arith)))
+puts_newer_at book langs caller page rev orig cur least counter (e ∷ entries) within (inr has) =
+    let row : KeptPage = put_over orig (page_put book e.page (counter + 1) caller (with_langs (page_of e.raw) langs) (judged (page_at e.page (state_pages langs orig)))) in
+    puts_newer_at book langs caller page rev orig (put_row page_name row cur) least (counter + 1) entries (omega arith) has
 
 module _ (book : Book) (t : Tables) (sound : IsSound book t) (caller page : List ℕ) (rev : ℕ) where
   abbrev Newer : List ℕ → Option Change → Type 0
   Newer site change = counter_of (site_at site (state_of t)) < revision_of page (site_at site (state_of (made change t)))
 
   newer_pages : (site : List ℕ) (k : KeptSite) (counter : ℕ) (puts : List PagePut) → kept_site site t ≡ Some k
-      → k.site.counter < rev_at page (put_rows page_name (map (put_over k.pages) puts) k.pages) → Newer site (Some (PutPages site counter puts))
+      → k.site.counter < rev_at k.site.languages page (put_rows page_name (map (put_over k.pages) puts) k.pages) → Newer site (Some (PutPages site counter puts))
   newer_pages site k counter puts is newer =
       let old : site_at site (state_of t) ≡ Some (site_state k) = site_seen site t ∙ ap (option_map site_state) is in
       let new : site_at site (state_of (changed (PutPages site counter puts) t)) ≡ Some (site_state (with_pages counter puts k)) =
-      site_seen site (changed (PutPages site counter puts) t) ∙ ap (option_map site_state) (at_with_row site_name site (with_pages counter puts) (λ _ _. refl) t ∙ ap (option_map (with_pages counter puts)) is) in
+      site_seen site (changed (PutPages site counter puts) t) ∙ ap (option_map site_state) (at_with_row site_name site (with_pages counter puts) (λ _ _. refl) t.sites ∙ ap (option_map (with_pages counter puts)) is) in
       subst (λ o. counter_of o < revision_of page (site_at site (state_of (changed (PutPages site counter puts) t)))) (sym old)
       (subst (λ o. k.site.counter < revision_of page o) (sym new) newer)
 
@@ -303,26 +323,27 @@ module _ (book : Book) (t : Tables) (sound : IsSound book t) (caller page : List
       → Newer site (Some (PutPages site (k.site.counter + 1) (put ∷ [])))
   newer_put site k put is named next =
       newer_pages site k (k.site.counter + 1) (put ∷ []) is
-      (subst (λ n. k.site.counter < rev_at n (put_row page_name (put_over k.pages put) k.pages)) named (put_newer k.site.counter (put_over k.pages put) k.pages (omega arith)))
+      (subst (λ n. k.site.counter < rev_at k.site.languages n (put_row page_name (put_over k.pages put) k.pages)) named (put_newer k.site.languages k.site.counter (put_over k.pages put) k.pages (omega arith)))
 
   newer_by_put : (c : Command) → Puts page rev c → Brings (Newer (site_of c)) (decision book caller c (site_at (site_of c) (state_of t)))
   newer_by_put (command.PutSite site) puts = absurd puts
   newer_by_put (command.PutMember site user held) puts = absurd puts
+  newer_by_put (command.PutLanguages site langs) puts = absurd puts
   newer_by_put (command.PutPage site p sent raw) puts =
       entering_kept (Newer site) t needed.Editor caller site _ (λ k is _.
-      put_page_brings (Newer site) book site caller p sent raw k.site (revision_in (page_at p (map page_state k.pages))) (judged (page_at p (map page_state k.pages))) (length (map page_state k.pages)) (λ _ _ _ _.
-      newer_put site k (page_put book p (k.site.counter + 1) caller (page_of raw) (judged (page_at p (map page_state k.pages)))) is puts.0 refl))
+      put_page_brings (Newer site) book site caller p sent raw k.site (revision_in (page_at p (state_pages k.site.languages k.pages))) (judged (page_at p (state_pages k.site.languages k.pages))) (length (state_pages k.site.languages k.pages)) (λ _ _ _ _.
+      newer_put site k (page_put book p (k.site.counter + 1) caller (with_langs (page_of raw) k.site.languages) (judged (page_at p (state_pages k.site.languages k.pages)))) is puts.0 refl))
   newer_by_put (command.DropPage site p sent) puts = absurd puts
   newer_by_put (command.Import site entries) has =
       entering_kept (Newer site) t needed.Editor caller site _ (λ k is _.
       import_brings (Newer site) book site caller entries (site_state k) (λ _ _ _ _.
-      newer_pages site k (k.site.counter + length entries) (puts book caller (map page_state k.pages) k.site.counter entries) is
-      (puts_newer_at book caller page rev k.pages k.pages k.site.counter k.site.counter entries (omega arith) has)))
+      newer_pages site k (k.site.counter + length entries) (puts book k.site.languages caller (state_pages k.site.languages k.pages) k.site.counter entries) is
+      (puts_newer_at book k.site.languages caller page rev k.pages k.pages k.site.counter k.site.counter entries (omega arith) has)))
   newer_by_put (command.EditPage site p sent edits) puts =
       entering_kept (Newer site) t needed.Editor caller site _ (λ k is _.
       on_page_kept (Newer site) t p k (edit_page book site caller p sent edits k.site) (λ q _.
-      edit_page_brings (Newer site) book site caller p sent edits k.site (page_state q) (λ _ _ new _.
-      newer_put site k (page_put book p (k.site.counter + 1) caller (with_trees q.page.tree new) q.judgements) is puts.0 refl)))
+      edit_page_brings (Newer site) book site caller p sent edits k.site (state_page k.site.languages q) (λ _ _ new _.
+      newer_put site k (page_put book p (k.site.counter + 1) caller (with_langs (with_trees q.page.tree new) k.site.languages) q.judgements) is puts.0 refl)))
   newer_by_put (command.Judge site p rule node verdict seen note) puts = absurd puts
   newer_by_put (command.GetPage site p) puts = absurd puts
   newer_by_put (command.GetOutcomes site p) puts = absurd puts
@@ -347,13 +368,14 @@ module _ (book : Book) (t : Tables) (sound : IsSound book t) (caller page : List
       drop_page_brings (Renewed site) site p sent q.page (λ _.
       let t' = changed (DropPage site p) t in
       let new : site_at site (state_of t') ≡ Some (site_state (without_page p k)) =
-      site_seen site t' ∙ ap (option_map site_state) (at_with_row site_name site (without_page p) (λ _ _. refl) t ∙ ap (option_map (without_page p)) is) in
-      let gone : rev_at p (take_row page_name p k.pages) ≡ 0 = gone_rev p (take_row page_name p k.pages) (at_take page_name p k.pages (kept_fits book t sound site k is).in_order) in
-      inl (ap (revision_of page) new ∙ ap (λ n. rev_at n (take_row page_name p k.pages)) (sym same) ∙ gone))))
+      site_seen site t' ∙ ap (option_map site_state) (at_with_row site_name site (without_page p) (λ _ _. refl) t.sites ∙ ap (option_map (without_page p)) is) in
+      let gone : rev_at k.site.languages p (take_row page_name p k.pages) ≡ 0 = gone_rev k.site.languages p (take_row page_name p k.pages) (at_take page_name p k.pages (kept_fits book t sound site k is).in_order) in
+      inl (ap (revision_of page) new ∙ ap (λ n. rev_at k.site.languages n (take_row page_name p k.pages)) (sym same) ∙ gone))))
 
   renewed_by : (c : Command) → Carries page rev c → Brings (Renewed (site_of c)) (decision book caller c (site_at (site_of c) (state_of t)))
   renewed_by (command.PutSite site) carries = absurd carries
   renewed_by (command.PutMember site user held) carries = absurd carries
+  renewed_by (command.PutLanguages site langs) carries = absurd carries
   renewed_by (command.PutPage site p sent raw) carries = put_renewed (command.PutPage site p sent raw) carries
   renewed_by (command.DropPage site p sent) carries = drop_renewed site p sent carries.0
   renewed_by (command.Import site entries) carries = put_renewed (command.Import site entries) carries

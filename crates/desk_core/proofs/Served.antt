@@ -1,10 +1,12 @@
 -- A request that was decided, and whose change was made, is served.
-use Rattle.std.proofs.Common.{◌≡◌, ℕ, ◌≤◌, Option, Some, None, Ok, Err, ◌⊎◌, inl, inr, refl, sym, ap, subst, ◌∙◌, arith}
+use Rattle.std.proofs.Common.{◌≡◌, ℕ, ◌≤◌, Option, Some, None, IfSome, Ok, Err, ◌⊎◌, inl, inr, refl, sym, ap, subst, ◌∙◌, arith}
 use Rattle.counts.specs.Counts.{Rose}
 use Rattle.counts.proofs.CountLaws.{rose_after}
 use Rattle.rule_core.specs.Books.{Book}
 use Rattle.keep_core.specs.declared.change.Change.{Change}
-use Rattle.keep_core.specs.Tables.{Tables, kept_site}
+use Rattle.keep_core.specs.declared.change.Change.TheVariants.{PutSite, PutPages, DropPage, AddJudgements, PutLanguages, Refresh, SetEdition}
+use Rattle.keep_core.specs.declared.tables.Tables.{Tables}
+use Rattle.keep_core.specs.Tables.{kept_site}
 use Rattle.keep_core.specs.Keeping.{Stays}
 use Rattle.desk_core.specs.declared.decided.Decided.{Decided}
 use Rattle.desk_core.specs.declared.refusal.Refusal.{Refusal}
@@ -18,7 +20,7 @@ use Rattle.desk_core.specs.Fitting.{FitsRequest}
 use Rattle.desk_core.specs.Soundness.{IsSound, made}
 use Rattle.desk_core.specs.Runs.{Fails, Answers}
 use Rattle.desk_core.specs.Told.{Told}
-use Rattle.desk_core.specs.Serving.{Stands, IsAccepted, RestsOnKept, IsFirm, IsDone, Decides, Commits, TurnsBy, OthersStay, Serves}
+use Rattle.desk_core.specs.Serving.{Stands, IsAccepted, KeepsEdition, RestsOnKept, IsFirm, IsDone, Decides, Commits, TurnsBy, OthersStay, Serves}
 use Rattle.desk_core.proofs.Views.{changes_seen}
 use Rattle.desk_core.proofs.Keeping.{keeps_sound}
 use Rattle.desk_core.proofs.Deciding.{brought}
@@ -27,6 +29,17 @@ use Rattle.desk_core.proofs.Sites.{Names, decided_names, rows_stay}
 turned : (change : Option Change) (mid new : Option Tables) → TurnsBy change mid new → (t : Tables) → new ≡ Some t → (s : Tables) × (mid ≡ Some s) × (t ≡ made change s)
 turned None mid new turns t is = (t, turns t is, refl)
 turned (Some change) mid new turns t is = turns t is
+
+-- a change that leaves the edition does so
+made_edition : (change : Option Change) (t : Tables) → IfSome change KeepsEdition → (made change t).edition ≡ t.edition
+made_edition None t keeps = refl
+made_edition (Some (PutSite site)) t keeps = refl
+made_edition (Some (PutPages site counter pages)) t keeps = refl
+made_edition (Some (DropPage site page)) t keeps = refl
+made_edition (Some (AddJudgements site page js outcomes)) t keeps = refl
+made_edition (Some (PutLanguages site langs new)) t keeps = refl
+made_edition (Some (Refresh site new)) t keeps = refl
+made_edition (Some (SetEdition number)) t keeps = absurd keeps
 
 -- how a decided request ended: with its reply, or by failing
 abbrev Ends : Decided → Told → Told → Reply → Type 0
@@ -94,6 +107,7 @@ module _ (book : Book) (request : Request) where
           λ sound. (sound, refused_by (state_of t) r old.faults new.faults (λ e. decides.reads.failed (ap Err e)) (decides.agrees t is sound)),
         );
     others = λ s t was is sound n other. ap (kept_site n) (sym (same_tables s t old.tables was (decides.reads.stays t is)));
+    edition = λ s t was is. ap (λ (m : Tables). m.edition) (sym (same_tables s t old.tables was (decides.reads.stays t is)));
     refused = λ _ _. decides.reads.stays;
     changed = λ s t was is. inl (sym (same_tables s t old.tables was (decides.reads.stays t is)));
     never_falls = decides.reads.never_falls;
@@ -172,11 +186,20 @@ module _ (book : Book) (request : Request) where
             became = from.2 ∙ ap (λ (m : Tables). made d.change m) (sym same);
           }))
 
+  edition_by : (old mid new : Told) (d : Decided) (reply : Reply) → Stays old.tables mid.tables → IfSome d.change KeepsEdition → Ends d mid new reply
+      → (s t : Tables) → old.tables ≡ Some s → new.tables ≡ Some t → t.edition ≡ s.edition
+  edition_by old mid new d reply stays keeps (inr is) s t was told = ap (λ (m : Tables). m.edition) (sym (same_tables s t old.tables was (stays t (is.1 t told))))
+  edition_by old mid new d reply stays keeps (inl is) s t was told =
+      let from = turned d.change mid.tables new.tables is.1 t told in
+      let same : s ≡ from.0 = same_tables s from.0 old.tables was (stays from.0 from.1) in
+      ap (λ (m : Tables). m.edition) from.2 ∙ made_edition d.change from.0 keeps ∙ ap (λ (m : Tables). m.edition) (sym same)
+
   pub serves_decided : (old mid new : Told) (d : Decided) (reply : Reply) → FitsRequest book request → Decides book request old mid (Ok d) → Commits d mid new reply
       → Serves book request old new reply
   serves_decided old mid new d reply fits decides commits = record {
     told = served_by old mid new d reply fits decides commits.made;
     others = others_by old mid new d reply decides commits.made;
+    edition = edition_by old mid new d reply decides.reads.stays decides.edition commits.made;
     refused = λ r is. stays_by old mid new d reply r is decides.accepted decides.reads.stays commits.made;
     changed = changed_by old mid new d reply decides.reads.stays decides.firm commits.made;
     never_falls = omega (arith, decides.reads.never_falls, commits.never_falls);

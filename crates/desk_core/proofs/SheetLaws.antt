@@ -7,7 +7,8 @@ use Rattle.rule_core.specs.Books.{Book}
 use Rattle.keep_core.specs.declared.site.Site.{Site}
 use Rattle.keep_core.specs.declared.tables.KeptPage.{KeptPage}
 use Rattle.keep_core.specs.declared.tables.KeptSite.{KeptSite}
-use Rattle.keep_core.specs.Tables.{Tables, site_name, kept_site, pages_in, pages_of}
+use Rattle.keep_core.specs.declared.tables.Tables.{Tables}
+use Rattle.keep_core.specs.Tables.{site_name, kept_site, pages_in, pages_of, languages_in, languages_of}
 use Rattle.keep_core.specs.Fits.{Fits, IsThere}
 use Rattle.desk_core.specs.declared.decided.Decided.{Decided}
 use Rattle.desk_core.specs.declared.refusal.Needed.TheVariants.{Reader}
@@ -16,30 +17,31 @@ use Rattle.desk_core.specs.declared.reply.Reply.{Reply}
 use Rattle.desk_core.specs.declared.reply.Sheet.{Sheet}
 use Rattle.desk_core.specs.declared.sheets.SheetForm.{SheetForm}
 use Rattle.desk_core.specs.declared.sheets.SheetForm.TheVariants as form
-use Rattle.desk_core.specs.State.{page_state, state_of, site_at}
+use Rattle.desk_core.specs.State.{kept_listed, state_of, site_at}
 use Rattle.desk_core.specs.Reading.{answered, site_page, sheet}
 use Rattle.desk_core.specs.Steps.{read_site, decided}
 use Rattle.desk_core.specs.Soundness.{IsSound, IsSoundSite, IsSoundPage}
 use Rattle.desk_core.specs.Told.{Told}
-use Rattle.desk_core.specs.Serving.{Stands, IsIn, IsAccepted, Decides}
+use Rattle.desk_core.specs.Serving.{Stands, IsIn, IsAccepted, KeepsEdition, Decides}
 use Rattle.kept_pages.specs.KeptPages.{shown, site_pages}
 use Rattle.kept_pages.proofs.Found.{all_found}
 use Rattle.desk_core.specs.Sheets.{sheet_asked, sheet_reply, ReadsSheet}
-use Rattle.desk_core.proofs.Ways.{entered, pages_are}
+use Rattle.desk_core.proofs.Views.{state_pages}
+use Rattle.desk_core.proofs.Ways.{entered}
 use Rattle.desk_core.proofs.Onward.{only_read, read_as}
 use Rattle.desk_core.proofs.ReadLaws.{shown_is}
 
 -- ---- what is shown of a page is true
 
-true_all : (book : Book) (rows : List KeptPage) → All (IsSoundPage book) rows → map (site_page book) (map page_state rows) ≡ map shown rows
-true_all book [] sound = refl
-true_all book (p ∷ rows) sound =
-    let first : IsSoundPage book p = All-head (IsSoundPage book) p rows sound in
-    ap (λ s. s ∷ map (site_page book) (map page_state rows)) (shown_is book p (shown p) refl first.told)
-    ∙ ap (λ rest. shown p ∷ rest) (true_all book rows (All-tail (IsSoundPage book) p rows sound))
+true_all : (book : Book) (langs : List (List ℕ)) (rows : List KeptPage) → All (IsSoundPage book langs) rows → map (site_page book) (state_pages langs rows) ≡ map shown rows
+true_all book langs [] sound = refl
+true_all book langs (p ∷ rows) sound =
+    let first : IsSoundPage book langs p = All-head (IsSoundPage book langs) p rows sound in
+    ap (λ s. s ∷ map (site_page book) (state_pages langs rows)) (shown_is book (kept_listed langs p) (shown p) refl first.told)
+    ∙ ap (λ rest. shown p ∷ rest) (true_all book langs rows (All-tail (IsSoundPage book langs) p rows sound))
 
-sound_in : (book : Book) (o : Option KeptSite) → IfSome o (IsSoundSite book) → All (IsSoundPage book) (pages_in o)
-sound_in book None sound = All-nil (IsSoundPage book)
+sound_in : (book : Book) (o : Option KeptSite) → IfSome o (IsSoundSite book) → All (IsSoundPage book (languages_in o)) (pages_in o)
+sound_in book None sound = All-nil (IsSoundPage book [])
 sound_in book (Some s) sound = sound.pages
 
 pub sheet_shows : (book : Book) (caller site : List ℕ) (t : Tables) (s : Site) (read : Sheet) → IsSound book t → IsIn Reader caller site s t
@@ -47,10 +49,10 @@ pub sheet_shows : (book : Book) (caller site : List ℕ) (t : Tables) (s : Site)
     → (reply : Sheet → Reply) → read_site caller (site_at site (state_of t)) (λ s. reply (sheet book site s)) ≡ answered (reply read)
 sheet_shows book caller site t s read sound is pages_read named reply =
     entered Reader caller site t s (λ k. answered (reply (sheet book site k))) (answered (reply read)) is (λ k kept same.
-    let there : All (IsSoundPage book) (pages_of site t) = sound_in book (kept_site site t) (all_at site_name (IsSoundSite book) site t sound.sites) in
-    let seen : map (site_page book) (map page_state k.pages) ≡ read.pages =
-    ap (λ pages. map (site_page book) (map page_state pages)) (sym (pages_are site t k kept))
-    ∙ (true_all book (pages_of site t) there ∙ (sym (all_found site t sound.fit) ∙ sym pages_read))
+    let there : All (IsSoundPage book (languages_of site t)) (pages_of site t) = sound_in book (kept_site site t) (all_at site_name (IsSoundSite book) site t.sites sound.sites) in
+    let seen : map (site_page book) (state_pages k.site.languages k.pages) ≡ read.pages =
+    sym (ap (λ (o : Option KeptSite). map (site_page book) (state_pages (languages_in o) (pages_in o))) kept)
+    ∙ (true_all book (languages_of site t) (pages_of site t) there ∙ (sym (all_found site t sound.fit) ∙ sym pages_read))
     in
     ap (λ pages. answered (reply (let made : Sheet = record { site = site; pages = pages } in made))) seen
     ∙ ap (λ name. answered (reply (let made : Sheet = record { site = name; pages = read.pages } in made))) (sym named))
@@ -78,6 +80,7 @@ module _ (book : Book) (caller site : List ℕ) (asked : SheetForm) (old new : T
     fits = let P : Decided → Type 0 = λ e. IfSome e.change Fits in subst P (sym same) tt;
     there = let P : Decided → Type 0 = λ e. IfSome e.change (λ change. IfSome new.tables (IsThere change)) in subst P (sym same) tt;
     accepted = let P : Decided → Type 0 = λ e. IsAccepted e.reply in subst P (sym same) (sheet_accepted asked read);
+    edition = let P : Decided → Type 0 = λ e. IfSome e.change KeepsEdition in subst P (sym same) tt;
     firm = inl (ap (λ (e : Decided). e.change) same);
   }
 
@@ -89,5 +92,6 @@ module _ (book : Book) (caller site : List ℕ) (asked : SheetForm) (old new : T
     fits = tt;
     there = tt;
     accepted = tt;
+    edition = tt;
     firm = tt;
   }

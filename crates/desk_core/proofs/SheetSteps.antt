@@ -2,7 +2,7 @@
 use Rattle.std.proofs.Common.{◌≡◌, ℕ, ◌≤◌, List, Some, Ok}
 use Rattle.rule_core.specs.Books.{Book}
 use Rattle.keep_core.specs.declared.site.Site.{Site}
-use Rattle.keep_core.specs.Tables.{Tables}
+use Rattle.keep_core.specs.declared.tables.Tables.{Tables}
 use Rattle.keep_core.specs.Keeping.{Stays}
 use Rattle.kept_pages.specs.KeptPages.{site_pages}
 use Rattle.desk_core.specs.declared.refusal.Needed.TheVariants.{Reader}

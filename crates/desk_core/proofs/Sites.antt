@@ -4,8 +4,8 @@ use Rattle.rule_core.specs.Books.{Book}
 use Rattle.named_rows.specs.ByName.{take_row, with_row}
 use Rattle.named_rows.proofs.Lookups.{at_put_other, at_with_row_other}
 use Rattle.keep_core.specs.declared.change.Change.{Change}
-use Rattle.keep_core.specs.declared.change.Change.TheVariants.{PutSite, PutPages, DropPage, AddJudgement}
-use Rattle.keep_core.specs.Tables.{Tables}
+use Rattle.keep_core.specs.declared.change.Change.TheVariants.{PutSite, PutPages, DropPage, AddJudgements, PutLanguages, Refresh, SetEdition}
+use Rattle.keep_core.specs.declared.tables.Tables.{Tables}
 use Rattle.keep_core.specs.Changes.{site_changed}
 use Rattle.keep_core.proofs.Making as rows
 use Rattle.desk_core.specs.declared.command.Command.{Command}
@@ -17,26 +17,29 @@ use Rattle.desk_core.specs.State.{PageState, SiteState, State, page_name, site_n
 use Rattle.desk_core.specs.Pages.{revision_in, judged, edit_page, drop_page}
 use Rattle.desk_core.specs.Judging.{judge}
 use Rattle.desk_core.specs.Reading.{answered}
-use Rattle.desk_core.specs.Changes.{with_counter, with_pages, in_pages, with_judgement, changed, after}
+use Rattle.desk_core.specs.Changes.{with_counter, with_pages, in_pages, with_judgements, with_languages, changed, after}
 use Rattle.desk_core.specs.Soundness.{made}
 use Rattle.desk_core.specs.Serving.{OthersStay}
 use Rattle.desk_core.specs.Steps.{Request, site_of, read_page, read_site, decision, decided, stepped, step}
-use Rattle.desk_core.proofs.Deciding.{Brings, entering_brings, on_page_brings, put_site_brings, put_member_brings, put_page_brings, edit_page_brings, drop_page_brings, import_brings, judge_brings}
+use Rattle.desk_core.proofs.Deciding.{Brings, entering_brings, on_page_brings, put_site_brings, put_member_brings, put_languages_brings, put_page_brings, edit_page_brings, drop_page_brings, import_brings, judge_brings}
 
 -- a change leaves the sites that it doesn't name
-others_stay : (n : List ℕ) (c : Change) (state : State) → (n ≡ site_changed c → ⊥) → site_at n (changed c state) ≡ site_at n state
-others_stay n (PutSite site) state other = at_put_other site_name n _ state other
+others_stay : (n : List ℕ) (c : Change) (state : State) → (Some n ≡ site_changed c → ⊥) → site_at n (changed c state) ≡ site_at n state
+others_stay n (PutSite site) state other = at_put_other site_name n _ state (λ same. other (ap Some same))
 others_stay n (PutPages site counter puts) state other =
-    at_with_row_other site_name site (λ s. record { site = with_counter counter s.site; pages = with_pages puts s.pages }) (λ _ _. refl) n state other
-others_stay n (DropPage site page) state other = at_with_row_other site_name site (in_pages (take_row page_name page)) (λ _ _. refl) n state other
-others_stay n (AddJudgement site page j outcomes) state other =
-    at_with_row_other site_name site (in_pages (with_row page_name page (with_judgement j))) (λ _ _. refl) n state other
+    at_with_row_other site_name site (λ s. record { site = with_counter counter s.site; pages = with_pages s.site.languages puts s.pages }) (λ _ _. refl) n state (λ same. other (ap Some same))
+others_stay n (DropPage site page) state other = at_with_row_other site_name site (in_pages (take_row page_name page)) (λ _ _. refl) n state (λ same. other (ap Some same))
+others_stay n (AddJudgements site page js outcomes) state other =
+    at_with_row_other site_name site (in_pages (with_row page_name page (with_judgements js))) (λ _ _. refl) n state (λ same. other (ap Some same))
+others_stay n (PutLanguages site langs new) state other = at_with_row_other site_name site (with_languages langs) (λ _ _. refl) n state (λ same. other (ap Some same))
+others_stay n (Refresh site new) state other = refl
+others_stay n (SetEdition number) state other = refl
 
 -- ---- what is decided names the site of the request
 
 abbrev pub Names : List ℕ → Option Change → Type 0
 Names site None = Unit {0}
-Names site (Some c) = site_changed c ≡ site
+Names site (Some c) = site_changed c ≡ Some site
 
 module _ (caller site : List ℕ) (kept : Option SiteState) where
   page_names : (page : List ℕ) (reply : PageState → Reply) → Brings (Names site) (read_page caller page kept reply)
@@ -50,6 +53,8 @@ names_by : (book : Book) (caller : List ℕ) (c : Command) (kept : Option SiteSt
 names_by book caller (command.PutSite site) kept = put_site_brings (Names site) site caller kept (λ _. refl)
 names_by book caller (command.PutMember site user held) kept =
     entering_brings (Names site) needed.Owner caller kept _ (λ s _ _. put_member_brings (Names site) site caller user held s.site (λ _. refl))
+names_by book caller (command.PutLanguages site langs) kept =
+    entering_brings (Names site) needed.Owner caller kept _ (λ s _ _. put_languages_brings (Names site) book site langs s refl)
 names_by book caller (command.PutPage site page rev raw) kept =
     entering_brings (Names site) needed.Editor caller kept _ (λ s _ _.
     put_page_brings (Names site) book site caller page rev raw s.site (revision_in (page_at page s.pages)) (judged (page_at page s.pages)) (length s.pages) (λ _ _ _ _. refl))
@@ -81,11 +86,11 @@ decided_names book q state = names_by book q.caller q.command (site_at (site_of 
 -- so the rows of the others stay
 pub rows_stay : (site : List ℕ) (change : Option Change) (t : Tables) → Names site change → OthersStay site t (made change t)
 rows_stay site None t names n other = refl
-rows_stay site (Some c) t names n other = rows.others_stay c t n (λ same. other (same ∙ names))
+rows_stay site (Some c) t names n other = rows.others_stay c t n (λ same. let one : Some n ≡ Some site = same ∙ names in other (cc))
 
 stays_after : (n site : List ℕ) (change : Option Change) (state : State) → Names site change → (n ≡ site → ⊥) → site_at n (after change state) ≡ site_at n state
 stays_after n site None state names other = refl
-stays_after n site (Some c) state names other = others_stay n c state (λ same. other (same ∙ names))
+stays_after n site (Some c) state names other = others_stay n c state (λ same. let one : Some n ≡ Some site = same ∙ names in other (cc))
 
 stays_stepped : (n site : List ℕ) (decision : Decision) (state : State) → Brings (Names site) decision → (n ≡ site → ⊥) → site_at n (stepped state decision).0 ≡ site_at n state
 stays_stepped n site (Ok d) state names other = stays_after n site d.change state names other

@@ -2,7 +2,7 @@
 use Rattle.std.specs.Prelude.{◌≡◌, ℕ, ◌+◌, ◌≤◌, List, length, sum_by, drop, Option, Some, None, Result, Ok, Err}
 use Rattle.std.specs.Option.{option_map_or}
 use Rattle.snap_tree.specs.declared.row.Raw.{Raw}
-use Rattle.snap_tree.specs.Trees.{Trees, Document, with_trees}
+use Rattle.snap_tree.specs.Trees.{Trees, Document, with_trees, with_langs}
 use Rattle.snap_tree.specs.Grown.{page_of}
 use Rattle.snap_tree.specs.Faults.{tree_fault}
 use Rattle.snap_edit.specs.declared.edit.Edit.{Edit}
@@ -11,7 +11,7 @@ use Rattle.snap_edit.specs.Edits.{edited_all}
 use Rattle.rule_core.specs.Books.{Book}
 use Rattle.rule_core.specs.Reach.{affected}
 use Rattle.judge_core.specs.Outcomes.{judgings}
-use Rattle.keep_core.specs.Tables.{Tables}
+use Rattle.keep_core.specs.declared.tables.Tables.{Tables}
 use Rattle.desk_core.specs.declared.command.Entry.{Entry}
 use Rattle.desk_core.specs.declared.command.Command.{Command}
 use Rattle.desk_core.specs.declared.command.Command.TheVariants as command
@@ -44,6 +44,14 @@ edited_judgings book page (Err fault) = 0
 abbrev pub edit_judgings : Book → List Edit → PageState → ℕ
 edit_judgings book edits p = edited_judgings book p.page.tree (edited_all p.page.tree.trees edits)
 
+-- a list of languages costs the pairs that each page has between the old list and the new one, and never more than all pages
+abbrev pub relisted_pairs : Book → List (List ℕ) → Option SiteState → ℕ
+relisted_pairs book langs kept =
+    option_map_or (λ s. sum_by (λ p. length (affected book p.page.tree (with_langs p.page.tree langs))) s.pages) kept 0
+
+abbrev pub relisted_judgings : Book → Option SiteState → ℕ
+relisted_judgings book kept = option_map_or (λ s. sum_by (λ p. judgings book p.page.tree) s.pages) kept 0
+
 abbrev pub at_page : List ℕ → Option SiteState → (PageState → ℕ) → ℕ
 at_page page None f = 0
 at_page page (Some s) f = option_map_or f (page_at page s.pages) 0
@@ -53,6 +61,7 @@ abbrev pub command_judgings : Book → Command → Option SiteState → ℕ
 command_judgings book (command.PutPage site page rev raw) kept = put_judgings book raw
 command_judgings book (command.Import site entries) kept = import_judgings book entries
 command_judgings book (command.EditPage site page rev edits) kept = at_page page kept (edit_pairs book edits)
+command_judgings book (command.PutLanguages site langs) kept = relisted_pairs book langs kept
 command_judgings book other kept = 0
 
 -- and in any site
@@ -60,22 +69,27 @@ abbrev pub most_judgings : Book → Command → Option SiteState → ℕ
 most_judgings book (command.PutPage site page rev raw) kept = put_judgings book raw
 most_judgings book (command.Import site entries) kept = import_judgings book entries
 most_judgings book (command.EditPage site page rev edits) kept = at_page page kept (edit_judgings book edits)
+most_judgings book (command.PutLanguages site langs) kept = relisted_judgings book kept
 most_judgings book other kept = 0
 
-abbrev pub IsImport : Command → Type 0
-IsImport (command.Import site entries) = Unit {0}
-IsImport other = ⊥
+-- many pages are audited at once
+abbrev pub IsOfMany : Command → Type 0
+IsOfMany (command.Import site entries) = Unit {0}
+IsOfMany (command.PutLanguages site langs) = Unit {0}
+IsOfMany other = ⊥
 
-abbrev pub IsEdit : Command → Type 0
-IsEdit (command.EditPage site page rev edits) = Unit {0}
-IsEdit other = ⊥
+-- kept pages are audited anew
+abbrev pub IsOfKept : Command → Type 0
+IsOfKept (command.EditPage site page rev edits) = Unit {0}
+IsOfKept (command.PutLanguages site langs) = Unit {0}
+IsOfKept other = ⊥
 
 -- a request judges no more than its command may: in the site as it was kept, where the tables are told at its end, sound or not; and
 -- wherever that doesn't depend on what is kept
 pub record Costs (book : Book) (command : Command) (old new : Option Tables) (from to : ℕ) : Type 0 where
   pub told : (s t : Tables) → old ≡ Some s → new ≡ Some t → IsSound book s → to ≤ from + command_judgings book command (site_at (site_of command) (state_of s))
   pub most : (s t : Tables) → old ≡ Some s → new ≡ Some t → to ≤ from + most_judgings book command (site_at (site_of command) (state_of s))
-  pub untold : (IsEdit command → ⊥) → to ≤ from + command_judgings book command None
+  pub untold : (IsOfKept command → ⊥) → to ≤ from + command_judgings book command None
 
 -- books judge so often at the most
 abbrev pub JudgeAtMost : {B : Type 0} → (B → ℕ) → ℕ → List B → List B → Type 0
@@ -92,6 +106,6 @@ pub record FirstJudgesLess {B : Type 0} (calls : B → ℕ) (Holds : Type 0) (fe
   pub at_most : sum_by calls new ≤ sum_by calls old + most
   pub others : drop 1 new ≡ drop 1 old
 
--- every command but an import uses the first book alone: the others stay as they were
+-- every command but one of many pages uses the first book alone: the others stay as they were
 abbrev pub UsesFirst : {B : Type 0} → Command → List B → List B → Type 0
-UsesFirst command old new = (IsImport command → ⊥) → drop 1 new ≡ drop 1 old
+UsesFirst command old new = (IsOfMany command → ⊥) → drop 1 new ≡ drop 1 old

@@ -1,6 +1,7 @@
 -- Requests that fit: each part is as a route of the desk lets it through.
 use Rattle.std.specs.Prelude.{◌≡◌, ℕ, ◌≤◌, List, length, IsTrue, true}
 use Rattle.std.specs.List.{All, AllPairs}
+use Rattle.snap_tree.specs.Langs.{AreLangs}
 use Rattle.rule_core.specs.declared.info.RuleNo.{RuleNo}
 use Rattle.rule_core.specs.Infos.{has_atomic}
 use Rattle.rule_core.specs.Books.{Book}
@@ -48,6 +49,7 @@ pub record FitsPut (page : List ℕ) (rev : ℕ) (address : List ℕ) : Type 0 w
 abbrev pub FitsParts : Book → Command → Type 0
 FitsParts book (command.PutSite site) = Unit {0}
 FitsParts book (command.PutMember site user held) = IsTrue (is_name user)
+FitsParts book (command.PutLanguages site langs) = AreLangs langs
 FitsParts book (command.PutPage site page rev raw) = FitsPut page rev raw.address
 FitsParts book (command.GetPage site page) = IsTrue (is_name page)
 FitsParts book (command.DropPage site page rev) = FitsRev page rev

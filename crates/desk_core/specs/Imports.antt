@@ -1,6 +1,7 @@
 -- Imports: what is decided on many pages at once.
 use Rattle.std.specs.Prelude.{ℕ, ◌+◌, List, [], ◌∷◌, length, map, ◌==◌, if◌then◌else◌, Option, Some, None, is_none, option_map, Ok, count_by}
 use Rattle.std.specs.Option.{option_or}
+use Rattle.snap_tree.specs.Trees.{with_langs}
 use Rattle.snap_tree.specs.Grown.{page_of}
 use Rattle.snap_tree.specs.Faults.{tree_fault}
 use Rattle.rule_core.specs.Books.{Book}
@@ -32,17 +33,17 @@ abbrev pub first_fault : List Entry → Option Refusal
 first_fault [] = None
 first_fault (e ∷ entries) = option_or (option_map (λ fault. refusal.TreeFault fault (Some e.page)) (tree_fault e.raw.rows)) (first_fault entries)
 
--- the pages as they are put, one revision after another
-abbrev pub puts : Book → List ℕ → List PageState → ℕ → List Entry → List PagePut
-puts book caller pages counter [] = []
-puts book caller pages counter (e ∷ entries) =
-    page_put book e.page (counter + 1) caller (page_of e.raw) (judged (page_at e.page pages))
-    ∷ puts book caller pages (counter + 1) entries
+-- the pages as they are put into a site of these languages, one revision after another
+abbrev pub puts : Book → List (List ℕ) → List ℕ → List PageState → ℕ → List Entry → List PagePut
+puts book langs caller pages counter [] = []
+puts book langs caller pages counter (e ∷ entries) =
+    page_put book e.page (counter + 1) caller (with_langs (page_of e.raw) langs) (judged (page_at e.page pages))
+    ∷ puts book langs caller pages (counter + 1) entries
 
 -- pages are put in the order of the list, all or none
 abbrev pub import : Book → List ℕ → List ℕ → List Entry → SiteState → Decision
 import book site caller entries s =
-    let made = puts book caller s.pages s.site.counter entries
+    let made = puts book s.site.languages caller s.pages s.site.counter entries
     in
     unless (has_room_for (new_pages s.pages entries) (length s.pages)) (refusal.PageLimit limit.Pages) (
     unless (has_revisions s.site.counter (length entries)) (refusal.PageLimit limit.Revisions) (

@@ -1,8 +1,8 @@
 -- Commands and decisions by what the code has in hand: a page as it was named, a judgement as it was said, and what was found where
 -- they go.
-use Rattle.std.specs.Prelude.{ℕ, List}
+use Rattle.std.specs.Prelude.{ℕ, List, []}
 use Rattle.snap_tree.specs.declared.row.Raw.{Raw}
-use Rattle.snap_tree.specs.Trees.{Document}
+use Rattle.snap_tree.specs.Trees.{Document, with_langs}
 use Rattle.snap_edit.specs.declared.edit.Edit.{Edit}
 use Rattle.rule_core.specs.Books.{Book}
 use Rattle.judge_core.specs.declared.judgement.Judgement.{Judgement}
@@ -25,9 +25,9 @@ use Rattle.desk_core.specs.Placing.{import_placed}
 
 -- ---- a page
 
--- with its new revision and who sent it
+-- with its new revision and who sent it, as it is kept
 abbrev pub new_page : List ℕ → ℕ → List ℕ → Document → Page
-new_page page rev hand tree = record { head = record { page = page; rev = rev; hand = hand }; tree = tree }
+new_page page rev hand tree = record { head = record { page = page; rev = rev; hand = hand }; tree = with_langs tree [] }
 
 abbrev pub putting : SentPage → Raw → Command
 putting sent raw = command.PutPage sent.site sent.page sent.rev raw
@@ -49,7 +49,7 @@ edit_kept book caller sent edits site kept = edit_page book sent.site caller sen
 -- ---- pages of an import, where they arrived
 
 abbrev pub import_arrived : Book → List ℕ → List ℕ → Arrival → Decision
-import_arrived book site caller at = import_placed book site caller at.counter at.pages at.placed
+import_arrived book site caller at = import_placed book site at.languages caller at.counter at.pages at.placed
 
 -- ---- a judgement
 

@@ -16,7 +16,7 @@ use Rattle.judge_core.specs.Judgements.{is_on}
 use Rattle.judge_core.specs.Outcomes.{outcomes}
 use Rattle.judge_core.specs.RowLookups.{row_at}
 use Rattle.keep_core.specs.declared.change.Change.{Change}
-use Rattle.keep_core.specs.declared.change.Change.TheVariants.{PutSite, PutPages, DropPage, AddJudgement}
+use Rattle.keep_core.specs.declared.change.Change.TheVariants.{PutSite, PutPages, DropPage, AddJudgements, PutLanguages, Refresh, SetEdition}
 use Rattle.desk_core.specs.declared.refusal.Refusal.TheVariants as refusal
 use Rattle.desk_core.specs.declared.reply.Reply.TheVariants as reply
 use Rattle.desk_core.specs.Refusals.{Decision, unless, on}
@@ -33,7 +33,7 @@ added book site page j kept =
     in
     if is_latest j kept.judgements then Ok (record { change = None; reply = answer })
     else Ok (record {
-      change = Some (AddJudgement site page j (record { rows = outcomes book kept.page.tree (kept.judgements ++ j ∷ []) }));
+      change = Some (AddJudgements site page (j ∷ []) (record { rows = outcomes book kept.page.tree (kept.judgements ++ j ∷ []) }));
       reply = answer;
     })
 
@@ -51,9 +51,12 @@ judge book site caller page rule node verdict seen note kept =
     judged_row (outcomes book kept.page.tree kept.judgements) kept.page.head.hand caller rule node seen (λ row.
     added book site page (record { rule = rule; node = node; verdict = verdict; hand = caller; note = note; evidence = row.evidence }) kept)
 
--- a change adds a judgement to this page
+-- a change adds judgements to this page
 abbrev pub AddsTo : List ℕ → List ℕ → Change → Type 0
 AddsTo site page (PutSite s) = ⊥
 AddsTo site page (PutPages s counter pages) = ⊥
 AddsTo site page (DropPage s p) = ⊥
-AddsTo site page (AddJudgement s p judgement outcomes) = (s ≡ site) × (p ≡ page)
+AddsTo site page (AddJudgements s p js outcomes) = (s ≡ site) × (p ≡ page)
+AddsTo site page (PutLanguages s langs new) = ⊥
+AddsTo site page (Refresh s new) = ⊥
+AddsTo site page (SetEdition number) = ⊥

@@ -3,6 +3,7 @@ pub mod State
 pub mod Rights
 pub mod Summaries
 pub mod Members
+pub mod Languages
 pub mod Pages
 pub mod Imports
 pub mod Judging
@@ -12,6 +13,7 @@ pub mod Steps
 pub mod Fitting
 pub mod Soundness
 pub mod Costs
+pub mod Refreshing
 pub mod Runs
 pub mod Told
 pub mod Serving
@@ -19,5 +21,6 @@ pub mod Sheets
 pub mod Placing
 pub mod Building
 pub mod InHand
+pub mod Relisting
 pub mod Once
 pub mod Revisions

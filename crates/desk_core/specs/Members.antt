@@ -13,9 +13,9 @@ use Rattle.desk_core.specs.declared.reply.Reply.TheVariants as reply
 use Rattle.desk_core.specs.Refusals.{Decision, unless}
 use Rattle.desk_core.specs.State.{SiteState}
 
--- a site that is new: nothing was put into it, and who made it owns it
+-- a site that is new: nothing was put into it, who made it owns it, and it has no list of languages
 abbrev pub new_site : List ℕ → List ℕ → Site
-new_site name maker = record { name = name; counter = 0; members = record { user = maker; role = role.Owner } ∷ [] }
+new_site name maker = record { name = name; counter = 0; members = record { user = maker; role = role.Owner } ∷ []; languages = [] }
 
 abbrev pub user_of : Member → List ℕ
 user_of member = member.user
@@ -25,9 +25,9 @@ abbrev pub members_with : List ℕ → Option MemberRole → List Member → Lis
 members_with user None members = take_row user_of user members
 members_with user (Some held) members = put_row user_of (record { user = user; role = held }) members
 
--- a site of this name, with the counter of another
+-- a site of this name, with the counter and the languages of another
 abbrev pub site_with : List ℕ → Site → List Member → Site
-site_with name site members = record { name = name; counter = site.counter; members = members }
+site_with name site members = record { name = name; counter = site.counter; members = members; languages = site.languages }
 
 -- a site is made by any caller, unless it is kept
 abbrev pub put_site : List ℕ → List ℕ → Option SiteState → Decision

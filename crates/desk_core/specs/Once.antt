@@ -11,6 +11,7 @@ use Rattle.desk_core.specs.Refusals.{Decision}
 abbrev pub IsOnce : Command → Type 0
 IsOnce (command.PutSite site) = Unit {0}
 IsOnce (command.PutMember site user held) = ⊥
+IsOnce (command.PutLanguages site langs) = ⊥
 IsOnce (command.PutPage site page rev raw) = Unit {0}
 IsOnce (command.GetPage site page) = ⊥
 IsOnce (command.DropPage site page rev) = Unit {0}

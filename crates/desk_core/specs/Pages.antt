@@ -2,7 +2,7 @@
 use Rattle.std.specs.Prelude.{ℕ, ◌+◌, List, [], ◌∷◌, ◌==◌, Bool, nat_le, if◌then◌else◌, Option, Some, None, is_none, option_map, Result, Ok, Err}
 use Rattle.std.specs.Option.{option_map_or}
 use Rattle.snap_tree.specs.declared.row.Raw.{Raw}
-use Rattle.snap_tree.specs.Trees.{Trees, Document, with_trees}
+use Rattle.snap_tree.specs.Trees.{Trees, Document, with_trees, with_langs}
 use Rattle.snap_tree.specs.Grown.{page_of}
 use Rattle.snap_tree.specs.Faults.{tree_fault}
 use Rattle.snap_edit.specs.declared.edit.Edit.{Edit}
@@ -54,10 +54,10 @@ has_room there pages = has_room_for (if is_none there then 1 else 0) pages
 abbrev pub has_revisions : ℕ → ℕ → Bool
 has_revisions counter more = nat_le (counter + more) MOST_REVISION
 
--- a page as it is put: with its new revision, who sent it, and its outcomes under its judgements
+-- a page as it is put: with its new revision, who sent it, and its outcomes under its judgements; it is kept without languages
 abbrev pub page_put : Book → List ℕ → ℕ → List ℕ → Document → List Judgement → PagePut
 page_put book page rev hand tree js = record {
-  page = record { head = record { page = page; rev = rev; hand = hand }; tree = tree };
+  page = record { head = record { page = page; rev = rev; hand = hand }; tree = with_langs tree [] };
   outcomes = record { rows = outcomes book tree js };
 }
 
@@ -91,7 +91,7 @@ put_page book site caller page rev raw s there js pages =
     unless (has_room there pages) (refusal.PageLimit limit.Pages) (
     unless (has_revisions s.counter 1) (refusal.PageLimit limit.Revisions) (
     current rev (due there) (
-    built None raw (renewed book site caller page s.counter js))))
+    built None raw (λ tree. renewed book site caller page s.counter js (with_langs tree s.languages)))))
 
 -- the edited page, or the first fault of the edits
 abbrev pub edited : Document → Result Trees EditFault → (Document → Decision) → Decision

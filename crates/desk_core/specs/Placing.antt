@@ -1,6 +1,8 @@
 -- Imports as they are carried out: each entry with what is kept in its place, and then the pages one beside another.
 use Rattle.std.specs.Prelude.{◌≡◌, ℕ, ◌+◌, ◌≤◌, ◌==◌, List, [], ◌∷◌, length, map, Bool, not, Option, Some, is_none, option_map, Result, Ok, IfOk, count_by}
 use Rattle.std.specs.List.{find, zip}
+use Rattle.snap_tree.specs.Langs.{AreLangs}
+use Rattle.snap_tree.specs.Trees.{with_langs}
 use Rattle.snap_tree.specs.Grown.{page_of}
 use Rattle.rule_core.specs.Books.{Book}
 use Rattle.judge_core.specs.declared.outcomes.Outcomes.{Outcomes}
@@ -11,7 +13,8 @@ use Rattle.keep_core.specs.declared.site.Site.{Site}
 use Rattle.keep_core.specs.declared.page.PageHead.{PageHead}
 use Rattle.keep_core.specs.declared.page.PagePut.{PagePut}
 use Rattle.keep_core.specs.declared.change.Change.TheVariants.{PutPages}
-use Rattle.keep_core.specs.Tables.{Tables, pages_of, judgements_of}
+use Rattle.keep_core.specs.declared.tables.Tables.{Tables}
+use Rattle.keep_core.specs.Tables.{pages_of, judgements_of}
 use Rattle.keep_core.specs.Keeping.{Stays}
 use Rattle.desk_core.specs.declared.command.Entry.{Entry}
 use Rattle.desk_core.specs.declared.placed.Placed.{Placed}
@@ -22,7 +25,7 @@ use Rattle.desk_core.specs.declared.refusal.Refusal.{Refusal}
 use Rattle.desk_core.specs.declared.refusal.Refusal.TheVariants as refusal
 use Rattle.desk_core.specs.declared.reply.Reply.TheVariants as reply
 use Rattle.desk_core.specs.Refusals.{Decision, unless, unless_refused}
-use Rattle.desk_core.specs.State.{PageState, page_state, page_at}
+use Rattle.desk_core.specs.State.{PageState, page_state, kept_listed, page_at}
 use Rattle.desk_core.specs.Pages.{revision_in, due, judged, has_room_for, has_revisions, stored}
 use Rattle.desk_core.specs.Imports.{first_fault}
 use Rattle.desk_core.specs.Told.{Told}
@@ -80,22 +83,26 @@ work_of w = record { tree = page_of w.entry.raw; judgements = w.judgements }
 abbrev pub put_of : PageHead × (PageWork × Outcomes) → PagePut
 put_of p = record { page = record { head = p.0; tree = p.1.0.tree }; outcomes = p.1.1 }
 
--- each page with its head and its outcomes
-abbrev pub puts_by : Book → List PageHead → List PageWork → List PagePut
-puts_by book heads works = map put_of (zip heads (zip works (pages_outcomes book works)))
+-- the page with these languages
+abbrev pub work_listed : List (List ℕ) → PageWork → PageWork
+work_listed langs work = record { tree = with_langs work.tree langs; judgements = work.judgements }
+
+-- each page with its head and its outcomes, which are those under these languages
+abbrev pub puts_by : Book → List (List ℕ) → List PageHead → List PageWork → List PagePut
+puts_by book langs heads works = map put_of (zip heads (zip works (pages_outcomes book (map (work_listed langs) works))))
 
 -- they are put at once
 abbrev pub storing_all : Book → List ℕ → ℕ → List PagePut → Decision
 storing_all book site counter made = Ok (record { change = Some (PutPages site counter made); reply = reply.Imported (map (stored book) made) })
 
--- what is decided on an import into a site with this counter and so many pages
-abbrev pub import_placed : Book → List ℕ → List ℕ → ℕ → ℕ → List Placed → Decision
-import_placed book site caller counter pages all =
+-- what is decided on an import into a site with these languages, this counter and so many pages
+abbrev pub import_placed : Book → List ℕ → List (List ℕ) → List ℕ → ℕ → ℕ → List Placed → Decision
+import_placed book site langs caller counter pages all =
     unless (has_room_for (new_among all) pages) (refusal.PageLimit limit.Pages) (
     unless (has_revisions counter (length all)) (refusal.PageLimit limit.Revisions) (
     unless_refused (stale_among all) (
     unless_refused (first_fault (entries_of all)) (
-    storing_all book site (counter + length all) (puts_by book (heads_from caller counter all) (map work_of all))))))
+    storing_all book site (counter + length all) (puts_by book langs (heads_from caller counter all) (map work_of all))))))
 
 -- ---- what is owed on the way to it
 
@@ -124,9 +131,10 @@ pub record PlacesAll (site : List ℕ) (heads : List PageHead) (entries : List E
 pub record Arrives (caller site : List ℕ) (entries : List Entry) (old new : Told) (result : Result Arrival Refusal) : Type 0 where
   pub reads : OnlyReads old new result
   pub listed : IfOk result (λ a. entries_of a.placed ≡ entries)
+  pub languages : IfOk result (λ a. AreLangs a.languages)
   pub found :
       IfOk result (λ a.
       (t : Tables) → new.tables ≡ Some t
-      → (s : Site) × IsIn Editor caller site s t × (a.counter ≡ s.counter) × (a.pages ≡ length (pages_of site t))
-      × (a.placed ≡ map (placed (map page_state (pages_of site t))) entries))
+      → (s : Site) × IsIn Editor caller site s t × (a.counter ≡ s.counter) × (a.languages ≡ s.languages) × (a.pages ≡ length (pages_of site t))
+      × (a.placed ≡ map (placed (map (λ p. page_state (kept_listed s.languages p)) (pages_of site t))) entries))
   pub refused : RefusesSite Editor caller site new result

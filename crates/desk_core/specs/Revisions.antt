@@ -33,6 +33,7 @@ HasEntry page rev (e ∷ entries) = ((e.page ≡ page) × (e.rev ≡ rev)) ⊎ H
 abbrev pub Carries : List ℕ → ℕ → Command → Type 0
 Carries page rev (command.PutSite site) = ⊥
 Carries page rev (command.PutMember site user held) = ⊥
+Carries page rev (command.PutLanguages site langs) = ⊥
 Carries page rev (command.PutPage site p r raw) = (p ≡ page) × (r ≡ rev)
 Carries page rev (command.GetPage site p) = ⊥
 Carries page rev (command.DropPage site p r) = (p ≡ page) × (r ≡ rev)

@@ -1,6 +1,6 @@
 -- What is owed on the way through a request, over a keeper that may tell its tables: what is told at the end was told
 -- at the start, a refusal is the first one, and the keeper's fault is given only where its count rose.
-use Rattle.std.specs.Prelude.{◌≡◌, ℕ, ◌≤◌, List, length, true, false, Option, Some, None, option_map, ◌⊎◌, Result, Ok, Err, IfSome, IfOk, IfErr, IsErrOf}
+use Rattle.std.specs.Prelude.{◌≡◌, ℕ, ◌≤◌, List, [], length, true, false, Option, Some, None, option_map, ◌⊎◌, Result, Ok, Err, IfSome, IfOk, IfErr, IsErrOf}
 use Rattle.counts.specs.Counts.{Rose}
 use Rattle.rule_core.specs.Books.{Book}
 use Rattle.judge_core.specs.declared.judgement.Judgement.{Judgement}
@@ -10,11 +10,12 @@ use Rattle.keep_core.specs.declared.site.Site.{Site}
 use Rattle.keep_core.specs.declared.page.Page.{Page}
 use Rattle.keep_core.specs.declared.page.SitePage.{SitePage}
 use Rattle.keep_core.specs.declared.tables.KeptPage.{KeptPage}
-use Rattle.keep_core.specs.Tables.{Tables, kept_site, site_of, kept_page, pages_of, outcomes_of}
+use Rattle.keep_core.specs.declared.tables.Tables.{Tables}
+use Rattle.keep_core.specs.Tables.{kept_site, languages_of, site_of, kept_page, pages_of, outcomes_of}
 use Rattle.keep_core.specs.Fits.{Fits, FitsSite, FitsPage, IsThere}
 use Rattle.keep_core.specs.Keeping.{Stays, Turns}
 use Rattle.keep_core.specs.declared.change.Change.{Change}
-use Rattle.keep_core.specs.declared.change.Change.TheVariants.{PutPages}
+use Rattle.keep_core.specs.declared.change.Change.TheVariants.{PutPages, SetEdition}
 use Rattle.desk_core.specs.declared.decided.Decided.{Decided}
 use Rattle.desk_core.specs.declared.refusal.Needed.{Needed}
 use Rattle.desk_core.specs.declared.refusal.Needed.TheVariants.{Editor}
@@ -22,9 +23,9 @@ use Rattle.desk_core.specs.declared.look.Survey.{Survey}
 use Rattle.desk_core.specs.declared.refusal.Refusal.{Refusal}
 use Rattle.desk_core.specs.declared.refusal.Refusal.TheVariants.{NotAllowed, KeeperFault, OutOfMemory}
 use Rattle.desk_core.specs.declared.reply.Reply.{Reply}
-use Rattle.desk_core.specs.declared.reply.Reply.TheVariants.{Judged, Stored, Refused}
+use Rattle.desk_core.specs.declared.reply.Reply.TheVariants.{Judged, Stored, Languages, Refused}
 use Rattle.desk_core.specs.Refusals.{Decision}
-use Rattle.desk_core.specs.State.{PageState, SiteState, page_state, state_of, site_at}
+use Rattle.desk_core.specs.State.{PageState, SiteState, page_state, listed, kept_listed, state_of, site_at}
 use Rattle.desk_core.specs.Rights.{may, role_of, entering, on_page}
 use Rattle.desk_core.specs.Steps as steps
 use Rattle.desk_core.specs.Steps.{Request, asked_by, read_page, decided}
@@ -75,9 +76,19 @@ abbrev pub IsEdited : Command → Reply → Type 0
 IsEdited (EditPage site page rev edits) reply = IsStored page reply
 IsEdited other reply = ⊥
 
--- the reply to a judgement or to an edit, which are decided by the outcomes that are kept
+-- the reply to a list of languages
+abbrev pub IsRelisted : Reply → Type 0
+IsRelisted (Languages languages pages) = Unit {0}
+IsRelisted other = ⊥
+
+-- the reply to a judgement, to an edit or to a list of languages, which are decided by the outcomes that are kept
 abbrev pub RestsOnKept : Request → Reply → Type 0
-RestsOnKept request reply = IsJudged reply ⊎ IsEdited request.command reply
+RestsOnKept request reply = IsJudged reply ⊎ (IsEdited request.command reply ⊎ IsRelisted reply)
+
+-- a change leaves the edition
+abbrev pub KeepsEdition : Change → Type 0
+KeepsEdition (SetEdition number) = ⊥
+KeepsEdition other = Unit {0}
 
 -- a change puts pages into this site
 abbrev pub PutsInto : List ℕ → Change → Type 0
@@ -97,7 +108,8 @@ pub record JudgesOn (site page : List ℕ) (result : Result Decided Refusal) : T
   pub accepted : Accepts result
   pub judged : Judges result
 
--- What is decided of tables, sound or not: no change, or a judgement or an edit, or what the definition decides of them.
+-- What is decided of tables, sound or not: no change, or a judgement, an edit or a list of languages, or what the definition decides of
+-- them.
 abbrev pub IsFirm : Book → Request → Option Tables → Decided → Type 0
 IsFirm book request tables d =
     (d.change ≡ None) ⊎ (RestsOnKept request d.reply ⊎ ((t : Tables) → tables ≡ Some t → decided book request (state_of t) ≡ Ok d))
@@ -118,9 +130,17 @@ abbrev pub Admits : Needed → List ℕ → Site → Result Site Refusal → Typ
 Admits leave caller site (Ok given) = (site ≡ given) × (may leave (role_of caller given.members) ≡ true)
 Admits leave caller site (Err refusal) = (refusal ≡ NotAllowed leave) × (may leave (role_of caller site.members) ≡ false)
 
--- a page with its judgements, of a site
+-- a page with its judgements, of a site whose languages these are
+abbrev pub page_with : List (List ℕ) → List ℕ → List ℕ → Tables → Option PageState
+page_with langs site page tables = option_map (λ p. page_state (kept_listed langs p)) (kept_page site page tables)
+
+-- and with the languages that the site has
 abbrev pub page_in : List ℕ → List ℕ → Tables → Option PageState
-page_in site page tables = option_map page_state (kept_page site page tables)
+page_in site page tables = page_with (languages_of site tables) site page tables
+
+-- a page fits as it is kept: without languages
+abbrev pub FitsListed : Page → Type 0
+FitsListed page = FitsPage (listed [] page)
 
 -- a refusal for a fault of the keeper or for want of memory alone
 abbrev pub FailsOnly : {A : Type 0} → Result A Refusal → Type 0
@@ -146,23 +166,24 @@ pub record Enters (leave : Needed) (caller name : List ℕ) (old new : Told) (re
   pub found : IfOk result (λ site. (t : Tables) → new.tables ≡ Some t → IsIn leave caller name site t)
   pub refused : RefusesSite leave caller name new result
 
--- a page with its judgements is looked up, where it is there
-pub record Looks (site page : List ℕ) (old new : Told) (result : Result (Option PageState) Refusal) : Type 0 where
+-- a page with its judgements is looked up, where it is there, in a site whose languages these are
+pub record Looks (langs : List (List ℕ)) (site page : List ℕ) (old new : Told) (result : Result (Option PageState) Refusal) : Type 0 where
   pub reads : OnlyReads old new result
-  pub fits : IfOk result (λ found. IfSome found (λ p. FitsPage p.page))
-  pub found : IfOk result (λ found. (t : Tables) → new.tables ≡ Some t → found ≡ page_in site page t)
+  pub fits : IfOk result (λ found. IfSome found (λ p. FitsListed p.page))
+  pub found : IfOk result (λ found. (t : Tables) → new.tables ≡ Some t → found ≡ page_with langs site page t)
   pub refused : FailsOnly result
 
 -- a page of a site in which the caller has a leave
 pub record Finds (leave : Needed) (caller site page : List ℕ) (old new : Told) (result : Result (Site × PageState) Refusal) : Type 0 where
   pub reads : OnlyReads old new result
-  pub fits : IfOk result (λ found. FitsSite found.0 × FitsPage found.1.page)
+  pub fits : IfOk result (λ found. FitsSite found.0 × FitsListed found.1.page)
   pub found : IfOk result (λ found. (t : Tables) → new.tables ≡ Some t → IsIn leave caller site found.0 t × (page_in site page t ≡ Some found.1))
   pub refused : RefusesPage leave caller site page new result
 
 -- the site into which a page is to be put, the revision of the page that is there with its judgements, and the number of its pages
 pub record Surveys (caller site page : List ℕ) (old new : Told) (result : Result Survey Refusal) : Type 0 where
   pub reads : OnlyReads old new result
+  pub fits : IfOk result (λ s. FitsSite s.site)
   pub found :
       IfOk result (λ s.
       (t : Tables) → new.tables ≡ Some t
@@ -201,7 +222,7 @@ pub record FindsKept (leave : Needed) (caller site page : List ℕ) (old new : T
 -- the same with the site's row
 pub record FindsWhole (leave : Needed) (caller site page : List ℕ) (old new : Told) (result : Result (Site × KeptPage) Refusal) : Type 0 where
   pub reads : OnlyReads old new result
-  pub fits : IfOk result (λ found. FitsPage found.1.page)
+  pub fits : IfOk result (λ found. FitsListed found.1.page)
   pub found :
       IfOk result (λ found.
       (t : Tables) → new.tables ≡ Some t
@@ -231,6 +252,7 @@ pub record Decides (book : Book) (request : Request) (old new : Told) (result : 
   pub fits : IfOk result (λ d. IfSome d.change Fits)
   pub there : IfOk result (λ d. IfSome d.change (λ change. IfSome new.tables (IsThere change)))
   pub accepted : Accepts result
+  pub edition : IfOk result (λ d. IfSome d.change KeepsEdition)
   pub firm : IfOk result (IsFirm book request new.tables)
 
 -- a command that is decided the same by any book
@@ -249,12 +271,14 @@ pub record IsDone (book : Book) (request : Request) (reply : Reply) (s t : Table
   pub became : t ≡ soundness.made d.change s
 
 -- A request is served: where the tables that are told were sound, they are sound, the reply is the machine's, and the rows of all
--- other sites stay. Sound or not, a request that is refused leaves the tables, and they change only by a judgement, by an edit or by
--- what the definition decides. Whether they are told or not, the keeper's fault is answered only where it was counted.
+-- other sites stay. Sound or not, the edition stays, a request that is refused leaves the tables, and they change only by a judgement, by
+-- an edit, by a list of languages or by what the definition decides. Whether they are told or not, the keeper's fault is answered only
+-- where it was counted.
 pub record Serves (book : Book) (request : Request) (old new : Told) (reply : Reply) : Type 0 where
   pub told :
       (t : Tables) → new.tables ≡ Some t → (s : Tables) × (old.tables ≡ Some s) × (IsSound book s → IsSound book t × Answers book (state_of s) request reply (state_of t) old.faults new.faults)
   pub others : (s t : Tables) → old.tables ≡ Some s → new.tables ≡ Some t → IsSound book s → OthersStay (steps.site_of request.command) s t
+  pub edition : (s t : Tables) → old.tables ≡ Some s → new.tables ≡ Some t → t.edition ≡ s.edition
   pub refused : (refusal : Refusal) → reply ≡ Refused refusal → Stays old.tables new.tables
   pub changed : (s t : Tables) → old.tables ≡ Some s → new.tables ≡ Some t → (t ≡ s) ⊎ (RestsOnKept request reply ⊎ IsDone book request reply s t)
   pub never_falls : old.faults ≤ new.faults

@@ -1,7 +1,7 @@
 -- A site's pages as they are kept: what is owed on the way to its sheet.
 use Rattle.std.specs.Prelude.{◌≡◌, ℕ, List, Some, Result}
 use Rattle.rule_core.specs.Books.{Book}
-use Rattle.keep_core.specs.Tables.{Tables}
+use Rattle.keep_core.specs.declared.tables.Tables.{Tables}
 use Rattle.desk_core.specs.declared.command.Command.{Command}
 use Rattle.desk_core.specs.declared.command.Command.TheVariants as command
 use Rattle.desk_core.specs.declared.refusal.Refusal.{Refusal}

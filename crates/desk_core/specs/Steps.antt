@@ -10,6 +10,7 @@ use Rattle.desk_core.specs.Refusals.{Decision}
 use Rattle.desk_core.specs.State.{State, PageState, SiteState, page_at, site_at}
 use Rattle.desk_core.specs.Rights.{entering, on_page}
 use Rattle.desk_core.specs.Members.{put_site, put_member}
+use Rattle.desk_core.specs.Languages.{put_languages}
 use Rattle.desk_core.specs.Pages.{revision_in, judged, put_page, edit_page, drop_page}
 use Rattle.desk_core.specs.Imports.{import}
 use Rattle.desk_core.specs.Judging.{judge}
@@ -28,6 +29,7 @@ asked_by caller command = record { caller = caller; command = command }
 abbrev pub site_of : Command → List ℕ
 site_of (command.PutSite site) = site
 site_of (command.PutMember site user held) = site
+site_of (command.PutLanguages site langs) = site
 site_of (command.PutPage site page rev raw) = site
 site_of (command.GetPage site page) = site
 site_of (command.DropPage site page rev) = site
@@ -54,6 +56,7 @@ abbrev pub decision : Book → List ℕ → Command → Option SiteState → Dec
 decision book caller (command.PutSite site) kept = put_site site caller kept
 decision book caller (command.PutMember site user held) kept =
     entering needed.Owner caller kept (λ s. put_member site caller user held s.site)
+decision book caller (command.PutLanguages site langs) kept = entering needed.Owner caller kept (put_languages book site langs)
 decision book caller (command.PutPage site page rev raw) kept =
     entering needed.Editor caller kept (λ s.
     put_page book site caller page rev raw s.site (revision_in (page_at page s.pages)) (judged (page_at page s.pages)) (length s.pages))

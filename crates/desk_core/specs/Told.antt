@@ -1,7 +1,7 @@
 -- What a keeper tells at a moment.
 use Rattle.std.specs.Prelude.{ℕ, Option}
 use Rattle.keep_core.specs.declared.keeper.Keeper.{Ghosts}
-use Rattle.keep_core.specs.Tables.{Tables}
+use Rattle.keep_core.specs.declared.tables.Tables.{Tables}
 
 -- its tables, where it tells them, and the count of its faults
 pub record Told : Type 0 where

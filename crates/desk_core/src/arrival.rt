@@ -9,11 +9,12 @@ use keep_core::Keeper;
 use snap_tree::{List, Text};
 use std::alloc::Global;
 
-/// What is to be known before pages are imported: the counter of the site, how many pages it has, and the
-/// entries with what is kept in their places.
+/// What is to be known before pages are imported: the counter and the languages of the site, how many pages it
+/// has, and the entries with what is kept in their places.
 #[derive(Drop)]
 pub struct Arrival {
     pub counter: u64,
+    pub languages: List<Text>,
     pub pages: usize,
     pub placed: List<Placed>,
 }
@@ -33,6 +34,7 @@ pub fn arrive<K: Keeper>(
     let placed = place_all(alloc, keeper, site, &heads, entries)?;
     Ok(Arrival {
         counter: entered.counter,
+        languages: entered.languages,
         pages: heads.len(),
         placed,
     })

@@ -25,6 +25,11 @@ pub enum Command {
         user: Text,
         role: Option<MemberRole>,
     },
+    /// Puts a list of language subtags in the place of the site's.
+    PutLanguages {
+        site: Text,
+        languages: List<Text>,
+    },
     /// Puts a page in, or in the place of the one of its name.
     PutPage {
         site: Text,

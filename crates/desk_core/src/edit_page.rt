@@ -1,7 +1,6 @@
 ghost use Rattle.std.specs.Prelude.{◌≡◌, ◌<◌, drop, length, sum_by, true, Ok, IfOk, IfErr};
 ghost use Rattle.snap_tree.specs.Trees.{Document, with_trees};
 ghost use Rattle.snap_edit.specs.Edits.{edited_all};
-ghost use Rattle.keep_core.specs.Fits.{FitsPage};
 ghost use Rattle.desk_core.specs.Refusals.{Decision};
 ghost use Rattle.desk_core.specs.Pages.{has_revisions, edited};
 ghost use Rattle.desk_core.specs.Costs.{edit_judgings, edit_pairs, Costs, FirstJudgesLess};
@@ -9,7 +8,7 @@ ghost use Rattle.desk_core.specs.State.{page_state};
 ghost use Rattle.desk_core.specs.Steps.{asked_by};
 ghost use Rattle.desk_core.specs.Fitting.{AreNames};
 ghost use Rattle.desk_core.specs.InHand.{editing, edit_kept};
-ghost use Rattle.desk_core.specs.Serving.{Agrees, Decides, Edits, IsTrueTo, Stands};
+ghost use Rattle.desk_core.specs.Serving.{Agrees, Decides, Edits, FitsListed, IsTrueTo, Stands};
 ghost use Rattle.desk_core.specs.Told.{told_of};
 
 use crate::decided::Decided;
@@ -52,7 +51,7 @@ fn edit_there<B: RuleBook>(
     requires revision { has_revisions site.now.counter 1 ≡ true }
     requires current { sent.rev ≡ kept.now.page.head.rev }
     requires names { AreNames sent.site sent.page }
-    requires fits { FitsPage kept.now.page }
+    requires fits { FitsListed kept.now.page }
     ensures decided { IsTrueTo B.book kept.now → Agrees ⊥ result (edit_kept B.book caller.now sent edits.now site.now kept.now) }
     ensures edits { Edits sent.site sent.page result }
     ensures costs { FirstJudgesLess B.calls (IsTrueTo B.book kept.now)
@@ -74,7 +73,7 @@ fn decide<B: RuleBook>(
 ) -> Result<Decided, Refusal>
     requires some { 0 < length books.old }
     requires names { AreNames sent.site sent.page }
-    requires fits { FitsPage kept.now.page }
+    requires fits { FitsListed kept.now.page }
     ensures decided { IsTrueTo B.book kept.now → Agrees ⊥ result (edit_kept B.book caller.now sent edits.now site.now kept.now) }
     ensures edits { Edits sent.site sent.page result }
     ensures costs { FirstJudgesLess B.calls (IsTrueTo B.book kept.now)

@@ -12,6 +12,7 @@ use crate::drop_page::drop_page;
 use crate::edit_page::edit_page;
 use crate::import::import;
 use crate::judge::{Said, judge};
+use crate::languages::put_languages;
 use crate::members::{put_member, put_site};
 use crate::put_page::put_page;
 use crate::reads::{PageForm, get_names, get_page, get_shown};
@@ -27,20 +28,22 @@ use std::thread::Threads;
 
 /// Handles one request of a caller and gives the reply. The request fits: its names are names, its addresses
 /// web addresses, its revisions and its note within their limits, the rule that it judges is an atomic one of
-/// the book, and an import has 1 to 64 pages with distinct names. There is at least one book: an import is
-/// audited by all of them, and everything else by the first.
+/// the book, its languages are of the form, and an import has 1 to 64 pages with distinct names. There is at least one
+/// book: an import, and all pages under a new list of languages, are audited by all of them, and everything else by the
+/// first.
 ///
 /// Where the keeper tells its tables and they were sound, they are sound afterwards, the reply and the
-/// change are the machine's, and the rows of all other sites stay. Or the request fails: with `KeeperFault`,
+/// change are the machine's, and the rows of all other sites stay. The edition stays. Or the request fails: with `KeeperFault`,
 /// where the keeper's count of faults rose in this request, which holds of tables that aren't told too, or
 /// with `OutOfMemory`. Whatever it is refused with, the tables stay, sound or not; and sound or not they change
-/// only by a judgement, by an edit or by what the machine decides.
+/// only by a judgement, by an edit, by a list of languages or by what the machine decides.
 ///
 /// The books judge at most: where rows make trees, each atomic rule on each node of a page that is put or
 /// imported, accepted or not; of an edited page, where the edits can be carried out, the pairs of an atomic rule
-/// and a node that they affect; and for every other request nothing. What an edited page costs is said where the
-/// tables are told and sound, and where they are told, sound or not, it is no more than the whole edited page.
-/// Only an import uses other books than the first.
+/// and a node that they affect; for a list of languages those pairs of each page of the site, between the old list and
+/// the new one; and for every other request nothing. What an edited page and a list cost is said where the
+/// tables are told and sound, and where they are told, sound or not, it is no more than the whole edited page, or all
+/// pages. Only an import and a list of languages use other books than the first.
 pub fn handle<R: Threads + Sync, K: Keeper, B: RuleBook + Send>(
     rt: &R,
     alloc: Global,
@@ -83,6 +86,9 @@ fn decide<R: Threads + Sync, K: Keeper, B: RuleBook + Send>(
         Command::PutSite { site } => put_site(alloc, keeper, caller, site),
         Command::PutMember { site, user, role } => {
             put_member(alloc, keeper, caller, site, user, role)
+        }
+        Command::PutLanguages { site, languages } => {
+            put_languages(rt, alloc, books, keeper, caller, site, languages)
         }
         Command::PutPage {
             site,

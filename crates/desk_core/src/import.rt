@@ -1,5 +1,6 @@
-ghost use Rattle.std.specs.Prelude.{◌≡◌, ◌<◌, length, true, None, is_none, IsTrue, IfErr, OnOk};
-ghost use Rattle.audit.specs.Pages.{pages_judgings};
+ghost use Rattle.std.specs.Prelude.{◌≡◌, ◌<◌, length, map, true, None, is_none, IsTrue, IfOk, IfErr, OnOk};
+ghost use Rattle.snap_tree.specs.Langs.{AreLangs};
+ghost use Rattle.audit.specs.Pages.{pages_outcomes, pages_judgings};
 ghost use Rattle.keep_core.specs.Names.{is_name};
 ghost use Rattle.desk_core.specs.declared.command.Command.TheVariants.{Import};
 ghost use Rattle.desk_core.specs.Refusals.{Decision, unless_refused};
@@ -10,7 +11,7 @@ ghost use Rattle.desk_core.specs.Fitting.{FitsEntries};
 ghost use Rattle.desk_core.specs.Steps.{asked_by};
 ghost use Rattle.desk_core.specs.Costs.{import_judgings, JudgeAtMost};
 ghost use Rattle.desk_core.specs.InHand.{import_arrived};
-ghost use Rattle.desk_core.specs.Placing.{entries_of, new_among, current_of, is_stale, stale_among, puts_by, storing_all};
+ghost use Rattle.desk_core.specs.Placing.{entries_of, new_among, current_of, is_stale, stale_among, work_listed, puts_by, storing_all};
 ghost use Rattle.desk_core.specs.Serving.{Agrees, Decides, Stands};
 ghost use Rattle.desk_core.specs.Told.{told_of};
 
@@ -19,15 +20,17 @@ use crate::building::build_all;
 use crate::built::{Built, heads_from, put_all};
 use crate::command::Entry;
 use crate::decided::Decided;
+use crate::listed::work_listed;
 use crate::placed::Placed;
 use crate::refusal::{Limit, Refusal};
 use crate::reply::Reply;
 use crate::room::{due, has_revisions, has_room_for};
 use crate::store::stored_all;
-use audit::{audit_pages, busy};
+use audit::{PageWork, audit_pages, busy};
+use judge_core::Outcomes;
 use keep_core::{Change, Keeper};
 use rule_core::RuleBook;
-use snap_tree::{List, Text};
+use snap_tree::{List, OutOfMemory, Text};
 use std::alloc::Global;
 use std::collections::VecDeque;
 use std::thread::Threads;
@@ -64,7 +67,8 @@ fn decide<R: Threads + Sync, B: RuleBook + Send>(
     site: Text,
     arrival: Arrival,
 ) -> Result<Decided, Refusal>
-    requires { 0 < length books.old }
+    requires some { 0 < length books.old }
+    requires languages { AreLangs arrival.languages }
     ensures decided { Agrees ⊥ result (import_arrived B.book site caller.now arrival) }
     ensures counted { JudgeAtMost B.calls (import_judgings B.book (entries_of arrival.placed)) books.old books.new }
 {
@@ -137,6 +141,7 @@ fn import_there<R: Threads + Sync, B: RuleBook + Send>(
     arrival: Arrival,
 ) -> Result<Decided, Refusal>
     requires some { 0 < length books.old }
+    requires languages { AreLangs arrival.languages }
     requires room { has_room_for (new_among arrival.placed) arrival.pages ≡ true }
     requires revisions { has_revisions arrival.counter (length arrival.placed) ≡ true }
     requires fresh { stale_among arrival.placed ≡ None }
@@ -148,7 +153,8 @@ fn import_there<R: Threads + Sync, B: RuleBook + Send>(
     let placed = VecDeque::from_vec(arrival.placed.into_vec());
     let works = build_all(rt, &alloc, busy(books.len(), placed.len()), placed)?;
     let works = List::from_vec(works);
-    store_all(rt, alloc, books, site, counter, Built { heads, works })
+    let built = Built { heads, works };
+    store_all(rt, alloc, books, site, &arrival.languages, counter, built)
 }
 
 // Pages that are put at once, with what is said of them.
@@ -158,14 +164,16 @@ fn store_all<R: Threads + Sync, B: RuleBook + Send>(
     alloc: Global,
     books: &mut [B],
     site: Text,
+    languages: &List<Text>,
     counter: u64,
     built: Built,
 ) -> Result<Decided, Refusal>
-    requires { 0 < length books.old }
-    ensures decided { Agrees ⊥ result (storing_all B.book site counter (puts_by B.book built.heads built.works)) }
+    requires some { 0 < length books.old }
+    requires languages { AreLangs languages.now }
+    ensures decided { Agrees ⊥ result (storing_all B.book site counter (puts_by B.book languages.now built.heads built.works)) }
     ensures counted { JudgeAtMost B.calls (pages_judgings B.book built.works) books.old books.new }
 {
-    let outcomes = audit_pages(rt, alloc, books, built.works.as_slice())?;
+    let outcomes = audit_listed(rt, alloc, books, languages, built.works.as_slice())?;
     let pages = put_all(alloc, built, outcomes)?;
     let told = stored_all(alloc, &books[0], pages.as_slice())?;
     Ok(Decided {
@@ -178,4 +186,37 @@ fn store_all<R: Threads + Sync, B: RuleBook + Send>(
             pages: List::from_vec(told),
         },
     })
+}
+
+// The outcomes of pages that were built, with the languages of their site.
+fn audit_listed<R: Threads + Sync, B: RuleBook + Send>(
+    rt: &R,
+    alloc: Global,
+    books: &mut [B],
+    languages: &List<Text>,
+    works: &[PageWork],
+) -> Result<Vec<Outcomes>, OutOfMemory>
+    requires some { 0 < length books.old }
+    requires languages { AreLangs languages.now }
+    ensures outcomes { IfOk result (λ all. all.items ≡ pages_outcomes B.book (map (work_listed languages.now) works.now)) }
+    ensures counted { JudgeAtMost B.calls (pages_judgings B.book works.now) books.old books.new }
+{
+    let listed = works_listed(alloc, languages, works)?;
+    audit_pages(rt, alloc, books, listed.as_slice())
+}
+
+// The pages with these languages.
+fn works_listed(
+    alloc: Global,
+    languages: &List<Text>,
+    works: &[PageWork],
+) -> Result<Vec<PageWork>, OutOfMemory>
+    requires { AreLangs languages.now }
+    ensures { IfOk result (λ all. all.items ≡ map (work_listed languages.now) works.now) }
+{
+    let mut all = Vec::with_capacity(alloc, works.len())?;
+    for work in works {
+        all.push(work_listed(alloc, languages, work)?)?;
+    }
+    Ok(all)
 }

@@ -6,6 +6,7 @@ ghost use Rattle.judge_core.specs.declared.outcomes.OutRow.{OutRow};
 ghost use Rattle.judge_core.specs.Composites.{is_open};
 ghost use Rattle.judge_core.specs.Judgements.{is_on};
 ghost use Rattle.judge_core.specs.Outcomes.{outcomes};
+ghost use Rattle.keep_core.specs.declared.change.Change.TheVariants as change;
 ghost use Rattle.desk_core.specs.Refusals.{Decision};
 ghost use Rattle.desk_core.specs.Judging.{is_latest, added};
 ghost use Rattle.desk_core.specs.State.{PageState};
@@ -160,14 +161,30 @@ fn added<B: RuleBook>(
         });
     }
     let outcomes = outcomes_with(alloc, book, &judgement, js, found)?;
+    let change = addition(alloc, site, page, judgement, outcomes)?;
     Ok(Decided {
-        change: Some(Change::AddJudgement {
-            site,
-            page,
-            judgement,
-            outcomes,
-        }),
+        change: Some(change),
         reply,
+    })
+}
+
+// The change that one judgement more makes, with the outcomes under it.
+fn addition(
+    alloc: Global,
+    site: Text,
+    page: Text,
+    judgement: Judgement,
+    outcomes: Outcomes,
+) -> Result<Change, OutOfMemory>
+    ensures { IfOk result (λ c. c ≡ change.AddJudgements site page (judgement ∷ []) outcomes) }
+{
+    let mut judgements = Vec::with_capacity(alloc, 1)?;
+    judgements.push(judgement)?;
+    Ok(Change::AddJudgements {
+        site,
+        page,
+        judgements: List::from_vec(judgements),
+        outcomes,
     })
 }
 

@@ -1,8 +1,10 @@
-ghost use Rattle.std.specs.Prelude.{◌≡◌, ◌<◌, ◌≤◌, [], List, ℕ, Ok, IfSome};
+ghost use Rattle.std.specs.Prelude.{◌≡◌, ◌≢◌, ◌<◌, ◌≤◌, [], List, ℕ, Ok, IfSome};
 ghost use Rattle.std.specs.List.{All};
 ghost use Rattle.rule_core.specs.Books.{Book};
 ghost use Rattle.keep_core.specs.declared.change.Change.{Change};
-ghost use Rattle.keep_core.specs.Tables.{Tables};
+ghost use Rattle.keep_core.specs.declared.change.Change.TheVariants as change;
+ghost use Rattle.keep_core.specs.declared.page.PageOutcomes.{PageOutcomes};
+ghost use Rattle.keep_core.specs.declared.tables.Tables.{Tables};
 ghost use Rattle.keep_core.specs.Changes as tables;
 ghost use Rattle.keep_core.specs.Fits.{Fits, IsThere};
 ghost use Rattle.desk_core.specs.declared.decided.Decided.{Decided};
@@ -12,7 +14,8 @@ ghost use Rattle.desk_core.specs.Changes.{changed, after};
 ghost use Rattle.desk_core.specs.Steps.{Request, site_of, decided, step};
 ghost use Rattle.desk_core.specs.Runs.{Runs};
 ghost use Rattle.desk_core.specs.Fitting.{FitsRequest};
-ghost use Rattle.desk_core.specs.Soundness.{IsSound, made};
+ghost use Rattle.desk_core.specs.Soundness.{IsNearlySound, IsSound, made};
+ghost use Rattle.desk_core.specs.Refreshing.{book_edition, MayBegin, IsOnTheWay, IsFresh, AreAllFresh};
 ghost use Rattle.desk_core.specs.Once.{IsOnce, IsRefused, Refuses, IsFor};
 ghost use Rattle.desk_core.specs.Revisions.{counter_of, revision_of, Rises, Carries, Puts};
 
@@ -26,17 +29,33 @@ pub fn laws_of_views()
 
 /// Laws of soundness. It does nothing: the clauses are what it is for.
 ///
-/// Tables without a site are sound. What is decided on a request that fits, over sound tables, is a change
+/// Tables without a site are sound, and sound tables are nearly sound. What is decided on a request that fits, over sound tables, is a change
 /// that fits and whose site and page are there; and the tables are sound after it.
-#[tactic(auto, using(crate::proofs::Keeping::none_sound, crate::proofs::Keeping::change_fits, crate::proofs::Keeping::change_there))]
+#[tactic(auto, using(crate::proofs::Keeping::none_sound, crate::proofs::Keeping::nearly_sound, crate::proofs::Keeping::change_fits, crate::proofs::Keeping::change_there))]
 pub fn laws_of_soundness()
-    ensures none { (book : Book) → IsSound book [] }
+    ensures none { (book : Book) (edition : ℕ) → IsSound book (record { edition = edition; sites = [] }) }
+    ensures nearly { (book : Book) (t : Tables) → IsSound book t → IsNearlySound t }
     ensures fits { (book : Book) (q : Request) (t : Tables) (d : Decided) → FitsRequest book q → IsSound book t
         → decided book q (state_of t) ≡ Ok d → IfSome d.change Fits }
     ensures there { (book : Book) (q : Request) (t : Tables) (d : Decided)
         → decided book q (state_of t) ≡ Ok d → IfSome d.change (λ change. IsThere change t) }
     ensures kept { (book : Book) (q : Request) (t : Tables) (d : Decided) → FitsRequest book q → IsSound book t
         → decided book q (state_of t) ≡ Ok d → IsSound book (made d.change t) }
+{}
+
+/// Laws of the refresh. It does nothing: the clauses are what it is for.
+///
+/// Where the edition is set to 0, and was another than the book's, the tables are on the way; outcomes of pages leave
+/// them there; and where all outcomes are by the book, and its edition is set, they are fresh. So before and after each
+/// batch of a refresh the tables are as they were, or on the way, or fresh.
+#[tactic(auto, using(crate::proofs::Refreshing::begun, crate::proofs::Refreshing::ended))]
+pub fn laws_of_refresh()
+    ensures begun { (book : Book) (s : Tables) → MayBegin book s → s.edition ≢ book_edition book
+        → IsOnTheWay book s (tables.changed (change.SetEdition 0) s) }
+    ensures gone_on { (book : Book) (s t : Tables) (site : List ℕ) (new : List PageOutcomes) → IsOnTheWay book s t
+        → IsOnTheWay book s (tables.changed (change.Refresh site new) t) }
+    ensures ended { (book : Book) (s t : Tables) → IsOnTheWay book s t → AreAllFresh book t
+        → IsFresh book s (tables.changed (change.SetEdition (book_edition book)) t) }
 {}
 
 /// Laws of requests that are sent again. It does nothing: the clauses are what it is for.

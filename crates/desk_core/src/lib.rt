@@ -10,12 +10,15 @@ mod commit;
 mod decided;
 mod drop_page;
 mod edit_page;
+mod editions;
 mod enter;
 mod handling;
 mod import;
 mod judge;
+mod languages;
 mod laws;
 mod limits;
+mod listed;
 mod look;
 mod members;
 mod page_state;
@@ -34,11 +37,13 @@ mod summaries;
 
 pub use command::{Command, Entry};
 pub use decided::Decided;
+pub use editions::{edition_of, refresh};
 pub use handling::handle;
 pub use laws::{
-    laws_of_requests, laws_of_revisions, laws_of_sites, laws_of_soundness, laws_of_views,
+    laws_of_refresh, laws_of_requests, laws_of_revisions, laws_of_sites, laws_of_soundness,
+    laws_of_views,
 };
-pub use limits::{MOST_ENTRIES, MOST_NOTE, MOST_PAGES, laws_of_limits};
+pub use limits::{MOST_BATCH, MOST_ENTRIES, MOST_NOTE, MOST_PAGES, laws_of_limits};
 pub use page_state::PageState;
 pub use refusal::{Limit, Needed, Refusal};
 pub use reply::{Reply, Sheet, Stored, Summary};

@@ -1,3 +1,4 @@
+ghost use Rattle.snap_tree.specs.Langs.{AreLangs};
 ghost use Rattle.desk_core.specs.Serving.{Finds, FindsKept, FindsPage, FindsShown, FindsWhole, Looks, Surveys};
 ghost use Rattle.desk_core.specs.Told.{told_of};
 
@@ -6,7 +7,7 @@ use crate::page_state::PageState;
 use crate::placed::current_in;
 use crate::refusal::{Needed, Refusal};
 use judge_core::{Judgement, Outcomes};
-use keep_core::{Keeper, KeptPage, Page, Site};
+use keep_core::{Keeper, KeptPage, Page, Site, listed};
 use snap_tree::{List, Text};
 use std::alloc::Global;
 
@@ -21,22 +22,22 @@ pub struct Survey {
     pub pages: usize,
 }
 
-/// A page with its judgements; None where it isn't kept.
+/// A page with its judgements, and with the languages of its site; None where it isn't kept.
 pub fn look<K: Keeper>(
     alloc: Global,
     keeper: &mut K,
+    languages: &List<Text>,
     site: &Text,
     page: &Text,
 ) -> Result<Option<PageState>, Refusal>
-    ensures { Looks site.now page.now (told_of K.Keeper keeper.old) (told_of K.Keeper keeper.new) result }
+    requires { AreLangs languages.now }
+    ensures { Looks languages.now site.now page.now (told_of K.Keeper keeper.old) (told_of K.Keeper keeper.new) result }
 {
     match keeper.load(alloc, site, page)? {
         Some(kept) => {
             let judgements = keeper.judgements(alloc, site, page)?;
-            Ok(Some(PageState {
-                page: kept,
-                judgements,
-            }))
+            let page = listed(alloc, kept, languages)?;
+            Ok(Some(PageState { page, judgements }))
         }
         None => Ok(None),
     }
@@ -54,7 +55,7 @@ pub fn find<K: Keeper>(
     ensures { Finds needed caller.now site.now page.now (told_of K.Keeper keeper.old) (told_of K.Keeper keeper.new) result }
 {
     let kept = enter(alloc, keeper, needed, caller, site)?;
-    match look(alloc, keeper, site, page)? {
+    match look(alloc, keeper, &kept.languages, site, page)? {
         Some(found) => Ok((kept, found)),
         None => Err(Refusal::NoPage),
     }
@@ -71,9 +72,12 @@ pub fn find_page<K: Keeper>(
 ) -> Result<Page, Refusal>
     ensures { FindsPage needed caller.now site.now page.now (told_of K.Keeper keeper.old) (told_of K.Keeper keeper.new) result }
 {
-    enter(alloc, keeper, needed, caller, site)?;
+    let entered = enter(alloc, keeper, needed, caller, site)?;
     match keeper.load(alloc, site, page)? {
-        Some(found) => Ok(found),
+        Some(found) => {
+            let page = listed(alloc, found, &entered.languages)?;
+            Ok(page)
+        }
         None => Err(Refusal::NoPage),
     }
 }

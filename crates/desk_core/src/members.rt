@@ -50,6 +50,7 @@ fn new_site(alloc: Global, caller: &Text, name: Text) -> Result<Decided, Refusal
                 name: site,
                 counter: 0,
                 members: List::from_vec(members),
+                languages: List::from_vec(Vec::new(alloc)),
             },
         }),
         reply: Reply::Site { site: name },
@@ -90,14 +91,20 @@ fn decide(
             needed: Needed::AnotherOwner,
         });
     }
-    let counter = site.counter;
-    let members = members_with(alloc, &user, role, site.members)?;
+    let Site {
+        counter,
+        members,
+        languages,
+        ..
+    } = site;
+    let members = members_with(alloc, &user, role, members)?;
     Ok(Decided {
         change: Some(Change::PutSite {
             site: Site {
                 name,
                 counter,
                 members,
+                languages,
             },
         }),
         reply: Reply::Member { user, role },

@@ -2,6 +2,7 @@ ghost use Rattle.std.specs.Prelude.{◌≡◌, ◌<◌, length, true, None, IfOk
 ghost use Rattle.snap_tree.specs.Trees.{Document};
 ghost use Rattle.snap_tree.specs.Grown.{page_of};
 ghost use Rattle.snap_tree.specs.Faults.{tree_fault};
+ghost use Rattle.keep_core.specs.Fits.{FitsSite};
 ghost use Rattle.desk_core.specs.Refusals.{Decision};
 ghost use Rattle.desk_core.specs.Pages.{due, has_room, has_revisions, built};
 ghost use Rattle.desk_core.specs.Steps.{asked_by};
@@ -48,10 +49,12 @@ fn put_there<B: RuleBook>(
     requires room { has_room survey.now.current survey.now.pages ≡ true }
     requires revision { has_revisions survey.now.site.counter 1 ≡ true }
     requires current { sent.rev ≡ due survey.now.current }
+    requires fits { FitsSite survey.now.site }
     ensures decided { Agrees ⊥ result (put_into B.book caller.now sent raw survey.now) }
     ensures costs { FirstJudges B.calls (put_judgings B.book raw) books.old books.new }
 {
-    let tree = build(alloc, None, raw)?;
+    let built = build(alloc, None, raw)?;
+    let tree = built.with_langs(alloc, &survey.site.languages)?;
     let js = survey.judgements.as_slice();
     renewed(alloc, books, caller, sent, survey.site.counter, js, tree)
 }
@@ -65,7 +68,8 @@ fn decide<B: RuleBook>(
     raw: Raw,
     survey: &Survey,
 ) -> Result<Decided, Refusal>
-    requires { 0 < length books.old }
+    requires some { 0 < length books.old }
+    requires fits { FitsSite survey.now.site }
     ensures decided { Agrees ⊥ result (put_into B.book caller.now sent raw survey.now) }
     ensures costs { FirstJudges B.calls (put_judgings B.book raw) books.old books.new }
 {

@@ -1,11 +1,10 @@
 ghost use Rattle.std.specs.Prelude.{◌≡◌, ◌<◌, length};
 ghost use Rattle.rule_core.specs.Reach.{affected};
 ghost use Rattle.judge_core.specs.Outcomes.{judgings};
-ghost use Rattle.keep_core.specs.Fits.{FitsPage};
 ghost use Rattle.desk_core.specs.Costs.{FirstJudges, FirstJudgesLess};
 ghost use Rattle.desk_core.specs.Fitting.{AreNames};
 ghost use Rattle.desk_core.specs.Pages.{renewed, storing};
-ghost use Rattle.desk_core.specs.Serving.{Agrees, Edits, IsTrueTo};
+ghost use Rattle.desk_core.specs.Serving.{Agrees, Edits, FitsListed, IsTrueTo};
 
 use crate::decided::Decided;
 use crate::refusal::Refusal;
@@ -74,9 +73,8 @@ pub fn edited<B: RuleBook>(
     requires some { 0 < length books.old }
     requires room { counter < MOST_REVISION }
     requires address { kept.now.page.tree.address ≡ tree.address }
-    requires langs { kept.now.page.tree.langs ≡ tree.langs }
     requires names { AreNames sent.site sent.page }
-    requires fits { FitsPage kept.now.page }
+    requires fits { FitsListed kept.now.page }
     ensures decided { IsTrueTo B.book kept.now → Agrees ⊥ result
         (renewed B.book sent.site caller.now sent.page counter kept.now.judgements tree) }
     ensures edits { Edits sent.site sent.page result }

@@ -38,6 +38,11 @@ pub enum Reply {
         user: Text,
         role: Option<MemberRole>,
     },
+    /// How many language subtags the site accepts now, and how many pages it has.
+    Languages {
+        languages: u32,
+        pages: u32,
+    },
     Stored(Stored),
     Page(Page),
     Dropped {

@@ -6,6 +6,7 @@ ghost use Rattle.desk_core.specs.InHand.{new_page};
 ghost use Rattle.desk_core.specs.Pages.{page_put, stored, stored_by};
 ghost use Rattle.desk_core.specs.Serving.{IsTrueTo};
 
+use crate::listed::bare;
 use crate::reply::Stored;
 use crate::summaries::summary_of;
 use audit::audit_page;
@@ -74,6 +75,7 @@ pub fn page_edited<B: RuleBook>(
     let outcomes = reaudit_by_first(alloc, books, kept, &tree)?;
     let hand = hand.copy(alloc)?;
     let head = PageHead { page, rev, hand };
+    let tree = bare(alloc, &tree)?;
     Ok(PagePut {
         page: Page { head, tree },
         outcomes,
@@ -97,6 +99,7 @@ pub fn page_put<B: RuleBook>(
     let outcomes = audit_by_first(alloc, books, &tree, js)?;
     let hand = hand.copy(alloc)?;
     let head = PageHead { page, rev, hand };
+    let tree = bare(alloc, &tree)?;
     Ok(PagePut {
         page: Page { head, tree },
         outcomes,

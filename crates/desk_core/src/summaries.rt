@@ -19,8 +19,8 @@ pub fn summary_of(infos: &[RuleInfo], rows: &[OutRow]) -> Summary
     }
 }
 
-// A count stands still at the greatest u32.
-fn told(count: usize) -> u32
+/// A count stands still at the greatest u32.
+pub fn told(count: usize) -> u32
     ensures { result ≡ told count }
 {
     u32::try_from(count).unwrap_or(u32::MAX)

@@ -8,7 +8,7 @@ use Rattle.std.proofs.lemmas.List.Elements.{recursion_from_All}
 use Rattle.snap_tree.specs.declared.row.NodeId.{NodeId}
 use Rattle.snap_tree.specs.declared.row.Raw.{Raw}
 use Rattle.snap_tree.specs.declared.fault.TreeFault.{TreeFault}
-use Rattle.snap_tree.specs.Trees.{Trees, Document, with_trees}
+use Rattle.snap_tree.specs.Trees.{Trees, Document, with_trees, with_langs}
 use Rattle.snap_tree.specs.Grown.{page_of}
 use Rattle.snap_tree.specs.Faults.{tree_fault}
 use Rattle.snap_edit.specs.declared.edit.Edit.{Edit}
@@ -26,9 +26,9 @@ use Rattle.judge_core.specs.RowLookups.{row_at}
 use Rattle.keep_core.specs.declared.member.MemberRole.{MemberRole}
 use Rattle.keep_core.specs.declared.page.Page.{Page}
 use Rattle.keep_core.specs.declared.site.Site.{Site}
-use Rattle.keep_core.specs.declared.change.Change.TheVariants.{AddJudgement}
+use Rattle.keep_core.specs.declared.change.Change.TheVariants.{AddJudgements}
 use Rattle.keep_core.specs.Names.{is_name}
-use Rattle.keep_core.specs.Tables.{Tables}
+use Rattle.keep_core.specs.declared.tables.Tables.{Tables}
 use Rattle.desk_core.specs.declared.limits.TheConstants.{MOST_PAGES, MOST_ENTRIES}
 use Rattle.desk_core.specs.declared.command.Entry.{Entry}
 use Rattle.desk_core.specs.declared.command.Command.{Command}
@@ -46,6 +46,7 @@ use Rattle.desk_core.specs.Refusals.{Decision, unless, on, unless_refused}
 use Rattle.desk_core.specs.State.{State, SiteState, state_of, page_at, site_at}
 use Rattle.desk_core.specs.Rights.{may, role_of, entering, on_page}
 use Rattle.desk_core.specs.Members.{put_member}
+use Rattle.desk_core.specs.Languages.{put_languages}
 use Rattle.desk_core.specs.Pages.{revision_in, due, judged, has_room, has_revisions, renewed, built, put_page, edited, edit_page, drop_page, stored}
 use Rattle.desk_core.specs.Imports.{puts, new_pages, first_stale, first_fault, import}
 use Rattle.desk_core.specs.Judging.{is_latest, added, judged_row, judge}
@@ -54,7 +55,7 @@ use Rattle.desk_core.specs.Steps.{Request, site_of, read_page, read_site, decisi
 use Rattle.desk_core.specs.Fitting.{FitsEntry, FitsEntries, FitsParts, FitsRequest}
 use Rattle.desk_core.specs.Changes.{after}
 use Rattle.desk_core.specs.Soundness as soundness
-use Rattle.desk_core.specs.Serving.{IsJudged, IsEdited, RestsOnKept, IsDone}
+use Rattle.desk_core.specs.Serving.{IsJudged, IsEdited, IsRelisted, RestsOnKept, IsDone}
 use Rattle.desk_core.specs.declared.decided.Decided.{Decided}
 use Rattle.http_replies.specs.Made.{is_short, are_few, is_made}
 
@@ -98,25 +99,25 @@ short_name : (s : List ℕ) → IsTrue (is_name s) → is_short s ≡ true
 short_name s named = (and_parts _ _ (and_parts _ _ named).0).1
 
 -- the pages of an import have the names that were sent
-put_count : (book : Book) (caller : List ℕ) (pages : List PageState) (counter : ℕ) (entries : List Entry) →
-    length (map (stored book) (puts book caller pages counter entries)) ≡ length entries
-put_count book caller pages counter [] = refl
-put_count book caller pages counter (e ∷ entries) = ap suc (put_count book caller pages (counter + 1) entries)
+put_count : (book : Book) (langs : List (List ℕ)) (caller : List ℕ) (pages : List PageState) (counter : ℕ) (entries : List Entry) →
+    length (map (stored book) (puts book langs caller pages counter entries)) ≡ length entries
+put_count book langs caller pages counter [] = refl
+put_count book langs caller pages counter (e ∷ entries) = ap suc (put_count book langs caller pages (counter + 1) entries)
 
-put_short : (book : Book) (caller : List ℕ) (pages : List PageState) (counter : ℕ) (entries : List Entry) → AllByRecursion FitsEntry entries →
-    list_all (λ s. is_short s.page) (map (stored book) (puts book caller pages counter entries)) ≡ true
-put_short book caller pages counter [] all = refl
-put_short book caller pages counter (e ∷ entries) all =
-    both (is_short e.page) (list_all (λ s. is_short s.page) (map (stored book) (puts book caller pages (counter + 1) entries)))
-    (short_name e.page all.0.rev.named) (put_short book caller pages (counter + 1) entries all.1)
+put_short : (book : Book) (langs : List (List ℕ)) (caller : List ℕ) (pages : List PageState) (counter : ℕ) (entries : List Entry) → AllByRecursion FitsEntry entries →
+    list_all (λ s. is_short s.page) (map (stored book) (puts book langs caller pages counter entries)) ≡ true
+put_short book langs caller pages counter [] all = refl
+put_short book langs caller pages counter (e ∷ entries) all =
+    both (is_short e.page) (list_all (λ s. is_short s.page) (map (stored book) (puts book langs caller pages (counter + 1) entries)))
+    (short_name e.page all.0.rev.named) (put_short book langs caller pages (counter + 1) entries all.1)
 
-few_pages : (book : Book) (caller : List ℕ) (pages : List PageState) (counter : ℕ) (entries : List Entry) → FitsEntries entries →
-    are_few (map (stored book) (puts book caller pages counter entries)) ≡ true
-few_pages book caller pages counter entries fits =
-    let all : List Stored = map (stored book) (puts book caller pages counter entries) in
+few_pages : (book : Book) (langs : List (List ℕ)) (caller : List ℕ) (pages : List PageState) (counter : ℕ) (entries : List Entry) → FitsEntries entries →
+    are_few (map (stored book) (puts book langs caller pages counter entries)) ≡ true
+few_pages book langs caller pages counter entries fits =
+    let all : List Stored = map (stored book) (puts book langs caller pages counter entries) in
     both (nat_le (length all) MOST_ENTRIES) (list_all (λ s. is_short s.page) all)
-    (ap (λ n. nat_le n MOST_ENTRIES) (put_count book caller pages counter entries) ∙ at_most _ _ fits.few)
-    (put_short book caller pages counter entries (recursion_from_All _ entries fits.each))
+    (ap (λ n. nat_le n MOST_ENTRIES) (put_count book langs caller pages counter entries) ∙ at_most _ _ fits.few)
+    (put_short book langs caller pages counter entries (recursion_from_All _ entries fits.each))
 
 -- ---- the commands
 
@@ -126,7 +127,7 @@ put_member_quiet name caller user held site short = unless_quiet (not (bytes_eq 
 put_page_quiet : (book : Book) (site caller page : List ℕ) (rev : ℕ) (raw : Raw) (s : Site) (there : Option ℕ) (js : List Judgement) (pages : ℕ) → is_short page ≡ true →
     Quiet (put_page book site caller page rev raw s there js pages)
 put_page_quiet book site caller page rev raw s there js pages short =
-    let next = renewed book site caller page s.counter js in
+    let next : Document → Decision = λ tree. renewed book site caller page s.counter js (with_langs tree s.languages) in
     let refused = option_map_or (λ (f : TreeFault). Some (refusal.TreeFault f None)) (tree_fault raw.rows) None in
     unless_quiet (has_room there pages) (refusal.PageLimit limit.Pages) _ (
     unless_quiet (has_revisions s.counter 1) (refusal.PageLimit limit.Revisions) _ (
@@ -149,7 +150,7 @@ import_quiet book site caller entries s fits =
     unless_quiet (nat_le (length s.pages + new_pages s.pages entries) MOST_PAGES) (refusal.PageLimit limit.Pages) _ (
     unless_quiet (has_revisions s.site.counter (length entries)) (refusal.PageLimit limit.Revisions) _ (
     refused_quiet (first_stale s.pages entries) _ (
-    refused_quiet (first_fault entries) _ (inr (few_pages book caller s.pages s.site.counter entries fits)))))
+    refused_quiet (first_fault entries) _ (inr (few_pages book s.site.languages caller s.pages s.site.counter entries fits)))))
 
 pick_quiet : (holds : Bool) (x y : Decision) → Quiet x → Quiet y → Quiet (if holds then x else y)
 pick_quiet true x y first second = first
@@ -159,7 +160,7 @@ added_quiet : (book : Book) (site page : List ℕ) (j : Judgement) (kept : PageS
 added_quiet book site page j kept =
     let answer : Reply = reply.Judged j.rule j.node j.verdict in
     pick_quiet (is_latest j kept.judgements) (Ok (record { change = None; reply = answer }))
-    (Ok (record { change = Some (AddJudgement site page j (record { rows = outcomes book kept.page.tree (kept.judgements ++ j ∷ []) })); reply = answer })) (inl refl) (inr refl)
+    (Ok (record { change = Some (AddJudgements site page (j ∷ []) (record { rows = outcomes book kept.page.tree (kept.judgements ++ j ∷ []) })); reply = answer })) (inl refl) (inr refl)
 
 judged_row_quiet : (rows : List OutRow) (hand caller : List ℕ) (rule : RuleNo) (node : NodeId) (seen : List ℕ) (next : OutRow → Decision) → ((row : OutRow) → Quiet (next row)) →
     Quiet (judged_row rows hand caller rule node seen next)
@@ -187,6 +188,8 @@ decision_quiet book caller (command.PutSite site) None named fits = inr (short_n
 decision_quiet book caller (command.PutSite site) (Some s) named fits = tt
 decision_quiet book caller (command.PutMember site user held) kept named fits =
     entering_quiet needed.Owner caller kept (λ s. put_member site caller user held s.site) (λ s. put_member_quiet site caller user held s.site (short_name user fits))
+decision_quiet book caller (command.PutLanguages site langs) kept named fits =
+    entering_quiet needed.Owner caller kept (put_languages book site langs) (λ s. inr refl)
 decision_quiet book caller (command.PutPage site page rev raw) kept named fits =
     entering_quiet needed.Editor caller kept (λ s. put_page book site caller page rev raw s.site (revision_in (page_at page s.pages)) (judged (page_at page s.pages)) (length s.pages))
     (λ s. put_page_quiet book site caller page rev raw s.site (revision_in (page_at page s.pages)) (judged (page_at page s.pages)) (length s.pages) (short_name page fits.seen.named))
@@ -234,6 +237,11 @@ edited_made book (command.EditPage site page rev edits) (reply.Stored s) fits sa
 edited_made book (command.EditPage site page rev edits) other fits same unmade = absurd same
 edited_made book other r fits same unmade = absurd same
 
+-- and to a list of languages
+relisted_made : (r : Reply) → IsRelisted r → is_made r ≡ false → ⊥
+relisted_made (reply.Languages languages pages) relisted unmade = true≢false unmade
+relisted_made other relisted unmade = absurd relisted
+
 done_calm : (book : Book) (q : Request) (s t : Tables) (r : Reply) (d : Decided) → Quiet (Ok d) → is_made r ≡ false → r ≡ d.reply → t ≡ soundness.made d.change s → t ≡ s
 done_calm book q s t r d (inl none) unmade is became = became ∙ ap (λ change. soundness.made change s) none
 done_calm book q s t r d (inr made) unmade is became = absurd (true≢false (sym made ∙ (sym (ap is_made is) ∙ unmade)))
@@ -242,7 +250,8 @@ done_calm book q s t r d (inr made) unmade is became = absurd (true≢false (sym
 pub unmade_stays : (book : Book) (q : Request) (s t : Tables) (r : Reply) → FitsRequest book q → is_made r ≡ false → (t ≡ s) ⊎ (RestsOnKept q r ⊎ IsDone book q r s t) → t ≡ s
 unmade_stays book q s t r fits unmade (inl same) = same
 unmade_stays book q s t r fits unmade (inr (inl (inl judged))) = absurd (judged_made r judged unmade)
-unmade_stays book q s t r fits unmade (inr (inl (inr edited))) = absurd (edited_made book q.command r fits.parts edited unmade)
+unmade_stays book q s t r fits unmade (inr (inl (inr (inl edited)))) = absurd (edited_made book q.command r fits.parts edited unmade)
+unmade_stays book q s t r fits unmade (inr (inl (inr (inr relisted)))) = absurd (relisted_made r relisted unmade)
 unmade_stays book q s t r fits unmade (inr (inr done)) =
     let quiet : Quiet (decided book q (state_of s)) = decision_quiet book q.caller q.command (site_at (site_of q.command) (state_of s)) fits.site fits.parts in
     done_calm book q s t r done.d (subst Quiet done.is_decided quiet) unmade done.answered done.became

@@ -9,7 +9,7 @@ use Rattle.streams.specs.Streams.{Wrote, WroteFront}
 use Rattle.streams.proofs.Told.{was_written}
 use Rattle.links.specs.Wires.{Wire, extended}
 use Rattle.rule_core.specs.Books.{Book}
-use Rattle.keep_core.specs.Tables.{Tables}
+use Rattle.keep_core.specs.declared.tables.Tables.{Tables}
 use Rattle.keep_core.specs.Keeping.{Stays}
 use Rattle.desk_core.specs.declared.command.Command.{Command}
 use Rattle.desk_core.specs.declared.refusal.Refusal.{Refusal}
@@ -19,7 +19,7 @@ use Rattle.desk_core.specs.declared.reply.Reply.TheVariants.{Refused}
 use Rattle.desk_core.specs.State.{State, state_of, site_at}
 use Rattle.desk_core.specs.Steps.{Request, site_of}
 use Rattle.desk_core.specs.Fitting.{FitsRequest}
-use Rattle.desk_core.specs.Costs.{IsImport, IsEdit, UsesFirst, Costs, command_judgings, most_judgings}
+use Rattle.desk_core.specs.Costs.{IsOfMany, IsOfKept, UsesFirst, Costs, command_judgings, most_judgings}
 use Rattle.desk_core.specs.Runs.{Answers}
 use Rattle.desk_core.specs.Serving as machine
 use Rattle.http_messages.specs.declared.item.Sent.{Sent}
@@ -35,20 +35,20 @@ use Rattle.http_replies.specs.declared.answer.Answer.TheVariants.{Misread, Misas
 use Rattle.http_replies.specs.Made.{is_made}
 use Rattle.http_replies.specs.Answers.{answer_bytes, no_memory}
 use Rattle.desk_http.specs.Printed.{PrintsReply}
-use Rattle.desk_http.specs.Answering.{as_request, GetsRefusal, AnswersMessage, message_judgings, sent_most, sent_alone, AsksForEdits, MessageGets, Gets, Refuses, MessageSpares}
+use Rattle.desk_http.specs.Answering.{as_request, GetsRefusal, AnswersMessage, message_judgings, sent_most, sent_alone, RestsOnPages, MessageGets, Gets, Refuses, MessageSpares}
 use Rattle.desk_http.specs.Desk.{Moment}
 use Rattle.desk_http.specs.Serving.{OthersRest, JudgesAtMost, MessageJudges, AnsweredBy, Settles, Responds, RespondsTo, IsEither, WritesAll, ServesItem}
 use Rattle.desk_http.proofs.Moments.{told_at}
 use Rattle.desk_http.proofs.Quiet.{unmade_keeps, unmade_stays}
 
 -- no book judged
-judges_none : (most : State → ℕ) (Edits : Type 0) (alone : ℕ) (here : Moment) → JudgesAtMost most Edits alone here here
-judges_none most Edits alone here = record { told = λ s t was is. omega arith; untold = λ none. omega arith }
+judges_none : (most : State → ℕ) (OfKept : Type 0) (alone : ℕ) (here : Moment) → JudgesAtMost most OfKept alone here here
+judges_none most OfKept alone here = record { told = λ s t was is. omega arith; untold = λ none. omega arith }
 
 -- ---- a request
 
 -- the first book alone was used, so the counts of the others are as they were
-pub others_rest : {B : Type 0} (calls : B → ℕ) (q : Command) (old new : List B) → UsesFirst q old new → (IsImport q → ⊥) → OthersRest (map calls old) (map calls new)
+pub others_rest : {B : Type 0} (calls : B → ℕ) (q : Command) (old new : List B) → UsesFirst q old new → (IsOfMany q → ⊥) → OthersRest (map calls old) (map calls new)
 others_rest calls q old new uses none = drop-map calls 1 new ∙ (ap (map calls) (uses none) ∙ sym (drop-map calls 1 old))
 
 -- what the books judged, counted from each
@@ -68,12 +68,12 @@ quiet_stays book q old new reply fits served unmade t is =
 
 -- the machine's reply was printed
 replied : (book : Book) (q : Request) (closes : Bool) (old new : Moment) (reply : Reply) (bytes : List ℕ) →
-    FitsRequest book q → machine.Serves book q (told_at old) (told_at new) reply → Costs book q.command old.tables new.tables (sum old.calls) (sum new.calls) → ((IsImport q.command → ⊥) → OthersRest old.calls new.calls) →
+    FitsRequest book q → machine.Serves book q (told_at old) (told_at new) reply → Costs book q.command old.tables new.tables (sum old.calls) (sum new.calls) → ((IsOfMany q.command → ⊥) → OthersRest old.calls new.calls) →
     bytes ≡ answer_bytes book.infos (Replied reply) closes → RespondsTo book q closes old new bytes
 replied book q closes old new reply bytes fits served costs others printed = record {
   reply = reply;
   bytes_are = printed;
-  told = λ t is. let s = served.told t is in (s.0, s.1, λ sound. let z = s.2 sound in (z.0, (z.1, costs.told s.0 t s.1 is sound)));
+  told = λ t is. let s = served.told t is in (s.0, s.1, served.edition s.0 t s.1 is, λ sound. let z = s.2 sound in (z.0, (z.1, costs.told s.0 t s.1 is sound)));
   counted = record { told = costs.most; untold = costs.untold };
   never_falls = served.never_falls;
   failed = served.failed;
@@ -95,7 +95,7 @@ no_fault from to same = cc
 -- the machine's reply wasn't printed, which is none to a change
 unprinted : (book : Book) (q : Request) (closes : Bool) (old new : Moment) (reply : Reply) (bytes : List ℕ) →
     FitsRequest book q → is_made reply ≡ false → machine.Serves book q (told_at old) (told_at new) reply → Costs book q.command old.tables new.tables (sum old.calls) (sum new.calls) →
-    ((IsImport q.command → ⊥) → OthersRest old.calls new.calls) → bytes ≡ answer_bytes book.infos no_memory closes → RespondsTo book q closes old new bytes
+    ((IsOfMany q.command → ⊥) → OthersRest old.calls new.calls) → bytes ≡ answer_bytes book.infos no_memory closes → RespondsTo book q closes old new bytes
 unprinted book q closes old new reply bytes fits unmade served costs others full = record {
   reply = Refused OutOfMemory;
   bytes_are = full;
@@ -103,6 +103,7 @@ unprinted book q closes old new reply bytes fits unmade served costs others full
       let s = served.told t is in (
         s.0,
         s.1,
+        served.edition s.0 t s.1 is,
         λ sound.
             let z = s.2 sound in
             (z.0, (answers_full book (state_of s.0) (state_of t) q reply old.faults new.faults fits unmade z.1, costs.told s.0 t s.1 is sound)),
@@ -118,7 +119,7 @@ unprinted book q closes old new reply bytes fits unmade served costs others full
 -- the machine's reply was printed, or it wasn't
 pub answered : (book : Book) (q : Request) (closes : Bool) (old new : Moment) (reply : Reply) (bytes : List ℕ) →
     FitsRequest book q → machine.Serves book q (told_at old) (told_at new) reply → Costs book q.command old.tables new.tables (sum old.calls) (sum new.calls) →
-    ((IsImport q.command → ⊥) → OthersRest old.calls new.calls) → PrintsReply book.infos reply closes bytes → RespondsTo book q closes old new bytes
+    ((IsOfMany q.command → ⊥) → OthersRest old.calls new.calls) → PrintsReply book.infos reply closes bytes → RespondsTo book q closes old new bytes
 answered book q closes old new reply bytes fits served costs others (inl printed) =
     replied book q closes old new reply bytes fits served costs others printed
 answered book q closes old new reply bytes fits served costs others (inr (unmade, full)) =
@@ -130,8 +131,8 @@ pub unhandled : (book : Book) (q : Request) (closes : Bool) (here : Moment) (byt
 unhandled book q closes here bytes full = record {
   reply = Refused OutOfMemory;
   bytes_are = full;
-  told = λ t is. (t, is, λ sound. (sound, (inr (refl, inr refl), omega arith)));
-  counted = judges_none (λ state. most_judgings book q.command (site_at (site_of q.command) state)) (IsEdit q.command) (command_judgings book q.command None) here;
+  told = λ t is. (t, is, refl, λ sound. (sound, (inr (refl, inr refl), omega arith)));
+  counted = judges_none (λ state. most_judgings book q.command (site_at (site_of q.command) state)) (IsOfKept q.command) (command_judgings book q.command None) here;
   never_falls = omega arith;
   failed = no_fault here.faults here.faults;
   refused = λ refusal same t is. is;
@@ -150,8 +151,8 @@ unmade false room most full is = refl
 stays : (book : Book) (came : Sent) (a : Answer) (here : Moment) → ((s : Tables) → AnsweredBy book came a here here s s) → Gets book.infos came a here.faults here.faults →
     Settles book came a here here
 stays book came a here answers gets = record {
-  told = λ t is. (t, is, λ sound. (sound, answers t));
-  counted = judges_none (λ state. sent_most book state came) (AsksForEdits book.infos came) (sent_alone book came) here;
+  told = λ t is. (t, is, refl, λ sound. (sound, answers t));
+  counted = judges_none (λ state. sent_most book state came) (RestsOnPages book.infos came) (sent_alone book came) here;
   never_falls = omega arith;
   gets = gets;
   refused = λ refuses t is. is;
@@ -231,7 +232,7 @@ asked_so book m asked closes old new bytes made so = record {
             λ t is.
             let s = so.told t is in
             let P : Result Asked RequestFault → Type 0 = λ r. ByRequest book r (Replied so.reply) old new s.0 t in
-            (s.0, s.1, λ sound. let z = s.2 sound in (z.0, subst P made ((so.reply, refl, z.1.0), z.1.1)));
+            (s.0, s.1, s.2, λ sound. let z = s.3 sound in (z.0, subst P made ((so.reply, refl, z.1.0), z.1.1)));
         counted = let P : Result Asked RequestFault → Type 0 = λ r. MessageJudges book r old new in subst P made so.counted;
         never_falls = so.never_falls;
         gets = let P : Result Asked RequestFault → Type 0 = λ r. MessageGets r (Replied so.reply) old.faults new.faults in subst P made (so.reply, refl, so.failed);

@@ -2,11 +2,11 @@
 use Rattle.std.proofs.Common.{◌≡◌, ◌+◌, ◌≤◌, List, [], ◌∷◌, ◌++◌, length, Option, refl, sym, ◌∙◌, subst, arith}
 use Rattle.std.proofs.lemmas.List.Sums.{sum_by-append}
 use Rattle.rule_core.specs.Books.{Book}
-use Rattle.keep_core.specs.Tables.{Tables}
+use Rattle.keep_core.specs.declared.tables.Tables.{Tables}
 use Rattle.desk_core.specs.State.{state_of}
 use Rattle.http_messages.specs.declared.item.Item.{Item}
 use Rattle.http_replies.specs.declared.answer.Answer.{Answer}
-use Rattle.desk_http.specs.Answering.{sent_judgings, sent_alone, AsksForEdits, Refuses, SparesOthers}
+use Rattle.desk_http.specs.Answering.{sent_judgings, sent_alone, RestsOnPages, Refuses, SparesOthers}
 use Rattle.desk_http.specs.Desk.{Moment}
 use Rattle.desk_http.specs.Serving.{KeepsSound, OfSound, AnsweredBy, Settles, Run, SettlesEach, SettlesAll}
 use Rattle.desk_http.proofs.Runs.{runs_join, runs_one, all_get_join, all_get_one, all_front, all_back}
@@ -16,17 +16,17 @@ pub of_sound_join : (book : Book) (Q R S : Tables → Tables → Type 0) (k0 k1 
 of_sound_join book Q R S k0 k1 k3 step first then t is =
     let y = then t is in
     let x = first y.0 y.1 in
-    (x.0, x.1, λ sound. let a = x.2 sound in let b = y.2 a.0 in (b.0, step x.0 y.0 t a.1 b.1))
+    (x.0, x.1, y.2 ∙ x.2, λ sound. let a = x.3 sound in let b = y.3 a.0 in (b.0, step x.0 y.0 t a.1 b.1))
 
 pub of_sound_weaken : (book : Book) (Q R : Tables → Tables → Type 0) (k0 k1 : Option Tables) → ((s t : Tables) → Q s t → R s t) → OfSound book Q k0 k1 → OfSound book R k0 k1
-of_sound_weaken book Q R k0 k1 step first t is = let x = first t is in (x.0, x.1, λ sound. let a = x.2 sound in (a.0, step x.0 t a.1))
+of_sound_weaken book Q R k0 k1 step first t is = let x = first t is in (x.0, x.1, x.2, λ sound. let a = x.3 sound in (a.0, step x.0 t a.1))
 
 -- sound tables stay sound
 pub keeps_sound : (book : Book) (Q : Tables → Tables → Type 0) (k0 k1 : Option Tables) → OfSound book Q k0 k1 → KeepsSound book k0 k1
-keeps_sound book Q k0 k1 told t is = let x = told t is in (x.0, x.1, λ sound. (x.2 sound).0)
+keeps_sound book Q k0 k1 told t is = let x = told t is in (x.0, x.1, x.2, λ sound. (x.3 sound).0)
 
 pub keeps_join : (book : Book) (k0 k1 k3 : Option Tables) → KeepsSound book k0 k1 → KeepsSound book k1 k3 → KeepsSound book k0 k3
-keeps_join book k0 k1 k3 first then t is = let y = then t is in let x = first y.0 y.1 in (x.0, x.1, λ sound. y.2 (x.2 sound))
+keeps_join book k0 k1 k3 first then t is = let y = then t is in let x = first y.0 y.1 in (x.0, x.1, y.2 ∙ x.2, λ sound. y.3 (x.3 sound))
 
 -- ---- runs
 
@@ -49,7 +49,7 @@ run_one book i a old new s t order (answered, few) = record {
 }
 
 run_none : (book : Book) (m : Moment) → OfSound book (Run book [] [] m m) m.tables m.tables
-run_none book m t is = (t, is, λ sound. (sound, record { most = 0; runs = (refl, omega arith, refl); few = omega arith }))
+run_none book m t is = (t, is, refl, λ sound. (sound, record { most = 0; runs = (refl, omega arith, refl); few = omega arith }))
 
 -- ---- each by itself
 
@@ -99,8 +99,8 @@ settles_join book is js said bs m0 m1 m3 first then = record {
   each = each_join book is js said bs m0 m1 m3 first.each then.each;
   counted =
       λ all.
-      let few = first.counted (all_front (λ (i : Item). AsksForEdits book.infos i.sent → ⊥) is js all) in
-      let more = then.counted (all_back (λ (i : Item). AsksForEdits book.infos i.sent → ⊥) is js all) in
+      let few = first.counted (all_front (λ (i : Item). RestsOnPages book.infos i.sent → ⊥) is js all) in
+      let more = then.counted (all_back (λ (i : Item). RestsOnPages book.infos i.sent → ⊥) is js all) in
       let both = sum_by-append (λ (i : Item). sent_alone book i.sent) is js in
       omega (arith, few, more, both);
   get = all_get_join book.infos is js said bs m0.faults m1.faults m1.faults m3.faults first.get (omega arith) then.get;

@@ -10,7 +10,7 @@ use Rattle.desk_core.specs.declared.reply.Reply.{Reply}
 use Rattle.desk_core.specs.declared.reply.Reply.TheVariants as reply
 use Rattle.desk_core.specs.State.{State, site_at}
 use Rattle.desk_core.specs.Steps.{Request, site_of}
-use Rattle.desk_core.specs.Costs.{IsImport, IsEdit, command_judgings, most_judgings}
+use Rattle.desk_core.specs.Costs.{IsOfMany, IsOfKept, command_judgings, most_judgings}
 use Rattle.desk_core.specs.Runs as machine
 use Rattle.http_messages.specs.declared.item.Sent.{Sent}
 use Rattle.http_messages.specs.declared.item.Sent.TheVariants.{Asked, Refused}
@@ -63,7 +63,7 @@ abbrev pub sent_most : Book → State → Sent → ℕ
 sent_most book state (Refused fault) = 0
 sent_most book state (Asked m) = message_most book state (request_of book.infos m.head m.body)
 
--- and of what isn't told, unless it asks for edits
+-- and of what isn't told, unless kept pages are audited anew
 abbrev pub message_alone : Book → Result command.Asked RequestFault → ℕ
 message_alone book (Err fault) = 0
 message_alone book (Ok asked) = command_judgings book asked.command None
@@ -72,13 +72,14 @@ abbrev pub sent_alone : Book → Sent → ℕ
 sent_alone book (Refused fault) = 0
 sent_alone book (Asked m) = message_alone book (request_of book.infos m.head m.body)
 
-abbrev pub MessageEdits : Result command.Asked RequestFault → Type 0
-MessageEdits (Err fault) = ⊥
-MessageEdits (Ok asked) = IsEdit asked.command
+-- it asks for kept pages to be audited anew: for edits, or for other languages
+abbrev pub MessageRests : Result command.Asked RequestFault → Type 0
+MessageRests (Err fault) = ⊥
+MessageRests (Ok asked) = IsOfKept asked.command
 
-abbrev pub AsksForEdits : List RuleInfo → Sent → Type 0
-AsksForEdits infos (Refused fault) = ⊥
-AsksForEdits infos (Asked m) = MessageEdits (request_of infos m.head m.body)
+abbrev pub RestsOnPages : List RuleInfo → Sent → Type 0
+RestsOnPages infos (Refused fault) = ⊥
+RestsOnPages infos (Asked m) = MessageRests (request_of infos m.head m.body)
 
 -- ---- one thing, whatever is kept
 
@@ -102,10 +103,10 @@ Refuses (Replied r) = (refusal : Refusal) × (r ≡ reply.Refused refusal)
 abbrev pub TellsNoChange : Answer → Type 0
 TellsNoChange answer = is_made_answer answer ≡ false
 
--- it asks for no import
+-- it asks for nothing of many pages
 abbrev pub MessageSpares : Result command.Asked RequestFault → Type 0
 MessageSpares (Err fault) = Unit {0}
-MessageSpares (Ok asked) = IsImport asked.command → ⊥
+MessageSpares (Ok asked) = IsOfMany asked.command → ⊥
 
 abbrev pub SparesOthers : List RuleInfo → Sent → Type 0
 SparesOthers infos (Refused fault) = Unit {0}

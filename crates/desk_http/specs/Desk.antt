@@ -5,7 +5,7 @@ use Rattle.links.specs.declared.door.Door as doors
 use Rattle.links.specs.Wires.{Wire}
 use Rattle.links.specs.Doors.{Doorway}
 use Rattle.keep_core.specs.declared.keeper.Keeper as keepers
-use Rattle.keep_core.specs.Tables.{Tables}
+use Rattle.keep_core.specs.declared.tables.Tables.{Tables}
 
 -- Beside a link: the tables, where the keeper tells them, and the count of its faults; and how often each book judged.
 pub record Moment : Type 0 where

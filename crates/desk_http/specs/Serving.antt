@@ -8,7 +8,7 @@ use Rattle.streams.specs.Streams.{Wrote, WroteFront}
 use Rattle.links.specs.Wires.{Wire, extended}
 use Rattle.rule_core.specs.declared.info.RuleInfo.{RuleInfo}
 use Rattle.rule_core.specs.Books.{Book}
-use Rattle.keep_core.specs.Tables.{Tables}
+use Rattle.keep_core.specs.declared.tables.Tables.{Tables}
 use Rattle.keep_core.specs.Keeping.{Stays}
 use Rattle.desk_core.specs.declared.refusal.Refusal.{Refusal}
 use Rattle.desk_core.specs.declared.refusal.Refusal.TheVariants.{KeeperFault}
@@ -16,7 +16,7 @@ use Rattle.desk_core.specs.declared.reply.Reply.{Reply}
 use Rattle.desk_core.specs.declared.reply.Reply.TheVariants.{Refused}
 use Rattle.desk_core.specs.State.{State, state_of, site_at}
 use Rattle.desk_core.specs.Steps.{Request, site_of}
-use Rattle.desk_core.specs.Costs.{IsImport, IsEdit, command_judgings, most_judgings}
+use Rattle.desk_core.specs.Costs.{IsOfMany, IsOfKept, command_judgings, most_judgings}
 use Rattle.desk_core.specs.Runs.{Answers}
 use Rattle.desk_core.specs.Soundness.{IsSound}
 use Rattle.http_messages.specs.Talk.{going, Talk}
@@ -28,7 +28,7 @@ use Rattle.http_replies.specs.declared.answer.Answer.{Answer}
 use Rattle.http_replies.specs.declared.answer.Answer.TheVariants.{Replied}
 use Rattle.http_replies.specs.Made.{is_made}
 use Rattle.http_replies.specs.Answers.{answer_bytes}
-use Rattle.desk_http.specs.Answering.{AnswersSent, sent_judgings, message_most, sent_most, message_alone, sent_alone, MessageEdits, AsksForEdits, Gets, Refuses, TellsNoChange, SparesOthers, Runs, AllGet}
+use Rattle.desk_http.specs.Answering.{AnswersSent, sent_judgings, message_most, sent_most, message_alone, sent_alone, MessageRests, RestsOnPages, Gets, Refuses, TellsNoChange, SparesOthers, Runs, AllGet}
 use Rattle.desk_http.specs.Linking.{Exchange, WritesAnswers}
 use Rattle.desk_http.specs.Desk.{Moment}
 use Rattle.desk_http.specs.declared.link_end.LinkEnd.{LinkEnd}
@@ -36,13 +36,14 @@ use Rattle.desk_http.specs.declared.link_end.LinkEnd.TheVariants as end
 
 -- ---- what is kept
 
--- tables that were sound are sound
+-- tables that were sound are sound, and the edition is as it was
 abbrev pub KeepsSound : Book → Option Tables → Option Tables → Type 0
-KeepsSound book old new = (t : Tables) → new ≡ Some t → (s : Tables) × (old ≡ Some s) × (IsSound book s → IsSound book t)
+KeepsSound book old new = (t : Tables) → new ≡ Some t → (s : Tables) × (old ≡ Some s) × (t.edition ≡ s.edition) × (IsSound book s → IsSound book t)
 
--- tables that were sound are sound, and this holds of those before and those after
+-- tables that were sound are sound, the edition is as it was, and this holds of those before and those after
 abbrev pub OfSound : Book → (Tables → Tables → Type 0) → Option Tables → Option Tables → Type 0
-OfSound book Q old new = (t : Tables) → new ≡ Some t → (s : Tables) × (old ≡ Some s) × (IsSound book s → IsSound book t × Q s t)
+OfSound book Q old new =
+    (t : Tables) → new ≡ Some t → (s : Tables) × (old ≡ Some s) × (t.edition ≡ s.edition) × (IsSound book s → IsSound book t × Q s t)
 
 -- ---- one thing that came
 
@@ -57,24 +58,24 @@ AnsweredBy book sent answer old new s t =
     × (sum new.calls ≤ sum old.calls + sent_judgings book (state_of s) sent)
 
 -- The books judged so often at the most: where tables are told afterwards, by what was kept, sound or not; and where none are, unless
--- edits were asked for.
-pub record JudgesAtMost (most : State → ℕ) (Edits : Type 0) (alone : ℕ) (old new : Moment) : Type 0 where
+-- kept pages were audited anew.
+pub record JudgesAtMost (most : State → ℕ) (OfKept : Type 0) (alone : ℕ) (old new : Moment) : Type 0 where
   pub told : (s t : Tables) → old.tables ≡ Some s → new.tables ≡ Some t → sum new.calls ≤ sum old.calls + most (state_of s)
-  pub untold : (Edits → ⊥) → sum new.calls ≤ sum old.calls + alone
+  pub untold : (OfKept → ⊥) → sum new.calls ≤ sum old.calls + alone
 
 abbrev pub MessageJudges : Book → Result Asked RequestFault → Moment → Moment → Type 0
-MessageJudges book asked old new = JudgesAtMost (λ state. message_most book state asked) (MessageEdits asked) (message_alone book asked) old new
+MessageJudges book asked old new = JudgesAtMost (λ state. message_most book state asked) (MessageRests asked) (message_alone book asked) old new
 
 abbrev pub SentJudges : Book → Sent → Moment → Moment → Type 0
-SentJudges book sent old new = JudgesAtMost (λ state. sent_most book state sent) (AsksForEdits book.infos sent) (sent_alone book sent) old new
+SentJudges book sent old new = JudgesAtMost (λ state. sent_most book state sent) (RestsOnPages book.infos sent) (sent_alone book sent) old new
 
 abbrev pub RequestJudges : Book → Request → Moment → Moment → Type 0
 RequestJudges book request old new =
-    JudgesAtMost (λ state. most_judgings book request.command (site_at (site_of request.command) state)) (IsEdit request.command)
+    JudgesAtMost (λ state. most_judgings book request.command (site_at (site_of request.command) state)) (IsOfKept request.command)
     (command_judgings book request.command None) old new
 
 -- It was answered so: as the machine does where the tables were sound; and whatever is kept, a refusal is the one that is due,
--- an answer that tells of no change leaves the tables, judgings are bounded, and only an import uses other books than the first.
+-- an answer that tells of no change leaves the tables, judgings are bounded, and only what is of many pages uses other books than the first.
 pub record Settles (book : Book) (sent : Sent) (answer : Answer) (old new : Moment) : Type 0 where
   pub told : OfSound book (AnsweredBy book sent answer old new) old.tables new.tables
   pub counted : SentJudges book sent old new
@@ -106,7 +107,7 @@ pub record RespondsTo (book : Book) (request : Request) (closes : Bool) (old new
   pub failed : reply ≡ Refused KeeperFault → Rose old.faults new.faults
   pub refused : (refusal : Refusal) → reply ≡ Refused refusal → Stays old.tables new.tables
   pub unchanged : is_made reply ≡ false → Stays old.tables new.tables
-  pub others : (IsImport request.command → ⊥) → OthersRest old.calls new.calls
+  pub others : (IsOfMany request.command → ⊥) → OthersRest old.calls new.calls
 
 -- these bytes, or those for want of memory
 abbrev pub IsEither : List ℕ → List ℕ → List ℕ → Type 0
@@ -144,13 +145,13 @@ SettlesEach book [] (a ∷ said) old new = ⊥
 SettlesEach book (i ∷ is) [] old new = ⊥
 
 -- They were answered so: as the machine does where the tables were sound; and whatever is kept, each by itself, each gets the refusal
--- that is due, where none asks for edits judgings are bounded, where all are refused the tables stay, and where none asks for an
--- import only the first book is used.
+-- that is due, where none has kept pages audited anew judgings are bounded, where all are refused the tables stay, and where none is of
+-- many pages only the first book is used.
 pub record SettlesAll (book : Book) (items : List Item) (said : List Answer) (old new : Moment) : Type 0 where
   pub told : OfSound book (Run book items said old new) old.tables new.tables
   pub each : SettlesEach book items said old new
   pub counted :
-      AllByRecursion (λ (i : Item). AsksForEdits book.infos i.sent → ⊥) items
+      AllByRecursion (λ (i : Item). RestsOnPages book.infos i.sent → ⊥) items
       → sum new.calls ≤ sum old.calls + sum_by (λ (i : Item). sent_alone book i.sent) items
   pub get : AllGet book.infos items said old.faults new.faults
   pub refused : AllByRecursion Refuses said → Stays old.tables new.tables

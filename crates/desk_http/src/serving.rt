@@ -27,7 +27,7 @@ use streams::Failed;
 /// keeper tell what they hold and the tables were sound, they are sound, and the messages of these links, one
 /// link after the other, were answered by the machine, each over the link that brought it: what was written to
 /// each is told as by `serve_link`. All of them cost no more judgings than the machine allows for each request.
-/// Whatever is kept, of each by itself is said what `serve_link` says.
+/// Whatever is kept, of each by itself is said what `serve_link` says, and the edition stays.
 ///
 /// `Failed` comes only where the door met a fault, and Ok only where it met none.
 pub fn serve<R: Threads + Sync, D: Door, K: Keeper, B: RuleBook + Send>(
@@ -88,8 +88,9 @@ fn serve_next<R: Threads + Sync, D: Door, K: Keeper, B: RuleBook + Send>(
 /// connection, and what is written are answers to its messages, in order; at a fault of the link a front of
 /// them. Where the keeper tells its tables too and they were sound, they are sound, and the answers are the
 /// machine's. Sound or not, a head that is refused and a message that makes no request get their refusals. Whatever
-/// its neighbours are, one that is refused leaves the tables, one that asks for no import uses only the first book, and the
-/// judgings of each are bounded: by the tables where they are told after it, and else unless it asks for edits.
+/// its neighbours are, one that is refused leaves the tables, one that is of at most one page uses only the first book, and
+/// the judgings of each are bounded: by the tables where they are told after it, and else unless it has kept pages audited
+/// anew. The edition stays.
 ///
 /// `LinkFault` comes only where the link met a fault, and every other end only where it met none. Of a message
 /// that can't be held for want of memory the machine hears nothing: it is answered so, and the link is closed.

@@ -1,14 +1,14 @@
 -- What a run does, from why it was to end and what it has written.
-use Rattle.std.proofs.Common.{◌≡◌, ℕ, ◌<◌, ◌≤◌, ◌⊎◌, inl, inr, Bool, true, false, if◌then◌else◌, List, [], ◌∷◌, length, Some, None, refl, sym, ap, ◌∙◌, subst, arith}
+use Rattle.std.proofs.Common.{◌≡◌, ℕ, ◌<◌, ◌≤◌, ◌⊎◌, inl, inr, Bool, true, false, if◌then◌else◌, List, [], ◌∷◌, length, sum, Some, None, refl, sym, ap, ◌∙◌, subst, arith}
 use Rattle.std.proofs.lemmas.Option.{none-some, same_Some}
-use Rattle.counts.specs.Counts.{StoodStill}
+use Rattle.counts.specs.Counts.{Rose, StoodStill}
 use Rattle.counts.proofs.CountLaws.{still_not_risen}
 use Rattle.snap_tree.specs.Trees.{Document}
 use Rattle.rule_core.specs.Books.{Book}
 use Rattle.audit_run.specs.declared.auditing.TheConstants.{MOST_READ}
 use Rattle.desk_words.specs.Words.{command_in}
 use Rattle.desk_words.specs.declared.command.ProgramCommand.{ProgramCommand}
-use Rattle.desk_words.specs.declared.command.ProgramCommand.TheVariants.{Audit, Serve, Generate, Show}
+use Rattle.desk_words.specs.declared.command.ProgramCommand.TheVariants.{Audit, Serve, Generate, Cases, Show}
 use Rattle.desk_words.specs.declared.command.Serving.{Serving}
 use Rattle.desk_words.specs.declared.command.Generating.{Generating}
 use Rattle.desk_words.specs.declared.command.Showing.{Showing}
@@ -19,14 +19,17 @@ use Rattle.streams.specs.Told.{Outside}
 use Rattle.streams.specs.Streams.{ReadsAtMost, NoFaults, BrokeOff}
 use Rattle.audit_run.specs.Telling.{Writing, IsWritten, Tells}
 use Rattle.audit_run.specs.Audit.{Reports, AuditCause, AuditComplete, TellsPage, TellsFault, IsReported}
-use Rattle.desk_http.specs.Desk.{Desk}
-use Rattle.desk_run.specs.Serve.{IsDeaf, IsServed, ServeCause, ServeBound, ServeComplete}
+use Rattle.links.specs.Doors.{Doorway}
+use Rattle.desk_http.specs.Desk.{Desk, beside_door}
+use Rattle.desk_run.specs.Serve.{ServeCause, ServeComplete}
 use Rattle.desk_run.specs.Generate.{GenerateCause}
+use Rattle.desk_run.specs.Cases.{CasesCause}
 use Rattle.desk_run.specs.Show.{ShowCause}
 use Rattle.desk_run.specs.Commands.{CommandCause, CommandBound, CommandComplete}
-use Rattle.desk_run.specs.Run.{Cause, IsComplete, Runs}
+use Rattle.desk_run.specs.Run.{Cause, Runs}
 use Rattle.audit_run.proofs.Causes.{same_page, refused, of_no_snapshot}
 use Rattle.desk_run.proofs.Written.{no_break, all_written, ends_in}
+use Rattle.desk_run.proofs.CaseCauses.{cases_bound, cases_complete}
 use Rattle.desk_run.proofs.Outputs.{generate_bound, generate_complete, show_bound, show_complete}
 
 -- ---- which statuses can come
@@ -108,15 +111,15 @@ audit_complete book old new planned status writing (inr cause) none is written =
 
 -- it writes nothing on standard output
 no_output : {L : Type 0} (book : Book) (serving : Serving) (before now : Desk L) (planned : Status) (writing : Writing) → ServeCause book serving before now planned writing → writing.output ≡ []
-no_output book serving before now Done writing cause = ap (λ (w : Writing). w.output) cause.2
-no_output book serving before now ListenFault writing cause = ap (λ (w : Writing). w.output) cause.2
+no_output book serving before now Done writing cause = ap (λ (w : Writing). w.output) cause.2.2
+no_output book serving before now ListenFault writing cause = ap (λ (w : Writing). w.output) cause.2.2
+no_output book serving before now StoreFault writing cause = ap (λ (w : Writing). w.output) cause.1
+no_output book serving before now NoMemory writing cause = ap (λ (w : Writing). w.output) cause.1
 no_output book serving before now UsageFault writing cause = ap (λ (w : Writing). w.output) cause.2
 no_output book serving before now SomeFailed writing cause = absurd cause
 no_output book serving before now ReadFault writing cause = absurd cause
 no_output book serving before now WriteFault writing cause = absurd cause
 no_output book serving before now SnapshotFault writing cause = absurd cause
-no_output book serving before now StoreFault writing cause = absurd cause
-no_output book serving before now NoMemory writing cause = absurd cause
 
 -- so it ends as planned where standard error meets no fault
 as_planned : (old new : Outside) (planned status : Status) (writing : Writing) → writing.output ≡ [] → StoodStill old.err.faults new.err.faults → Tells planned writing old.out new.out old.err new.err status → status ≡ planned
@@ -129,31 +132,29 @@ as_planned old new planned status writing none still (inr (is, inl cut)) =
 as_planned old new planned status writing none still (inr (is, inr cut)) = absurd (no_break old.err new.err writing.line still cut.err_broke)
 
 too_many : {L : Type 0} (book : Book) (serving : Serving) (before now : Desk L) (planned : Status) (writing : Writing) → ServeCause book serving before now planned writing → length before.calls < serving.workers → planned ≡ UsageFault
-too_many book serving before now Done writing cause many = absurd (omega (arith, cause.0.enough))
-too_many book serving before now ListenFault writing cause many = either cause.1
-  where
-    either : IsDeaf serving before now ⊎ IsServed book serving before now → ListenFault ≡ UsageFault
-    either (inl deaf) = absurd (omega (arith, deaf.enough))
-    either (inr served) = absurd (omega (arith, served.enough))
+too_many book serving before now Done writing cause many = absurd (omega (arith, cause.1.enough))
+too_many book serving before now ListenFault writing cause many = absurd (omega (arith, cause.1.enough))
+too_many book serving before now StoreFault writing cause many = absurd (omega (arith, cause.0.enough))
+too_many book serving before now NoMemory writing cause many = absurd (omega (arith, cause.0.enough))
 too_many book serving before now UsageFault writing cause many = refl
 too_many book serving before now SomeFailed writing cause many = absurd cause
 too_many book serving before now ReadFault writing cause many = absurd cause
 too_many book serving before now WriteFault writing cause many = absurd cause
 too_many book serving before now SnapshotFault writing cause many = absurd cause
-too_many book serving before now StoreFault writing cause many = absurd cause
-too_many book serving before now NoMemory writing cause many = absurd cause
 
-to_the_end : {L : Type 0} (book : Book) (serving : Serving) (before now : Desk L) (planned : Status) (writing : Writing) → ServeCause book serving before now planned writing → StoodStill before.door.faults now.door.faults → serving.workers ≤ length before.calls →
-    planned ≡ Done
-to_the_end book serving before now Done writing cause still few = refl
-to_the_end book serving before now ListenFault writing cause still few = absurd (still_not_risen before.door.faults now.door.faults still cause.0)
-to_the_end book serving before now UsageFault writing cause still few = absurd (omega (arith, cause.0))
-to_the_end book serving before now SomeFailed writing cause still few = absurd cause
-to_the_end book serving before now ReadFault writing cause still few = absurd cause
-to_the_end book serving before now WriteFault writing cause still few = absurd cause
-to_the_end book serving before now SnapshotFault writing cause still few = absurd cause
-to_the_end book serving before now StoreFault writing cause still few = absurd cause
-to_the_end book serving before now NoMemory writing cause still few = absurd cause
+to_the_end : {L : Type 0} (book : Book) (serving : Serving) (before now : Desk L) (planned : Status) (writing : Writing) → ServeCause book serving before now planned writing → StoodStill before.door.faults now.door.faults → StoodStill before.faults now.faults →
+    serving.workers ≤ length before.calls → OneOf (Done ∷ NoMemory ∷ []) planned
+to_the_end book serving before now Done writing cause still kept few = inl refl
+to_the_end book serving before now NoMemory writing cause still kept few = inr (inl refl)
+to_the_end book serving before now ListenFault writing cause still kept few =
+    let same : cause.0.door.faults ≡ before.door.faults = ap (λ (d : Doorway). d.faults) cause.1.same.door in
+    absurd (still_not_risen before.door.faults now.door.faults still (subst (λ n. Rose n now.door.faults) same cause.2.0))
+to_the_end book serving before now StoreFault writing cause still kept few = absurd (still_not_risen before.faults now.faults kept (cause.0.refreshed.faults.failed refl))
+to_the_end book serving before now UsageFault writing cause still kept few = absurd (omega (arith, cause.0))
+to_the_end book serving before now SomeFailed writing cause still kept few = absurd cause
+to_the_end book serving before now ReadFault writing cause still kept few = absurd cause
+to_the_end book serving before now WriteFault writing cause still kept few = absurd cause
+to_the_end book serving before now SnapshotFault writing cause still kept few = absurd cause
 
 serve_bound : {L : Type 0} (book : Book) (serving : Serving) (before now : Desk L) (planned : Status) (writing : Writing) → (planned ≡ NoMemory) ⊎ ServeCause book serving before now planned writing → length before.calls < serving.workers →
     OneOf (UsageFault ∷ NoMemory ∷ []) planned
@@ -162,9 +163,9 @@ serve_bound book serving before now planned writing (inr cause) many = inl (too_
 
 serve_complete : {L : Type 0} (book : Book) (serving : Serving) (old new : Outside) (before now : Desk L) (planned status : Status) (writing : Writing) → (planned ≡ NoMemory) ⊎ ServeCause book serving before now planned writing → writing.output ≡ [] →
     StoodStill old.err.faults new.err.faults → Tells planned writing old.out new.out old.err new.err status → ServeComplete serving before now status
-serve_complete book serving old new before now planned status writing (inl memory) none err told still few = inr (inl (as_planned old new planned status writing none err told ∙ memory))
-serve_complete book serving old new before now planned status writing (inr cause) none err told still few =
-    inl (as_planned old new planned status writing none err told ∙ to_the_end book serving before now planned writing cause still few)
+serve_complete book serving old new before now planned status writing (inl memory) none err told still kept few = inr (inl (as_planned old new planned status writing none err told ∙ memory))
+serve_complete book serving old new before now planned status writing (inr cause) none err told still kept few =
+    subst (OneOf (Done ∷ NoMemory ∷ [])) (sym (as_planned old new planned status writing none err told)) (to_the_end book serving before now planned writing cause still kept few)
 
 -- ---- a run
 
@@ -192,21 +193,28 @@ generates : {L : Type 0} (book : Book) (g : Generating) (old new : Outside) (bef
 generates book g old new before now planned writing (inl memory) = inl memory
 generates book g old new before now planned writing (inr cause) = inr cause.1.0
 
+tries : {L : Type 0} (book : Book) (old new : Outside) (before now : Desk L) (planned : Status) (writing : Writing) → (planned ≡ NoMemory) ⊎ CommandCause Cases book old.input new.input before now planned writing →
+    (planned ≡ NoMemory) ⊎ CasesCause book old.input new.input (sum before.calls) (sum now.calls) planned writing
+tries book old new before now planned writing (inl memory) = inl memory
+tries book old new before now planned writing (inr cause) = inr cause.0
+
 shows : {L : Type 0} (book : Book) (s : Showing) (old new : Outside) (before now : Desk L) (planned : Status) (writing : Writing) → (planned ≡ NoMemory) ⊎ CommandCause (Show s) book old.input new.input before now planned writing →
-    (planned ≡ NoMemory) ⊎ ShowCause book s now.tables before.faults now.faults planned writing
+    (planned ≡ NoMemory) ⊎ ShowCause book s (beside_door before) (beside_door now) planned writing
 shows book s old new before now planned writing (inl memory) = inl memory
 shows book s old new before now planned writing (inr cause) = inr cause.1.0
 
 command_bound : {L : Type 0} (book : Book) (words : List (List ℕ)) (old new : Outside) (before now : Desk L) (planned status : Status) (writing : Writing) → Cause book words old.input new.input before now planned writing →
-    (status ≡ planned) ⊎ (status ≡ WriteFault) → (command : ProgramCommand) → command_in words ≡ Some command → CommandBound command old before status
+    (status ≡ planned) ⊎ (status ≡ WriteFault) → (command : ProgramCommand) → command_in words ≡ Some command → CommandBound command book old before status
 command_bound book words old new before now planned status writing cause in_ Audit is =
     λ tells. bound_refusal planned status (audit_bound book old new planned writing (audits book old new before now planned writing (cause_of book words old new before now planned writing cause Audit is)) tells) in_
 command_bound book words old new before now planned status writing cause in_ (Serve serving) is =
     λ many. bound_words planned status (serve_bound book serving before now planned writing (serves book serving old new before now planned writing (cause_of book words old new before now planned writing cause (Serve serving) is)) many) in_
 command_bound book words old new before now planned status writing cause in_ (Generate g) is =
     generate_bound book g planned status writing (generates book g old new before now planned writing (cause_of book words old new before now planned writing cause (Generate g) is)) in_
+command_bound book words old new before now planned status writing cause in_ Cases is =
+    cases_bound book old.input new.input (sum before.calls) (sum now.calls) planned status writing (tries book old new before now planned writing (cause_of book words old new before now planned writing cause Cases is)) in_
 command_bound book words old new before now planned status writing cause in_ (Show s) is =
-    show_bound book s now.tables before.faults now.faults planned status writing (shows book s old new before now planned writing (cause_of book words old new before now planned writing cause (Show s) is)) in_
+    show_bound book s (beside_door before) (beside_door now) planned status writing (shows book s old new before now planned writing (cause_of book words old new before now planned writing cause (Show s) is)) in_
 
 command_complete : {L : Type 0} (book : Book) (words : List (List ℕ)) (old new : Outside) (before now : Desk L) (planned status : Status) (writing : Writing) → Cause book words old.input new.input before now planned writing →
     Tells planned writing old.out new.out old.err new.err status → (command : ProgramCommand) → command_in words ≡ Some command → CommandComplete command book old new before now status
@@ -219,9 +227,12 @@ command_complete book words old new before now planned status writing cause told
 command_complete book words old new before now planned status writing cause told (Generate g) is =
     λ none. let written = all_written old new planned status writing none told in
     generate_complete book g old new planned status writing (generates book g old new before now planned writing (cause_of book words old new before now planned writing cause (Generate g) is)) written.0 written.1
+command_complete book words old new before now planned status writing cause told Cases is =
+    λ none. let written = all_written old new planned status writing none told in
+    cases_complete book old new (sum before.calls) (sum now.calls) planned status writing (tries book old new before now planned writing (cause_of book words old new before now planned writing cause Cases is)) none written.0 written.1
 command_complete book words old new before now planned status writing cause told (Show s) is =
     λ none still t has. let written = all_written old new planned status writing none told in
-    show_complete book s now.tables t has before.faults now.faults still old new planned status writing (shows book s old new before now planned writing (cause_of book words old new before now planned writing cause (Show s) is)) written.0 written.1
+    show_complete book s (beside_door before) (beside_door now) t has still old new planned status writing (shows book s old new before now planned writing (cause_of book words old new before now planned writing cause (Show s) is)) written.0 written.1
 
 pub runs : {L : Type 0} (book : Book) (words : List (List ℕ)) (old new : Outside) (before now : Desk L) (planned status : Status) (writing : Writing) (number : ℕ) → Cause book words old.input new.input before now planned writing →
     old.input.faults ≤ new.input.faults → length now.calls ≡ length before.calls → ReadsAtMost MOST_READ old.input new.input → Tells planned writing old.out new.out old.err new.err status → number ≡ status_number status → Runs book words old new before now number

@@ -1,7 +1,10 @@
 pub mod Written
 pub mod Outputs
+pub mod CaseCauses
 pub mod Served
 pub mod Spared
+pub mod FirstBooks
+pub mod Shown
 pub mod Judged
 pub mod Endings
 pub mod Lent

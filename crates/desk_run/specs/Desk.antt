@@ -6,6 +6,11 @@ use Rattle.desk_http.specs.Desk.{Desk}
 abbrev pub with_first : {L : Type 0} → ℕ → Desk L → Desk L
 with_first n desk = record desk { calls = take n desk.calls }
 
+-- the door is as it was
+pub record SameDoor {L : Type 0} (old new : Desk L) : Type 0 where
+  pub door : new.door ≡ old.door
+  pub log : new.log ≡ old.log
+
 -- the books past the first n judged nothing
 abbrev pub Spares : ℕ → List ℕ → List ℕ → Type 0
 Spares n old new = drop n new ≡ drop n old

@@ -1,6 +1,8 @@
 pub mod Desk
+pub mod Refreshed
 pub mod Serve
 pub mod Generate
+pub mod Cases
 pub mod Show
 pub mod Commands
 pub mod Run

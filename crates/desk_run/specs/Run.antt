@@ -49,9 +49,9 @@ Cause book words old new before now status writing =
     HasOtherWords words old new before now status writing ⊎ (WantsMemory old new before now status writing ⊎ HasCommand book words old new before now status writing)
 
 -- which statuses can come, whatever the objects outside do
-pub record IsBounded {L : Type 0} (words : List (List ℕ)) (old : Outside) (before : Desk L) (status : Status) : Type 0 where
+pub record IsBounded {L : Type 0} (book : Book) (words : List (List ℕ)) (old : Outside) (before : Desk L) (status : Status) : Type 0 where
   pub other_words : command_in words ≡ None → OneOf (UsageFault ∷ WriteFault ∷ NoMemory ∷ []) status
-  pub command : (command : ProgramCommand) → command_in words ≡ Some command → CommandBound command old before status
+  pub command : (command : ProgramCommand) → command_in words ≡ Some command → CommandBound command book old before status
 
 -- which statuses can come without faults
 pub record IsComplete {L : Type 0} (book : Book) (words : List (List ℕ)) (old new : Outside) (before now : Desk L) (status : Status) : Type 0 where
@@ -72,5 +72,5 @@ pub record Runs {L : Type 0} (book : Book) (words : List (List ℕ)) (old new : 
   pub never_falls : old.input.faults ≤ new.input.faults
   pub same_books : length now.calls ≡ length before.calls
   pub stops : ReadsAtMost MOST_READ old.input new.input
-  pub bounded : IsBounded words old before status
+  pub bounded : IsBounded book words old before status
   pub complete : IsComplete book words old new before now status

@@ -5,12 +5,16 @@
 
 mod arguments;
 mod books;
+mod cases;
 mod generate;
+mod refreshing;
 mod running;
 mod serve;
 mod show;
 
-pub use arguments::{StorePlace, Task, read_arguments, store_named, words_in};
+pub use arguments::{
+    BookName, StorePlace, Task, book_named, read_arguments, store_named, words_in,
+};
 pub use audit_run::{Found, Status, fault_line, status_of, tell};
-pub use books::made_books;
+pub use books::{MadeBook, made_books};
 pub use running::run;

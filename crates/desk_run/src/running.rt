@@ -7,6 +7,7 @@ ghost use Rattle.desk_http.specs.Desk.{desk_of};
 ghost use Rattle.desk_run.specs.Desk.{Spares};
 ghost use Rattle.desk_run.specs.Run.{outside_of, Cause, Runs};
 
+use crate::cases::cases;
 use crate::generate::generate;
 use crate::serve::serve;
 use crate::show::show;
@@ -22,9 +23,13 @@ use streams::{Sink, Source};
 
 /// Does what the words say, and gives the number of the status.
 ///
+/// `serve`, `report`, `earl` and `csv` first see to it that what is kept was found by the rules of the book, as `refresh`
+/// has it: `serve` by the books that it serves with, the others by all.
+///
 /// `audit` reads one snapshot from `input` to its end, judges it by the first book, and writes its text report
 /// on `out`. `serve` listens at the door and serves its connections over the keeper, with as many of the
-/// books as it has workers. `generate` makes pages, audits them with all books, and writes one line. `report`,
+/// books as it has workers. `generate` makes pages, audits them with all books, and writes one line. `cases` reads a list
+/// of test cases from `input` to its end, audits their pages with all books, and writes the table of their grades. `report`,
 /// `earl` and `csv` write what the keeper has of a site. There is one book or more, and the door doesn't listen
 /// yet.
 pub fn run<R: Threads + Sync, I: Source, O: Sink, E: Sink, K: Keeper, D: Door, B: RuleBook + Send>(
@@ -74,7 +79,8 @@ fn find<R: Threads + Sync, I: Source, K: Keeper, D: Door, B: RuleBook + Send>(
         Ok(Some(ProgramCommand::Audit)) => audit_by_first(alloc, input, books),
         Ok(Some(ProgramCommand::Serve(serving))) => serve(rt, alloc, serving, keeper, door, books),
         Ok(Some(ProgramCommand::Generate(generating))) => generate(rt, alloc, generating, books),
-        Ok(Some(ProgramCommand::Show(showing))) => show(alloc, &showing, keeper, &books[0]),
+        Ok(Some(ProgramCommand::Cases)) => cases(rt, alloc, input, books),
+        Ok(Some(ProgramCommand::Show(showing))) => show(rt, alloc, &showing, keeper, books),
         Ok(None) => Found::Usage,
         Err(OutOfMemory) => Found::NoMemory,
     }

@@ -5,19 +5,20 @@ ghost use Rattle.desk_http.specs.Serving.{KeepsSound};
 ghost use Rattle.desk_http.specs.Doors.{ServesDoor};
 ghost use Rattle.audit_run.specs.Telling.{status_of, writing_of};
 ghost use Rattle.desk_run.specs.Desk.{with_first, Spares};
-ghost use Rattle.desk_run.specs.Serve.{ServeCause};
+ghost use Rattle.desk_run.specs.Serve.{FreshCause, ServeCause};
 
+use crate::refreshing::refresh_by;
 use audit_run::Found;
 use desk_words::Serving;
-use keep_core::Keeper;
+use keep_core::{KeepFault, Keeper};
 use links::Door;
 use rule_core::RuleBook;
 use std::alloc::Global;
 use std::thread::Threads;
 use streams::Failed;
 
-/// Listens at a port for a number of connections, and serves them with the first books, as many as there
-/// are workers.
+/// Refreshes what is kept, listens at a port for a number of connections, and serves them, all with the first books,
+/// as many as there are workers.
 pub fn serve<R: Threads + Sync, K: Keeper, D: Door, B: RuleBook + Send>(
     rt: &R,
     alloc: Global,
@@ -36,6 +37,30 @@ pub fn serve<R: Threads + Sync, K: Keeper, D: Door, B: RuleBook + Send>(
     if serving.workers > books.len() as u64 {
         return Found::Usage;
     }
+    match refresh_by(rt, alloc, serving.workers as usize, keeper, books) {
+        Ok(()) => serve_fresh(rt, alloc, serving, keeper, door, books),
+        Err(KeepFault::Failed) => Found::StoreFault,
+        Err(KeepFault::OutOfMemory) => Found::NoMemory,
+    }
+}
+
+// Listens and serves, once what is kept was refreshed.
+fn serve_fresh<R: Threads + Sync, K: Keeper, D: Door, B: RuleBook + Send>(
+    rt: &R,
+    alloc: Global,
+    serving: Serving,
+    keeper: &mut K,
+    door: &mut D,
+    books: &mut [B],
+) -> Found
+    requires workers { 1 ≤ serving.workers }
+    requires enough { serving.workers ≤ length books.old }
+    requires unheard { (D.told door.old).heard ≡ None }
+    ensures { FreshCause B.book serving
+        (desk_of D.Door D.Conn.Link K.Keeper B.calls door.old keeper.old books.old)
+        (desk_of D.Door D.Conn.Link K.Keeper B.calls door.new keeper.new books.new)
+        (status_of result) (writing_of result) }
+{
     let Ok(()) = door.listen(serving.port, serving.connections) else {
         return Found::ListenFault;
     };

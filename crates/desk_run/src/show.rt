@@ -1,8 +1,10 @@
-ghost use Rattle.std.specs.Prelude.{◌≡◌, ◌≤◌, IfOk};
-ghost use Rattle.keep_core.specs.Keeping.{Stays, Reads, CountsFaults};
+ghost use Rattle.std.specs.Prelude.{◌≡◌, ◌<◌, length, IfOk};
+ghost use Rattle.keep_core.specs.Keeping.{Reads, CountsFaults};
+ghost use Rattle.desk_http.specs.Desk.{moment_of};
 ghost use Rattle.audit_run.specs.Telling.{status_of, writing_of};
-ghost use Rattle.desk_run.specs.Show.{form_bytes, shown_in, ShowCause};
+ghost use Rattle.desk_run.specs.Show.{form_bytes, shown_in, ShowCause, ShowsFresh};
 
+use crate::refreshing::refresh_by;
 use audit_run::Found;
 use desk_words::{Showing, SiteForm};
 use judge_core::infos_of;
@@ -12,20 +14,23 @@ use reports::{csv_rows, earl, site_report};
 use rule_core::RuleBook;
 use snap_tree::{List, OutOfMemory};
 use std::alloc::Global;
+use std::thread::Threads;
 
-/// What is kept of a site, in the form that is wanted, by the infos of a book.
-pub fn show<K: Keeper, B: RuleBook>(
+/// What is kept of a site, in the form that is wanted, by the infos of a book, once it was refreshed by all books.
+pub fn show<R: Threads + Sync, K: Keeper, B: RuleBook + Send>(
+    rt: &R,
     alloc: Global,
     showing: &Showing,
     keeper: &mut K,
-    book: &B,
+    books: &mut [B],
 ) -> Found
-    ensures cause { ShowCause B.book showing.now (K.tables keeper.new) (K.faults keeper.old) (K.faults keeper.new)
+    requires { 0 < length books.old }
+    ensures { ShowCause B.book showing.now
+        (moment_of K.Keeper B.calls keeper.old books.old) (moment_of K.Keeper B.calls keeper.new books.new)
         (status_of result) (writing_of result) }
-    ensures stays { Stays (K.tables keeper.old) (K.tables keeper.new) }
-    ensures never_falls { K.faults keeper.old ≤ K.faults keeper.new }
 {
-    match shown(alloc, showing, keeper, book) {
+    let workers = books.len();
+    match shown_fresh(rt, alloc, showing, keeper, workers, books) {
         Ok(Some(output)) => Found::Finished {
             output,
             failed: false,
@@ -34,6 +39,24 @@ pub fn show<K: Keeper, B: RuleBook>(
         Err(KeepFault::Failed) => Found::StoreFault,
         Err(KeepFault::OutOfMemory) => Found::NoMemory,
     }
+}
+
+// The same, or why there is nothing to be written.
+fn shown_fresh<R: Threads + Sync, K: Keeper, B: RuleBook + Send>(
+    rt: &R,
+    alloc: Global,
+    showing: &Showing,
+    keeper: &mut K,
+    workers: usize,
+    books: &mut [B],
+) -> Result<Option<List<u8>>, KeepFault>
+    requires some { 0 < length books.old }
+    requires all { workers ≡ length books.old }
+    ensures { ShowsFresh B.book showing.now
+        (moment_of K.Keeper B.calls keeper.old books.old) (moment_of K.Keeper B.calls keeper.new books.new) result }
+{
+    refresh_by(rt, alloc, workers, keeper, books)?;
+    shown(alloc, showing, keeper, &books[0])
 }
 
 // What is to be written of a site; None where it isn't kept.

@@ -10,7 +10,7 @@ use Rattle.clap.specs.Takes.{default_passes}
 use Rattle.clap.specs.declared.builder.action.ArgAction.TheVariants.{Set}
 use Rattle.clap.specs.declared.builder.value_parser.ValueParser.TheVariants.{Unsigned}
 use Rattle.desk_words.specs.declared.command.ProgramCommand.{ProgramCommand}
-use Rattle.desk_words.specs.declared.command.ProgramCommand.TheVariants.{Audit, Serve, Generate, Show}
+use Rattle.desk_words.specs.declared.command.ProgramCommand.TheVariants.{Audit, Serve, Generate, Cases, Show}
 use Rattle.desk_words.specs.declared.command.Serving.{Serving}
 use Rattle.desk_words.specs.declared.command.Generating.{Generating}
 use Rattle.desk_words.specs.declared.command.Showing.{Showing}
@@ -41,6 +41,9 @@ serve_app =
 
 abbrev pub generate_app : App
 generate_app = with_rule (with_rule (new_app (codes "generate")) (number_place (codes "number") 0 1_000_000)) (number_place (codes "pages") 1 64)
+
+abbrev pub cases_app : App
+cases_app = new_app (codes "cases")
 
 -- a command of this name that shows a site
 abbrev pub show_app : List ℕ → App
@@ -83,6 +86,9 @@ serve_in words = option_map (λ rows. Serve (serving_of rows)) (matched serve_ap
 abbrev pub generate_in : List (List ℕ) → Option ProgramCommand
 generate_in words = option_map (λ rows. Generate (generating_of rows)) (matched generate_app words)
 
+abbrev pub cases_in : List (List ℕ) → Option ProgramCommand
+cases_in words = option_map (λ rows. Cases) (matched cases_app words)
+
 abbrev pub show_in : SiteForm → List (List ℕ) → Option ProgramCommand
 show_in form words = option_map (λ rows. Show (showing_of form rows)) (matched (show_app (form_word form)) words)
 
@@ -101,6 +107,7 @@ named (Some name) words =
     if bytes_eq name (codes "audit") then audit_in words
     else if bytes_eq name (codes "serve") then serve_in words
     else if bytes_eq name (codes "generate") then generate_in words
+    else if bytes_eq name (codes "cases") then cases_in words
     else other_in name words
 
 -- the command that the words are, by the first of them

@@ -30,6 +30,9 @@ pub enum ProgramCommand {
     /// Makes pages, audits them with all books, and writes one line of what they come to. Its words are
     /// `generate N P`.
     Generate(Generating),
+    /// Reads a list of test cases to its end, audits their pages with all books, and writes a table of how the outcomes
+    /// compare with the expected ones. Its words are `cases` alone.
+    Cases,
     /// Writes what is kept of a site. Its words are `report S`, `earl S` or `csv S`.
     Show(Showing),
 }

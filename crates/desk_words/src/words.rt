@@ -1,6 +1,6 @@
 ghost use Rattle.std.specs.Prelude.{◌≡◌, IfOk, IfSome};
 ghost use Rattle.std.specs.Str.{bytes_eq};
-ghost use Rattle.desk_words.specs.Words.{command_in, audit_in, serve_in, generate_in, show_in, other_in, HasWorkers};
+ghost use Rattle.desk_words.specs.Words.{command_in, audit_in, serve_in, generate_in, cases_in, show_in, other_in, HasWorkers};
 
 use crate::command::{ProgramCommand, Showing, SiteForm};
 use crate::parsing::{parsed, texts_of};
@@ -20,6 +20,7 @@ pub fn command_in(alloc: Global, words: &[Text]) -> Result<Option<ProgramCommand
         Some(name) if is_text(name, "audit") => audit_in(alloc, words),
         Some(name) if is_text(name, "serve") => serve_in(alloc, words),
         Some(name) if is_text(name, "generate") => generate_in(alloc, words),
+        Some(name) if is_text(name, "cases") => cases_in(alloc, words),
         Some(name) => other_in(alloc, name, words),
         None => Ok(None),
     }
@@ -80,6 +81,17 @@ fn generate_in(alloc: Global, words: &[Text]) -> Result<Option<ProgramCommand>, 
     let texts = texts_of(alloc, words)?;
     match parsed(generate_command(alloc)?, texts.as_slice())? {
         Some(matches) => Ok(Some(ProgramCommand::Generate(generating_of(&matches)?))),
+        None => Ok(None),
+    }
+}
+
+fn cases_in(alloc: Global, words: &[Text]) -> Result<Option<ProgramCommand>, OutOfMemory>
+    ensures exact { IfOk result (λ c. c ≡ cases_in words.now) }
+    ensures workers { IfOk result (λ c. IfSome c HasWorkers) }
+{
+    let texts = texts_of(alloc, words)?;
+    match parsed(clap::Command::new(alloc, "cases"), texts.as_slice())? {
+        Some(_) => Ok(Some(ProgramCommand::Cases)),
         None => Ok(None),
     }
 }

@@ -1,7 +1,7 @@
 ghost use Rattle.std.specs.Prelude.{◌≡◌, true, false, IfSome, IfOk, MatchResult};
 ghost use Rattle.keep_core.specs.declared.fault.KeepFault.TheVariants as keep;
-ghost use Rattle.keep_core.specs.Tables.{site_of, page_of, heads_of, judgements_of, outcomes_of};
-ghost use Rattle.keep_core.specs.Fits.{Fits, FitsSite, FitsPage, FitsHeads, IsThere};
+ghost use Rattle.keep_core.specs.Tables.{edition_of, sites_of, site_of, page_of, heads_of, judgements_of, outcomes_of};
+ghost use Rattle.keep_core.specs.Fits.{Fits, FitsSite, FitsPage, FitsHeads, FitNames, IsThere};
 ghost use Rattle.keep_core.specs.Keeping.{Reads, Makes, CountsFaults};
 ghost use Rattle.fixture_failing_keeper.specs.Failing.{Failing, all_faults, fails_next, after_failed, after_passed, FailsByList};
 
@@ -75,6 +75,25 @@ impl<K: Keeper> Keeper for FailingKeeper<K> {
     ghost tables = { λ k. K.tables k.inner };
 
     ghost faults = { all_faults K.faults };
+
+    fn edition(&mut self, alloc: Global) -> Result<u64, KeepFault>
+        ensures reads { Reads edition_of (K.tables self.old.inner) (K.tables self.new.inner) result }
+        ensures faults { CountsFaults (all_faults K.faults self.old) (all_faults K.faults self.new) result }
+        ensures fails { FailsByList K.faults self.old self.new result }
+    {
+        self.count_call()?;
+        self.inner.edition(alloc)
+    }
+
+    fn sites(&mut self, alloc: Global) -> Result<List<Text>, KeepFault>
+        ensures reads { Reads sites_of (K.tables self.old.inner) (K.tables self.new.inner) result }
+        ensures fits { IfOk result FitNames }
+        ensures faults { CountsFaults (all_faults K.faults self.old) (all_faults K.faults self.new) result }
+        ensures fails { FailsByList K.faults self.old self.new result }
+    {
+        self.count_call()?;
+        self.inner.sites(alloc)
+    }
 
     fn site(&mut self, alloc: Global, site: &Text) -> Result<Option<Site>, KeepFault>
         ensures reads { Reads (site_of site.now) (K.tables self.old.inner) (K.tables self.new.inner) result }

@@ -1,5 +1,6 @@
 //! Books that can be made anew.
 
+use book_forty::Forty;
 use fixture_rules::Marks;
 use fixture_words::Wrong;
 use rule_book::Thirty;
@@ -14,6 +15,12 @@ pub trait Made: RuleBook + Send + Drop {
 impl Made for Thirty {
     fn made() -> Self {
         Thirty::new()
+    }
+}
+
+impl Made for Forty {
+    fn made() -> Self {
+        Forty::new()
     }
 }
 

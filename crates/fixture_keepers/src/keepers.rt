@@ -75,7 +75,7 @@ pub fn store_keeper(alloc: Global, setting: &Setting) -> Result<SqlKeeper<MemSto
     }
 }
 
-/// A keeper over an empty store in memory, of which calls fail: those of the setting, and this one.
+/// A keeper over a store in memory, which is ready, of which calls fail: those of the setting, and this one.
 pub fn failing_store_keeper(
     alloc: Global,
     setting: &Setting,
@@ -83,7 +83,9 @@ pub fn failing_store_keeper(
 ) -> Result<FailingStore, Wrong> {
     let mut calls = Vec::from_slice(alloc, setting.keeper_fails.as_slice())?;
     calls.push(call)?;
-    match ready_keeper(alloc) {
+    let store = &setting.store;
+    let statements = [store.statements.as_str()];
+    match ready_keeper(alloc, store.has_tables, &statements) {
         Ok(keeper) => Ok(FailingKeeper::new(keeper, List::from_vec(calls))),
         Err(fault) => Err(wrong_of_store(fault)),
     }

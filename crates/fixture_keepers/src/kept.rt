@@ -58,6 +58,10 @@ fn add_site(out: &mut String, site: &Site) -> Result<(), Wrong> {
     for member in site.members.as_slice() {
         add_member(out, member.user.as_str(), member.role)?;
     }
+    for language in site.languages.as_slice() {
+        add(out, "language ", language.as_str())?;
+        add(out, "\n", "")?;
+    }
     Ok(())
 }
 
@@ -152,6 +156,14 @@ pub fn judgements_of<K: Keeper>(
     }
 }
 
+/// The edition that a keeper answers.
+pub fn kept_edition<K: Keeper>(alloc: Global, keeper: &mut K) -> Result<u64, Wrong> {
+    match keeper.edition(alloc) {
+        Ok(edition) => Ok(edition),
+        Err(fault) => Err(wrong_of(fault)),
+    }
+}
+
 fn add_outcomes<K: Keeper>(
     alloc: Global,
     keeper: &mut K,
@@ -211,7 +223,7 @@ fn add_heads<K: Keeper>(
     Ok(())
 }
 
-/// What the five reading calls answer of a site and of pages of it, whether they are kept or not.
+/// What the calls answer that read a site and pages of it, whether they are kept or not.
 pub fn kept_lines<K: Keeper>(
     alloc: Global,
     keeper: &mut K,
@@ -232,18 +244,20 @@ fn has_failed<T: Drop>(answer: Result<T, KeepFault>) -> bool {
     matches!(answer, Err(KeepFault::Failed))
 }
 
-/// Which of the five reading calls fail, made one after another.
+/// Which of the seven reading calls fail, made one after another.
 pub fn failing_reads<K: Keeper>(
     alloc: Global,
     keeper: &mut K,
     site: &Text,
     page: &Text,
-) -> [bool; 5] {
+) -> [bool; 7] {
     [
         has_failed(keeper.site(alloc, site)),
         has_failed(keeper.load(alloc, site, page)),
         has_failed(keeper.list(alloc, site)),
         has_failed(keeper.judgements(alloc, site, page)),
         has_failed(keeper.outcomes(alloc, site, page)),
+        has_failed(keeper.edition(alloc)),
+        has_failed(keeper.sites(alloc)),
     ]
 }

@@ -13,4 +13,4 @@ pub use books::{Made, calls_of, made_books};
 pub use keepers::{
     FailingMemory, FailingStore, Played, failing_store_keeper, memory_keeper, store_keeper,
 };
-pub use kept::{failing_reads, judgements_of, kept_lines};
+pub use kept::{failing_reads, judgements_of, kept_edition, kept_lines};

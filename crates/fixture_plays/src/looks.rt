@@ -1,7 +1,7 @@
 //! Looks at what is kept.
 
 use crate::playing::Play;
-use fixture_keepers::{Made, Played, failing_reads, judgements_of, kept_lines};
+use fixture_keepers::{Made, Played, failing_reads, judgements_of, kept_edition, kept_lines};
 use fixture_talks::{Judged, Kept, Prepares, Reads, Step};
 use fixture_words::{Difference, Wrong, bytes_differ};
 use snap_tree::Text;
@@ -17,6 +17,7 @@ pub fn look_differs<K: Played, B: Made>(
         Step::Prepare(line, due) => prepares_differ(play.alloc, &mut play.keeper, *line, *due),
         Step::Reads(due) => reads_differ(play.alloc, &mut play.keeper, due),
         Step::Judged(due) => judged_differ(play.alloc, &mut play.keeper, due),
+        Step::Edition(line, due) => edition_differs(play.alloc, &mut play.keeper, *line, *due),
         Step::Talk(_) | Step::Run(_) => Ok(None),
     }
 }
@@ -71,6 +72,20 @@ fn judged_differ<K: Played>(
     Ok(Some(difference))
 }
 
+fn edition_differs<K: Played>(
+    alloc: Global,
+    keeper: &mut K,
+    line: u64,
+    due: u64,
+) -> Result<Option<Difference>, Wrong> {
+    let came = kept_edition(alloc, keeper)?;
+    if came == due {
+        return Ok(None);
+    }
+    let difference = Difference::of_numbers(alloc, line, "edition", due, came)?;
+    Ok(Some(difference))
+}
+
 fn reads_differ<K: Played>(
     alloc: Global,
     keeper: &mut K,
@@ -88,8 +103,8 @@ fn reads_differ<K: Played>(
 fn fails_differ(
     alloc: Global,
     line: u64,
-    due: [bool; 5],
-    came: [bool; 5],
+    due: [bool; 7],
+    came: [bool; 7],
 ) -> Result<Difference, Wrong> {
     Ok(Difference {
         line,

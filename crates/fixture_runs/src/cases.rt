@@ -4,6 +4,7 @@ use crate::door_sweep::sweep_door;
 use crate::playing::Outcome;
 use crate::run_sweep::sweep_run;
 use crate::{over_failing, over_store};
+use book_forty::Forty;
 use fixture_keepers::{Made, failing_store_keeper, memory_keeper, store_keeper};
 use fixture_plays::{Swept, Way, sweep_cuts, sweep_keeper, sweep_link, swept_states};
 use fixture_rules::Marks;
@@ -187,6 +188,7 @@ pub fn case_differs<R: Threads + Sync>(
 ) -> Result<Option<Difference>, Wrong> {
     match plot.case.setting.book {
         Book::Thirty => differs_by::<R, Thirty>(rt, alloc, plot),
+        Book::Forty => differs_by::<R, Forty>(rt, alloc, plot),
         Book::Marks => differs_by::<R, Marks>(rt, alloc, plot),
     }
 }

@@ -7,7 +7,7 @@ use crate::running::{Ended, door_of, ended_differs, texts};
 use crate::streaming::{Failing, Streams, streams_of};
 use desk_run::run;
 use fixture_failing_keeper::FailingKeeper;
-use fixture_keepers::Made;
+use fixture_keepers::{Made, calls_of};
 use fixture_plays::{Play, Way};
 use fixture_talks::{Plot, Run, Step, Talk};
 use fixture_words::{Difference, Wrong};
@@ -58,12 +58,14 @@ pub(crate) fn ended_run<R: Threads + Sync, K: Keeper + Drop, B: Made>(
     if books.is_empty() {
         return Err(Wrong::Line(run.line, "there is no book"));
     }
+    let before = calls_of(books.as_slice());
     let keeper = &mut play.keeper;
     let status = status_of(rt, alloc, keeper, &words, &mut streams, &mut door, books);
     Ok(Ended {
         status: u64::from(status),
         streams,
         door,
+        judgings: calls_of(books.as_slice()).saturating_sub(before),
     })
 }
 

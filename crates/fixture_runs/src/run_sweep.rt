@@ -122,8 +122,19 @@ fn ended_by(run: &Run, object: Object, ended: &Ended) -> bool {
     }
 }
 
-// Whether a run over this keeper ends as it has to where a call fails, and leaves what was kept; or as the script says, where
-// the call is one more than are made.
+// Whether the run ends as the script says, now that no call fails any more.
+fn goes_on<R: Threads + Sync, K: Played, B: Made>(
+    rt: &R,
+    swept: &Swept<'_>,
+    play: &mut Play<FailingKeeper<K>, B>,
+) -> Result<bool, Wrong> {
+    let run = run_of(swept)?;
+    let ended = ended_run(rt, play, run, Failing::nothing())?;
+    Ok(end_differs(swept.alloc, run, &ended)?.is_none())
+}
+
+// Whether a run over this keeper ends as it has to where a call fails, leaves what was kept, and is made up for by the next one;
+// or ends as the script says, where the call is one more than are made.
 fn goes_over<R: Threads + Sync, K: Played, B: Made>(
     rt: &R,
     swept: &Swept<'_>,
@@ -136,7 +147,8 @@ fn goes_over<R: Threads + Sync, K: Played, B: Made>(
     let ended = ended_run(rt, &mut play, run, failing_at(call))?;
     if fails {
         let is_ended = ended_by(run, call.object, &ended);
-        Ok(is_ended && swept.keeps(&mut play, swept.talks.len())?)
+        let is_kept = swept.keeps(&mut play, swept.talks.len())?;
+        Ok(is_ended && is_kept && goes_on(rt, swept, &mut play)?)
     } else {
         Ok(end_differs(swept.alloc, run, &ended)?.is_none())
     }

@@ -18,6 +18,7 @@ pub(crate) struct Ended {
     pub(crate) status: u64,
     pub(crate) streams: Streams,
     pub(crate) door: MemDoor,
+    pub(crate) judgings: u64,
 }
 
 pub(crate) fn texts(alloc: Global, words: &[String]) -> Result<List<Text>, Wrong> {
@@ -86,7 +87,21 @@ pub(crate) fn end_differs(
     if streams.is_some() {
         return Ok(streams);
     }
-    log_differs(alloc, run, &ended.door, run.talks.len())
+    let log = log_differs(alloc, run, &ended.door, run.talks.len())?;
+    if log.is_some() {
+        return Ok(log);
+    }
+    judgings_differ(alloc, run, ended.judgings)
+}
+
+fn judgings_differ(alloc: Global, run: &Run, judgings: u64) -> Result<Option<Difference>, Wrong> {
+    match run.judgings {
+        Some(due) if !due.are(judgings) => {
+            let (line, due) = (run.line, due.count);
+            Ok(Some(Difference::of_numbers(alloc, line, "judgings", due, judgings)?))
+        }
+        _ => Ok(None),
+    }
 }
 
 fn status_of(alloc: Global, run: &Run, status: u64) -> Result<Option<Difference>, Wrong> {

@@ -1,5 +1,5 @@
 //! Stores in memory, for tests of what is kept in them. Start with [`ready_keeper`], or with [`waiting_keeper`] where
-//! statements are to make the store.
+//! it isn't to be prepared yet.
 #![tactic(auto)]
 
 mod stores;

@@ -25,8 +25,8 @@ fn empty_store(alloc: Global) -> Result<Connection<MemStore>, Error>
     }
 }
 
-// Makes the six tables.
-fn make_six<S: Alter>(conn: &mut Connection<S>) -> Result<(), Error>
+// Makes the tables.
+fn make_all<S: Alter>(conn: &mut Connection<S>) -> Result<(), Error>
     requires idle { conn.old.in_transaction ≡ false }
 {
     let _idle = conn.is_autocommit();
@@ -64,7 +64,7 @@ fn keeper_over<S: Alter + Drop>(
     ensures { IfOk result (λ keeper. keeper.ready ≡ None) }
 {
     if has_tables {
-        make_six(&mut conn)?;
+        make_all(&mut conn)?;
     }
     let conn = run_all(conn, statements)?;
     Ok(SqlKeeper::new(conn))
@@ -84,8 +84,8 @@ fn prepared<S: Alter + Drop>(
     }
 }
 
-/// A keeper that isn't prepared yet, over a store that these statements made. Where `has_tables` holds they find the six
-/// tables of the desk, with no rows and no edition noted, and else a store without tables.
+/// A keeper that isn't prepared yet, over a store that these statements made. Where `has_tables` holds they find the desk's
+/// tables, with no rows and no edition noted, and else a store without tables.
 ///
 /// # Errors
 ///
@@ -101,14 +101,18 @@ pub fn waiting_keeper(
     keeper_over(conn, has_tables, statements)
 }
 
-/// A keeper that is ready and keeps nothing.
+/// A keeper that is ready, over a store that was made as that of [`waiting_keeper`].
 ///
 /// # Errors
 ///
 /// `Failed` where the store can't be made and prepared, for another cause than memory.
-pub fn ready_keeper(alloc: Global) -> Result<SqlKeeper<MemStore>, StoreFault>
+pub fn ready_keeper(
+    alloc: Global,
+    has_tables: bool,
+    statements: &[&str],
+) -> Result<SqlKeeper<MemStore>, StoreFault>
     ensures { IfOk result (λ keeper. IsSome keeper.ready) }
 {
-    let keeper = waiting_keeper(alloc, false, &[])?;
+    let keeper = waiting_keeper(alloc, has_tables, statements)?;
     prepared(alloc, keeper)
 }

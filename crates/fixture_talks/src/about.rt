@@ -39,6 +39,7 @@ fn end_of(line: u64, rest: &str) -> Result<End, Wrong> {
 pub(crate) fn is_of_run(word: &str) -> bool {
     match word {
         "input" | "source" | "door" | "status" | "out:" | "err:" | "out" | "err" => true,
+        "judgings" => true,
         _ => false,
     }
 }
@@ -56,11 +57,17 @@ pub(crate) fn about_run(
         "source" => set_failing(alloc, line, &mut run.input_fails, rest),
         "door" => set_failing(alloc, line, &mut run.door_fails, rest),
         "status" => set_number(line, &mut run.status, rest),
+        "judgings" => set_judgings(line, run, rest),
         "out:" => add_line(&mut run.out.due, rest),
         "err:" => add_line(&mut run.err.due, rest),
         "out" => about_sink(alloc, line, &mut run.out, rest),
         _ => about_sink(alloc, line, &mut run.err, rest),
     }
+}
+
+fn set_judgings(line: u64, run: &mut Run, rest: &str) -> Result<(), Wrong> {
+    run.judgings = Some(judgings_of(line, rest)?);
+    Ok(())
 }
 
 fn set_number(line: u64, place: &mut u64, rest: &str) -> Result<(), Wrong> {
@@ -89,11 +96,12 @@ fn about_sink(alloc: Global, line: u64, sink: &mut Sink, rest: &str) -> Result<(
     }
 }
 
-/// The step that a line says which begins with `prepares`, `judgements` or `reads`.
+/// The step that a line says which begins with `prepares`, `judgements`, `edition` or `reads`.
 pub(crate) fn step_of(alloc: Global, line: u64, word: &str, rest: &str) -> Result<Step, Wrong> {
     match word {
         "prepares" => Ok(Step::Prepare(line, prepares_of(line, rest)?)),
         "judgements" => judged_of(alloc, line, rest),
+        "edition" => Ok(Step::Edition(line, number(line, rest)?)),
         _ => reads_of(alloc, line, rest),
     }
 }
@@ -124,19 +132,21 @@ fn judged_of(alloc: Global, line: u64, rest: &str) -> Result<Step, Wrong> {
 }
 
 // Marks the call of this name.
-fn mark(fails: &mut [bool; 5], call: &str) {
+fn mark(fails: &mut [bool; 7], call: &str) {
     match call {
         "site" => fails[0] = true,
         "load" => fails[1] = true,
         "list" => fails[2] = true,
         "judgements" => fails[3] = true,
         "outcomes" => fails[4] = true,
+        "edition" => fails[5] = true,
+        "sites" => fails[6] = true,
         _ => {}
     }
 }
 
-fn failing(calls: &str) -> [bool; 5] {
-    let mut fails = [false; 5];
+fn failing(calls: &str) -> [bool; 7] {
+    let mut fails = [false; 7];
     for call in calls.split_whitespace() {
         mark(&mut fails, call);
     }

@@ -167,7 +167,7 @@ impl Reader {
             "judgings" | "ends" => self.about_talk(word, rest),
             "run" => self.begin_run(rest),
             "kept" => self.begin_kept(rest),
-            "prepares" | "reads" | "judgements" => self.add_step(word, rest),
+            "prepares" | "reads" | "judgements" | "edition" => self.add_step(word, rest),
             _ => self.about_run(word, rest),
         }
     }
@@ -206,7 +206,7 @@ impl Reader {
         let line = self.context.line;
         match self.steps.talk() {
             Some(talk) => about_talk(line, talk, word, rest),
-            None => Err(Wrong::Line(line, "it is said of no request")),
+            None => self.about_run(word, rest),
         }
     }
 

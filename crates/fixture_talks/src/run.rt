@@ -1,6 +1,6 @@
 //! Runs of the program.
 
-use crate::talk::Talk;
+use crate::talk::{Judgings, Talk};
 use std::alloc::Global;
 
 /// A sink of a run: how many bytes it has room for, its calls that fail, and what it must have in the end.
@@ -33,6 +33,7 @@ pub struct Run {
     pub door_fails: Vec<u64>,
     pub talks: Vec<Talk>,
     pub status: u64,
+    pub judgings: Option<Judgings>,
 }
 
 impl Run {
@@ -47,6 +48,7 @@ impl Run {
             door_fails: Vec::new(alloc),
             talks: Vec::new(alloc),
             status: 0,
+            judgings: None,
         }
     }
 }

@@ -22,13 +22,13 @@ pub enum Prepares {
     Fault,
 }
 
-/// Which of the five calls that read a site and a page of it fail.
+/// Which of the seven calls that read fail: five of a site and a page of it, the edition and the sites.
 #[derive(Drop)]
 pub struct Reads {
     pub line: u64,
     pub site: String,
     pub page: String,
-    pub fails: [bool; 5],
+    pub fails: [bool; 7],
 }
 
 /// How many judgements are kept of a page.
@@ -49,6 +49,8 @@ pub enum Step {
     Prepare(u64, Prepares),
     Reads(Reads),
     Judged(Judged),
+    /// The edition that is kept.
+    Edition(u64, u64),
 }
 
 /// A script: what its first line says, what is done first in each case, and the cases.

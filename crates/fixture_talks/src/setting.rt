@@ -7,6 +7,7 @@ use std::alloc::Global;
 #[derive(Clone, Copy, PartialEq, Eq)]
 pub enum Book {
     Thirty,
+    Forty,
     Marks,
 }
 
@@ -64,7 +65,7 @@ impl Ways {
 /// What a store has before the desk comes to it.
 #[derive(Drop)]
 pub struct Store {
-    /// Whether it has the six tables, and the statements that are run on it then.
+    /// Whether it has the desk's tables, and the statements that are run on it then.
     pub has_tables: bool,
     pub statements: String,
 }

@@ -28,6 +28,7 @@ pub(crate) fn set(
 fn set_book(line: u64, book: &mut Book, name: &str) -> Result<(), Wrong> {
     *book = match name {
         "thirty" => Book::Thirty,
+        "forty" => Book::Forty,
         "marks" => Book::Marks,
         _ => return Err(Wrong::Line(line, "no such book")),
     };

@@ -24,7 +24,7 @@ impl End {
     }
 }
 
-/// How many judgings a request costs: so many, or at most so many.
+/// How many judgings a request, or a run, costs: so many, or at most so many.
 #[derive(Clone, Copy)]
 pub struct Judgings {
     pub count: u64,

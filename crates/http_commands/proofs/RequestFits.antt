@@ -17,6 +17,7 @@ use Rattle.http_commands.specs.declared.request.Asked.{Asked}
 use Rattle.http_commands.specs.Shapes.{json_in, snapshot_in}
 use Rattle.http_commands.specs.Revisions.{revision_in}
 use Rattle.http_commands.specs.Roles.{role_in}
+use Rattle.http_commands.specs.Languages.{languages_in}
 use Rattle.http_commands.specs.Entries.{entries_in}
 use Rattle.http_commands.specs.EditLists.{edits_in}
 use Rattle.http_commands.specs.Judging.{opinion_in}
@@ -25,6 +26,8 @@ use Rattle.http_commands.specs.Fitting.{IsWeb}
 use Rattle.http_commands.specs.Requests.{request_of}
 use Rattle.http_commands.proofs.Steps.{after, past}
 use Rattle.http_commands.proofs.RevisionFits.{IsWithin, revision_within}
+use Rattle.snap_tree.specs.Langs.{AreLangs}
+use Rattle.http_commands.proofs.LanguageFits.{languages_fit}
 use Rattle.http_commands.proofs.EntryFits.{FitAtWeb, read_entries_fit}
 use Rattle.http_commands.proofs.OpinionFits.{FitsBook, opinion_fits}
 
@@ -40,6 +43,11 @@ fits_command book h body (route.PutMember site user) caller orderly names is =
     past P (json_in body) _ (λ d.
     past P (role_in d) _ (λ held.
     λ web. record { caller = is; site = names.0; parts = names.1 }))
+fits_command book h body (route.PutLanguages site) caller orderly names is =
+    let P = FitsBy book caller in
+    past P (json_in body) _ (λ d.
+    after AreLangs P (languages_in d) _ (languages_fit d) (λ langs form.
+    λ web. record { caller = is; site = names; parts = form }))
 fits_command book h body (route.PutPage site page) caller orderly names is =
     let P = FitsBy book caller in
     past P (json_in body) _ (λ d.

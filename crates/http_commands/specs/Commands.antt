@@ -11,6 +11,7 @@ use Rattle.desk_core.specs.declared.command.Command.TheVariants as command
 use Rattle.http_commands.specs.Shapes.{◌>>=◌, json_in, snapshot_in}
 use Rattle.http_commands.specs.Revisions.{revision_in}
 use Rattle.http_commands.specs.Roles.{role_in}
+use Rattle.http_commands.specs.Languages.{languages_in}
 use Rattle.http_commands.specs.Entries.{entries_in}
 use Rattle.http_commands.specs.EditLists.{edits_in}
 use Rattle.http_commands.specs.Judging.{opinion_in}
@@ -20,6 +21,12 @@ put_member body site user = do
   d ← json_in body
   held ← role_in d
   Ok (command.PutMember site user held)
+
+abbrev pub put_languages : List ℕ → List ℕ → Result Command RequestFault
+put_languages body site = do
+  d ← json_in body
+  langs ← languages_in d
+  Ok (command.PutLanguages site langs)
 
 abbrev pub put_page : Head → List ℕ → List ℕ → List ℕ → Result Command RequestFault
 put_page h body site page = do
@@ -56,6 +63,7 @@ judge infos body site page = do
 abbrev pub command_of : List RuleInfo → Head → List ℕ → Route → Result Command RequestFault
 command_of infos h body (route.PutSite site) = Ok (command.PutSite site)
 command_of infos h body (route.PutMember site user) = put_member body site user
+command_of infos h body (route.PutLanguages site) = put_languages body site
 command_of infos h body (route.PutPage site page) = put_page h body site page
 command_of infos h body (route.GetPage site page) = Ok (command.GetPage site page)
 command_of infos h body (route.DropPage site page) = drop_page h site page

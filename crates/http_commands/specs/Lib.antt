@@ -2,6 +2,7 @@ pub mod Shapes
 pub mod Revisions
 pub mod Roles
 pub mod Entries
+pub mod Languages
 pub mod Edits
 pub mod EditLists
 pub mod Judging

@@ -1,11 +1,12 @@
 ghost use Rattle.std.specs.Prelude.{IfOk};
 ghost use Rattle.http_commands.specs.Shapes.{Gives};
-ghost use Rattle.http_commands.specs.Commands.{put_member, put_page, drop_page, import, edit_page, judge, command_of};
+ghost use Rattle.http_commands.specs.Commands.{put_member, put_languages, put_page, drop_page, import, edit_page, judge, command_of};
 ghost use Rattle.http_commands.specs.Fitting.{IsWeb};
 
 use crate::edits::edits_in;
 use crate::entries::entries_in;
 use crate::judging::{Opinion, opinion_in};
+use crate::languages::languages_in;
 use crate::revision::revision_in;
 use crate::roles::role_in;
 use crate::shape::{json_in, snapshot_in};
@@ -31,6 +32,7 @@ pub(crate) fn command_of<B: RuleBook>(
     match route {
         Route::PutSite { site } => Ok(Command::PutSite { site }),
         Route::PutMember { site, user } => put_member(alloc, body, site, user),
+        Route::PutLanguages { site } => put_languages(alloc, body, site),
         Route::PutPage { site, page } => put_page(alloc, head, body, site, page),
         Route::GetPage { site, page } => Ok(Command::GetPage { site, page }),
         Route::DropPage { site, page } => drop_page(head, site, page),
@@ -54,6 +56,15 @@ fn put_member(alloc: Global, body: &[u8], site: Text, user: Text) -> Result<Comm
     let body = json_in(alloc, body)?;
     let role = role_in(&body)?;
     Ok(Command::PutMember { site, user, role })
+}
+
+fn put_languages(alloc: Global, body: &[u8], site: Text) -> Result<Command, Unasked>
+    ensures exact { Gives result (put_languages body.now site) }
+    ensures web { IfOk result IsWeb }
+{
+    let body = json_in(alloc, body)?;
+    let languages = languages_in(alloc, &body)?;
+    Ok(Command::PutLanguages { site, languages })
 }
 
 fn put_page(

@@ -12,6 +12,7 @@ mod command;
 mod edits;
 mod entries;
 mod judging;
+mod languages;
 mod request;
 mod revision;
 mod roles;

@@ -1,5 +1,6 @@
 -- Replies to changes: their bodies, and what is known of their pages.
 use Rattle.std.proofs.Common.{◌≡◌, ℕ, ◌<◌, ◌≤◌, List, [], ◌∷◌, ◌++◌, length, slice_index_or, nat_le, true, refl, sym, ap, ◌∙◌, append_assoc, append-nil, subst, arith}
+use Rattle.std.specs.Prelude.{codes}
 use Rattle.std.specs.List.{flat_map, list_all}
 use Rattle.std.proofs.lemmas.Bool.{and_parts}
 use Rattle.std.proofs.lemmas.Bool.Decides.{nat_tests}
@@ -11,12 +12,13 @@ use Rattle.desk_core.specs.declared.reply.Stored.{Stored}
 use Rattle.desk_core.specs.declared.reply.Reply.{Reply}
 use Rattle.desk_core.specs.declared.reply.Reply.TheVariants as reply
 use Rattle.keep_core.specs.declared.limits.TheConstants.{MOST_NAME}
-use Rattle.http_replies.specs.Made.{after_comma, made_text, is_short, are_few, is_made}
+use Rattle.http_replies.specs.Made.{count_text, languages_text, after_comma, made_text, is_short, are_few, is_made}
 use Rattle.http_replies.specs.Answers.{reply_body}
 
 pub made_is_body : (infos : List RuleInfo) (r : Reply) → is_made r ≡ true → made_text infos r ≡ reply_body infos r
 made_is_body infos (reply.Site site) made = refl
 made_is_body infos (reply.Member user held) made = refl
+made_is_body infos (reply.Languages languages pages) made = refl
 made_is_body infos (reply.Stored s) made = refl
 made_is_body infos (reply.Dropped page) made = refl
 made_is_body infos (reply.Imported pages) made = refl
@@ -30,6 +32,18 @@ made_is_body infos (reply.SiteReport s) made = absurd (cc)
 made_is_body infos (reply.SiteEarl s) made = absurd (cc)
 made_is_body infos (reply.SiteCsv s) made = absurd (cc)
 made_is_body infos (reply.Refused r) made = absurd (cc)
+
+grouped : (old a b end : List ℕ) → ((old ++ a) ++ b) ++ end ≡ old ++ ((a ++ b) ++ end)
+grouped old a b end = simp append_assoc
+
+-- the two counts were printed, one after the other
+pub counts_printed : (old one two new : List ℕ) (languages pages : ℕ) → one ≡ old ++ count_text (codes "{\"languages\":") languages → two ≡ one ++ count_text (codes ",\"pages\":") pages → new ≡ two ++ codes "}" →
+    new ≡ old ++ languages_text languages pages
+unfolding languages_text
+counts_printed old one two new languages pages first second third =
+    let a = count_text (codes "{\"languages\":") languages in
+    let b = count_text (codes ",\"pages\":") pages in
+    third ∙ (ap (λ l. l ++ codes "}") (second ∙ ap (λ l. l ++ b) first) ∙ grouped old a b (codes "}"))
 
 pub few : (pages : List Stored) → are_few pages ≡ true → length pages ≤ MOST_ENTRIES
 few pages are =

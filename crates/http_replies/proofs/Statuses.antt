@@ -56,6 +56,7 @@ of_refusal refusal.OutOfMemory = refl
 of_reply : (r : Reply) → is_used (reply_status r) ≡ true
 of_reply (reply.Site site) = refl
 of_reply (reply.Member user held) = refl
+of_reply (reply.Languages languages pages) = refl
 of_reply (reply.Stored s) = refl
 of_reply (reply.Page p) = refl
 of_reply (reply.Dropped page) = refl

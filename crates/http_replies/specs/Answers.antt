@@ -18,7 +18,7 @@ use Rattle.http_replies.specs.declared.answer.Answer.{Answer}
 use Rattle.http_replies.specs.declared.answer.Answer.TheVariants.{Misread, Misasked, Replied}
 use Rattle.http_replies.specs.Refusals as refused
 use Rattle.http_replies.specs.Refusals.{refusal_data, head_data, request_data}
-use Rattle.http_replies.specs.Made.{site_text, member_text, stored_text, dropped_text, imported_text, judged_text, is_made}
+use Rattle.http_replies.specs.Made.{site_text, member_text, languages_text, stored_text, dropped_text, imported_text, judged_text, is_made}
 use Rattle.http_replies.specs.declared.made.TheConstants.{MOST_BODY}
 use Rattle.http_replies.specs.NameList.{names_data}
 use Rattle.http_replies.specs.Shown.{page_text, outcomes_data}
@@ -27,6 +27,7 @@ use Rattle.http_replies.specs.Shown.{page_text, outcomes_data}
 abbrev pub reply_status : Reply → ℕ
 reply_status (reply.Site site) = 201
 reply_status (reply.Member user held) = 200
+reply_status (reply.Languages languages pages) = 200
 reply_status (reply.Stored s) = 200
 reply_status (reply.Page p) = 200
 reply_status (reply.Dropped page) = 200
@@ -55,6 +56,7 @@ reply_kind (reply.SiteEarl s) = kind.JsonLd
 reply_kind (reply.SiteCsv s) = kind.Csv
 reply_kind (reply.Site site) = kind.Json
 reply_kind (reply.Member user held) = kind.Json
+reply_kind (reply.Languages languages pages) = kind.Json
 reply_kind (reply.Stored s) = kind.Json
 reply_kind (reply.Page p) = kind.Json
 reply_kind (reply.Dropped page) = kind.Json
@@ -72,6 +74,7 @@ kind_of (Replied r) = reply_kind r
 abbrev pub reply_body : List RuleInfo → Reply → List ℕ
 reply_body infos (reply.Site site) = site_text site
 reply_body infos (reply.Member user held) = member_text user held
+reply_body infos (reply.Languages languages pages) = languages_text languages pages
 reply_body infos (reply.Stored s) = stored_text s
 reply_body infos (reply.Page p) = page_text p
 reply_body infos (reply.Dropped page) = dropped_text page

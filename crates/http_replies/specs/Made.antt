@@ -26,6 +26,9 @@ member_text user held = codes "{\"member\":\"" ++ user ++ codes "\",\"role\":\""
 unfoldable pub count_text : List ℕ → ℕ → List ℕ
 count_text key n = key ++ decimal n
 
+unfoldable pub languages_text : ℕ → ℕ → List ℕ
+languages_text languages pages = count_text (codes "{\"languages\":") languages ++ count_text (codes ",\"pages\":") pages ++ codes "}"
+
 unfoldable pub summary_text : Summary → List ℕ
 summary_text s =
     count_text (codes "{\"cantTell\":") s.cant_tell ++ count_text (codes ",\"failed\":") s.failed
@@ -57,6 +60,7 @@ judged_text infos rule node outcome =
 abbrev pub made_text : List RuleInfo → Reply → List ℕ
 made_text infos (reply.Site site) = site_text site
 made_text infos (reply.Member user held) = member_text user held
+made_text infos (reply.Languages languages pages) = languages_text languages pages
 made_text infos (reply.Stored s) = stored_text s
 made_text infos (reply.Dropped page) = dropped_text page
 made_text infos (reply.Imported pages) = imported_text pages
@@ -83,6 +87,7 @@ are_few pages = nat_le (length pages) MOST_ENTRIES && list_all (λ s. is_short s
 abbrev pub is_made : Reply → Bool
 is_made (reply.Site site) = is_short site
 is_made (reply.Member user held) = is_short user
+is_made (reply.Languages languages pages) = true
 is_made (reply.Stored s) = is_short s.page
 is_made (reply.Dropped page) = is_short page
 is_made (reply.Imported pages) = are_few pages

@@ -61,6 +61,7 @@ fn reply_kind(reply: &Reply) -> Kind
         Reply::SiteCsv(_) => Kind::Csv,
         Reply::Site { .. }
         | Reply::Member { .. }
+        | Reply::Languages { .. }
         | Reply::Stored(_)
         | Reply::Page(_)
         | Reply::Dropped { .. }
@@ -79,6 +80,7 @@ fn reply_status(reply: &Reply) -> u16
         Reply::Site { .. } => 201,
         Reply::Refused(refusal) => refusal_status(refusal),
         Reply::Member { .. }
+        | Reply::Languages { .. }
         | Reply::Stored(_)
         | Reply::Page(_)
         | Reply::Dropped { .. }

@@ -3,7 +3,7 @@ ghost use Rattle.std.specs.Vec.{vec_capacity};
 ghost use Rattle.std.specs.List.{flat_map, list_all};
 ghost use Rattle.reply_frames.specs.Pushing.{Fits};
 ghost use Rattle.http_replies.specs.Words.{id_of};
-ghost use Rattle.http_replies.specs.Made.{count_text, member_text, summary_text, stored_text, after_comma, pages_text, imported_text, judged_text, made_text, is_short, are_few, is_made};
+ghost use Rattle.http_replies.specs.Made.{count_text, member_text, languages_text, summary_text, stored_text, after_comma, pages_text, imported_text, judged_text, made_text, is_short, are_few, is_made};
 
 use crate::words::{role_word, rule_of};
 use desk_core::{MOST_ENTRIES, Reply, Stored, Summary};
@@ -30,7 +30,7 @@ pub fn is_made(reply: &Reply) -> bool
         Reply::Stored(stored) => is_short(&stored.page),
         Reply::Dropped { page } => is_short(page),
         Reply::Imported { pages } => are_few(pages.as_slice()),
-        Reply::Judged { .. } => true,
+        Reply::Languages { .. } | Reply::Judged { .. } => true,
         Reply::Page(_)
         | Reply::Outcomes(_)
         | Reply::Report(_)
@@ -75,6 +75,7 @@ pub(crate) fn push_made(
     match reply {
         Reply::Site { site } => push_name(out, b"{\"site\":\"", site),
         Reply::Member { user, role } => push_member(out, user, *role),
+        Reply::Languages { languages, pages } => push_languages(out, *languages, *pages),
         Reply::Stored(stored) => push_page(out, stored),
         Reply::Dropped { page } => push_name(out, b"{\"page\":\"", page),
         Reply::Imported { pages } => push_imported(out, pages.as_slice()),
@@ -118,6 +119,17 @@ fn push_member(out: &mut Vec<u8>, user: &Text, role: Option<MemberRole>) -> Resu
     push(out, b"\",\"role\":\"")?;
     push(out, role_word(role).as_bytes())?;
     push(out, b"\"}")?;
+    Ok(())
+}
+
+#[tactic(auto, unfolding(crate::specs::Made::languages_text))]
+fn push_languages(out: &mut Vec<u8>, languages: u32, pages: u32) -> Result<(), OutOfMemory>
+    ensures pushed { OnOk result (out.new.items ≡ out.old.items ++ languages_text languages pages) }
+    ensures fits { Fits MOST_BODY out.old.items (vec_capacity out.old) out.new.items (vec_capacity out.new) result }
+{
+    push_count(out, b"{\"languages\":", u64::from(languages))?;
+    push_count(out, b",\"pages\":", u64::from(pages))?;
+    push(out, b"}")?;
     Ok(())
 }
 

@@ -120,6 +120,7 @@ fn other_body(alloc: Global, infos: &[RuleInfo], reply: &Reply) -> Result<Vec<u8
         Reply::Refused(refusal) => refusal_body(alloc, refusal),
         Reply::Site { .. }
         | Reply::Member { .. }
+        | Reply::Languages { .. }
         | Reply::Stored(_)
         | Reply::Dropped { .. }
         | Reply::Imported { .. }

@@ -8,7 +8,7 @@ use Rattle.http_messages.specs.declared.head.Field.{Field}
 use Rattle.http_messages.specs.declared.head.Head.{Head}
 use Rattle.http_messages.specs.Framing.{only_named}
 use Rattle.http_routes.specs.declared.place.Resource.{Resource}
-use Rattle.http_routes.specs.declared.place.Resource.TheVariants.{Site, SiteReport, SiteEarl, SiteCsv, Import, Member, Page, PageReport, PageEarl, PageNames, Edits, Judgements, Outcomes}
+use Rattle.http_routes.specs.declared.place.Resource.TheVariants.{Site, SiteReport, SiteEarl, SiteCsv, Import, Languages, Member, Page, PageReport, PageEarl, PageNames, Edits, Judgements, Outcomes}
 use Rattle.http_routes.specs.declared.names.Names.{Names}
 use Rattle.http_routes.specs.declared.names.Names.TheVariants.{One, Two}
 use Rattle.http_routes.specs.declared.call.Method.{Method}
@@ -50,6 +50,7 @@ names_of_place target = of (row_of (path target))
 names_of_route : (p : Resource) (n : Names) (m : Method) → AreNames n → IfSome (route_of p n m) HasNames
 names_of_route Site (One site) Put are = are
 names_of_route Import (One site) Post are = are
+names_of_route Languages (One site) Put are = are
 names_of_route Member (Two site user) Put are = are
 names_of_route Page (Two site page) Put are = are
 names_of_route Page (Two site page) Get are = are

@@ -33,6 +33,7 @@ word part.Rev = codes "x-rev"
 word part.Body = codes "body"
 word (part.Snapshot field) = field_name field
 word part.Role = codes "role"
+word part.Languages = codes "languages"
 word part.Pages = codes "pages"
 word part.Edits = codes "edits"
 word part.Rule = codes "rule"

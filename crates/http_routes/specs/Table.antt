@@ -5,7 +5,7 @@ use Rattle.matchit.specs.Router.{RouteOf}
 use Rattle.segment_routes.specs.Pieces.{Piece, Word, Name, Pieces}
 use Rattle.segment_routes.specs.Spelling.{rows_of}
 use Rattle.http_routes.specs.declared.place.Resource.{Resource}
-use Rattle.http_routes.specs.declared.place.Resource.TheVariants.{Site, SiteReport, SiteEarl, SiteCsv, Import, Member, Page, PageReport, PageEarl, PageNames, Edits, Judgements, Outcomes}
+use Rattle.http_routes.specs.declared.place.Resource.TheVariants.{Site, SiteReport, SiteEarl, SiteCsv, Import, Languages, Member, Page, PageReport, PageEarl, PageNames, Edits, Judgements, Outcomes}
 
 abbrev pub site : Piece
 site = Name (codes "site")
@@ -31,6 +31,7 @@ table =
     (in_site (Word (codes "csv") ∷ []), SiteCsv)
     ∷ (in_site (Word (codes "earl") ∷ []), SiteEarl)
     ∷ (in_site (Word (codes "import") ∷ []), Import)
+    ∷ (in_site (Word (codes "languages") ∷ []), Languages)
     ∷ (in_site (Word (codes "members") ∷ user ∷ []), Member)
     ∷ (in_page (Word (codes "earl") ∷ []), PageEarl)
     ∷ (in_page (Word (codes "edits") ∷ []), Edits)

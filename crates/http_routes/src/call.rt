@@ -26,6 +26,8 @@ pub enum Route {
     PutSite { site: Text },
     /// `PUT /sites/{site}/members/{user}`
     PutMember { site: Text, user: Text },
+    /// `PUT /sites/{site}/languages`
+    PutLanguages { site: Text },
     /// `PUT /sites/{site}/pages/{page}`
     PutPage { site: Text, page: Text },
     /// `GET /sites/{site}/pages/{page}`
@@ -132,6 +134,7 @@ fn of_site(place: Resource, site: Text, method: Method) -> Option<Route>
 {
     match (place, method) {
         (Resource::Site, Method::Put) => Some(Route::PutSite { site }),
+        (Resource::Languages, Method::Put) => Some(Route::PutLanguages { site }),
         (Resource::Import, Method::Post) => Some(Route::Import { site }),
         (Resource::SiteReport, Method::Get) => Some(Route::SiteReport { site }),
         (Resource::SiteEarl, Method::Get) => Some(Route::SiteEarl { site }),

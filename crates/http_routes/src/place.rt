@@ -19,6 +19,7 @@ pub(crate) enum Resource {
     SiteEarl,
     SiteCsv,
     Import,
+    Languages,
     Member,
     Page,
     PageReport,
@@ -88,6 +89,7 @@ fn router(alloc: Global) -> Result<Router<Resource>, InsertError>
     router.insert("/sites/{site}/earl", Resource::SiteEarl)?;
     router.insert("/sites/{site}/csv", Resource::SiteCsv)?;
     router.insert("/sites/{site}/import", Resource::Import)?;
+    router.insert("/sites/{site}/languages", Resource::Languages)?;
     router.insert("/sites/{site}/members/{user}", Resource::Member)?;
     router.insert("/sites/{site}/pages/{page}", Resource::Page)?;
     router.insert("/sites/{site}/pages/{page}/report", Resource::PageReport)?;

@@ -2,7 +2,7 @@
 use Rattle.std.proofs.Common.{◌≡◌, ℕ, zero, suc, ◌≤◌, Some, Result, Ok, Err, OnOk, OnErr, IfOk, arith}
 use Rattle.keep_core.specs.declared.change.Change.{Change}
 use Rattle.keep_core.specs.declared.fault.KeepFault.{KeepFault}
-use Rattle.keep_core.specs.Tables.{Tables}
+use Rattle.keep_core.specs.declared.tables.Tables.{Tables}
 use Rattle.keep_core.specs.Keeping.{Stays, Turns, Reads, Makes}
 use Rattle.keep_core.specs.Telling.{told_until_fault}
 

@@ -4,7 +4,7 @@ use Rattle.counts.specs.Counts.{Rose}
 use Rattle.keep_core.specs.declared.fault.KeepFault.{KeepFault}
 use Rattle.keep_core.specs.declared.fault.KeepFault.TheVariants.{Failed}
 use Rattle.keep_core.specs.declared.change.Change.{Change}
-use Rattle.keep_core.specs.Tables.{Tables}
+use Rattle.keep_core.specs.declared.tables.Tables.{Tables}
 use Rattle.keep_core.specs.Changes.{changed}
 
 -- what is told at a call's exit was told at its entry

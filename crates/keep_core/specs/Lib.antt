@@ -1,6 +1,7 @@
 pub mod Names
 pub mod Tables
 pub mod Changes
+pub mod Listed
 pub mod Fits
 pub mod Keeping
 pub mod Memory

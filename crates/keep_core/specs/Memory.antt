@@ -5,7 +5,7 @@ use Rattle.counts.specs.Calls.{is_named}
 use Rattle.keep_core.specs.declared.change.Change.{Change}
 use Rattle.keep_core.specs.declared.fault.KeepFault.{KeepFault}
 use Rattle.keep_core.specs.declared.fault.KeepFault.TheVariants.{Failed}
-use Rattle.keep_core.specs.Tables.{Tables}
+use Rattle.keep_core.specs.declared.tables.Tables.{Tables}
 use Rattle.keep_core.specs.Changes.{changed}
 
 -- what it keeps, the numbers of the calls that fail, and how many calls and faults there were

@@ -1,5 +1,5 @@
--- The tables: sites in byte order of their names, each with its pages in byte order of theirs, and each page with its
--- judgements in order of acceptance and its outcomes. And what is read of them.
+-- The tables: the edition of the rules by which outcomes were found, and sites in byte order of their names, each with its pages in
+-- byte order of theirs, and each page with its judgements in order of acceptance and its outcomes. And what is read of them.
 use Rattle.std.specs.Prelude.{ℕ, List, [], map, Option, Some, None, option_map}
 use Rattle.judge_core.specs.declared.judgement.Judgement.{Judgement}
 use Rattle.judge_core.specs.declared.outcomes.Outcomes.{Outcomes}
@@ -9,9 +9,11 @@ use Rattle.keep_core.specs.declared.page.PageHead.{PageHead}
 use Rattle.keep_core.specs.declared.page.Page.{Page}
 use Rattle.keep_core.specs.declared.tables.KeptPage.{KeptPage}
 use Rattle.keep_core.specs.declared.tables.KeptSite.{KeptSite}
+use Rattle.keep_core.specs.declared.tables.Tables.{Tables}
 
-abbrev pub Tables : Type 0
-Tables = List KeptSite
+-- without a site, of edition 0
+abbrev pub no_tables : Tables
+no_tables = record { edition = 0; sites = [] }
 
 -- the names by which sites and pages are kept
 abbrev pub site_name : KeptSite → List ℕ
@@ -22,7 +24,7 @@ page_name p = p.page.head.page
 
 -- a site with its pages, and the pages: none of a strange site
 abbrev pub kept_site : List ℕ → Tables → Option KeptSite
-kept_site site tables = at site_name site tables
+kept_site site tables = at site_name site tables.sites
 
 abbrev pub pages_in : Option KeptSite → List KeptPage
 pages_in None = []
@@ -30,6 +32,14 @@ pages_in (Some s) = s.pages
 
 abbrev pub pages_of : List ℕ → Tables → List KeptPage
 pages_of site tables = pages_in (kept_site site tables)
+
+-- the language subtags that a site accepts: none of a strange site
+abbrev pub languages_in : Option KeptSite → List (List ℕ)
+languages_in None = []
+languages_in (Some s) = s.site.languages
+
+abbrev pub languages_of : List ℕ → Tables → List (List ℕ)
+languages_of site tables = languages_in (kept_site site tables)
 
 -- a page with its judgements and outcomes
 abbrev pub kept_page : List ℕ → List ℕ → Tables → Option KeptPage
@@ -45,6 +55,12 @@ outcomes_in None = record { rows = [] }
 outcomes_in (Some p) = p.outcomes
 
 -- ---- what the calls of a keeper answer
+
+abbrev pub edition_of : Tables → ℕ
+edition_of tables = tables.edition
+
+abbrev pub sites_of : Tables → List (List ℕ)
+sites_of tables = map site_name tables.sites
 
 abbrev pub site_of : List ℕ → Tables → Option Site
 site_of site tables = option_map (λ s. s.site) (kept_site site tables)

@@ -1,4 +1,4 @@
-use crate::page::PagePut;
+use crate::page::{PageOutcomes, PagePut};
 use crate::site::Site;
 use judge_core::{Judgement, Outcomes};
 use snap_tree::{List, Text};
@@ -22,12 +22,28 @@ pub enum Change {
         site: Text,
         page: Text,
     },
-    /// The judgement goes to the end of the page's list, and the outcomes take the place of the page's.
-    AddJudgement {
+    /// The judgements go to the end of the page's list, and the outcomes take the place of the page's.
+    AddJudgements {
         site: Text,
         page: Text,
-        judgement: Judgement,
+        judgements: List<Judgement>,
         outcomes: Outcomes,
+    },
+    /// The list takes the place of the site's, and the outcomes that of those of the pages named. One that isn't
+    /// kept is passed over.
+    PutLanguages {
+        site: Text,
+        languages: List<Text>,
+        pages: List<PageOutcomes>,
+    },
+    /// The outcomes take the place of those of the pages named. One that isn't kept is passed over.
+    Refresh {
+        site: Text,
+        pages: List<PageOutcomes>,
+    },
+    /// The edition of the rules by which all outcomes were found.
+    SetEdition {
+        number: u64,
     },
 }
 

@@ -1,7 +1,7 @@
 ghost use Rattle.std.specs.Prelude.{◌≡◌, IfOk};
 
 use crate::member::Member;
-use crate::page::{Page, PageHead, PagePut, SitePage};
+use crate::page::{Page, PageHead, PageOutcomes, PagePut, SitePage};
 use crate::site::Site;
 use snap_tree::{Duplicate, OutOfMemory};
 use std::alloc::Global;
@@ -19,10 +19,12 @@ impl Duplicate for Site {
     fn copy(&self, alloc: Global) -> Result<Self, OutOfMemory> {
         let name = self.name.copy(alloc)?;
         let members = self.members.copy(alloc)?;
+        let languages = self.languages.copy(alloc)?;
         Ok(Site {
             name,
             counter: self.counter,
             members,
+            languages,
         })
     }
 }
@@ -52,6 +54,14 @@ impl Duplicate for PagePut {
         let page = self.page.copy(alloc)?;
         let outcomes = self.outcomes.copy(alloc)?;
         Ok(PagePut { page, outcomes })
+    }
+}
+
+impl Duplicate for PageOutcomes {
+    fn copy(&self, alloc: Global) -> Result<Self, OutOfMemory> {
+        let page = self.page.copy(alloc)?;
+        let outcomes = self.outcomes.copy(alloc)?;
+        Ok(PageOutcomes { page, outcomes })
     }
 }
 

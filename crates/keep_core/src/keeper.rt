@@ -1,6 +1,7 @@
 ghost use Rattle.std.specs.Prelude.{◌≡◌, ℕ, Option, IfSome, IfOk};
-ghost use Rattle.keep_core.specs.Tables.{Tables, site_of, page_of, heads_of, judgements_of, outcomes_of};
-ghost use Rattle.keep_core.specs.Fits.{Fits, FitsSite, FitsPage, FitsHeads, IsThere};
+ghost use Rattle.keep_core.specs.declared.tables.Tables.{Tables};
+ghost use Rattle.keep_core.specs.Tables.{edition_of, sites_of, site_of, page_of, heads_of, judgements_of, outcomes_of};
+ghost use Rattle.keep_core.specs.Fits.{Fits, FitsSite, FitsPage, FitsHeads, FitNames, IsThere};
 ghost use Rattle.keep_core.specs.Keeping.{Reads, Makes, CountsFaults};
 
 use crate::change::Batch;
@@ -11,7 +12,7 @@ use judge_core::{Judgement, Outcomes};
 use snap_tree::{List, Text};
 use std::alloc::Global;
 
-/// What keeps sites, pages, judgements and outcomes.
+/// What keeps sites, pages, judgements and outcomes, and the edition of the rules by which outcomes were found.
 ///
 /// Its count of faults never falls, and a call answers `Failed` only where the count rose in that call. Where
 /// it tells its tables, each answer is what the tables say; they change by `apply` alone. Whether it
@@ -22,6 +23,17 @@ pub trait Keeper {
 
     /// The count of its faults.
     ghost faults: { Self → ℕ };
+
+    /// The edition that is kept.
+    fn edition(&mut self, alloc: Global) -> Result<u64, KeepFault>
+        ensures reads { Reads edition_of (tables self.old) (tables self.new) result }
+        ensures faults { CountsFaults (faults self.old) (faults self.new) result };
+
+    /// The names of all sites, in byte order.
+    fn sites(&mut self, alloc: Global) -> Result<List<Text>, KeepFault>
+        ensures reads { Reads sites_of (tables self.old) (tables self.new) result }
+        ensures fits { IfOk result FitNames }
+        ensures faults { CountsFaults (faults self.old) (faults self.new) result };
 
     /// The row of a site; None exactly where there is none.
     fn site(&mut self, alloc: Global, site: &Text) -> Result<Option<Site>, KeepFault>

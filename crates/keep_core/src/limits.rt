@@ -3,7 +3,7 @@ ghost use Rattle.std.specs.Prelude.{◌≡◌};
 /// How many characters the name of a site, a page or a user has at the most. Each is one byte.
 pub const MOST_NAME: usize = 64;
 
-/// The greatest revision, and the greatest counter of a site: 2^63 - 1.
+/// The greatest revision, the greatest counter of a site, and the greatest edition: 2^63 - 1.
 pub const MOST_REVISION: u64 = 9_223_372_036_854_775_807;
 
 /// The numbers of the limits. It does nothing: the clauses are what it is for.

@@ -1,38 +1,50 @@
 ghost use Rattle.std.specs.Prelude.{◌≡◌, IfOk, map, take};
 ghost use Rattle.std.specs.Option.{option_copied};
 ghost use Rattle.named_rows.specs.ByName.{at, IsInOrder};
-ghost use Rattle.keep_core.specs.Tables.{page_name, judgements_in, outcomes_in, site_of, page_of, heads_of, judgements_of, outcomes_of, kept_page};
+ghost use Rattle.keep_core.specs.Tables.{site_name, page_name, judgements_in, outcomes_in, sites_of, site_of, page_of, heads_of, judgements_of, outcomes_of, kept_page};
 ghost use Rattle.keep_core.specs.Fits.{FitTables};
 
 use crate::page::{Page, PageHead};
 use crate::site::Site;
-use crate::tables::{KeptPage, KeptSite};
+use crate::tables::{KeptPage, KeptSite, Tables};
 use judge_core::{Judgement, Outcomes};
-use named_rows::Rows;
 use snap_tree::{Duplicate, List, OutOfMemory, Text};
 use std::alloc::Global;
 
-/// The row of a site.
-pub fn site_row(
-    alloc: Global,
-    sites: &Rows<KeptSite>,
-    site: &Text,
-) -> Result<Option<Site>, OutOfMemory>
-    requires { FitTables sites.now }
-    ensures { IfOk result (λ found. found ≡ site_of site.now sites.now) }
+/// The names of the sites.
+pub fn site_names(alloc: Global, tables: &Tables) -> Result<List<Text>, OutOfMemory>
+    ensures { IfOk result (λ names. names ≡ sites_of tables.now) }
 {
-    match sites.get(site) {
+    names_among(alloc, tables.sites.as_slice())
+}
+
+fn names_among(alloc: Global, sites: &[KeptSite]) -> Result<List<Text>, OutOfMemory>
+    ensures { IfOk result (λ names. names ≡ map site_name sites.now) }
+{
+    let mut names = Vec::with_capacity(alloc, sites.len())?;
+    for kept in sites {
+        names.push(kept.site.name.copy(alloc)?)?;
+    }
+    Ok(List::from_vec(names))
+}
+
+/// The row of a site.
+pub fn site_row(alloc: Global, tables: &Tables, site: &Text) -> Result<Option<Site>, OutOfMemory>
+    requires { FitTables tables.now }
+    ensures { IfOk result (λ found. found ≡ site_of site.now tables.now) }
+{
+    match tables.sites.get(site) {
         Some(kept) => Ok(Some(kept.site.copy(alloc)?)),
         None => Ok(None),
     }
 }
 
 // A page with what is kept of it.
-fn kept_page<'a>(sites: &'a Rows<KeptSite>, site: &Text, page: &Text) -> Option<&'a KeptPage>
-    requires { FitTables sites.now }
-    ensures { option_copied result ≡ kept_page site.now page.now sites.now }
+fn kept_page<'a>(tables: &'a Tables, site: &Text, page: &Text) -> Option<&'a KeptPage>
+    requires { FitTables tables.now }
+    ensures { option_copied result ≡ kept_page site.now page.now tables.now }
 {
-    match sites.get(site) {
+    match tables.sites.get(site) {
         Some(kept) => kept.pages.get(page),
         None => None,
     }
@@ -41,29 +53,25 @@ fn kept_page<'a>(sites: &'a Rows<KeptSite>, site: &Text, page: &Text) -> Option<
 /// A page.
 pub fn page_row(
     alloc: Global,
-    sites: &Rows<KeptSite>,
+    tables: &Tables,
     site: &Text,
     page: &Text,
 ) -> Result<Option<Page>, OutOfMemory>
-    requires { FitTables sites.now }
-    ensures { IfOk result (λ found. found ≡ page_of site.now page.now sites.now) }
+    requires { FitTables tables.now }
+    ensures { IfOk result (λ found. found ≡ page_of site.now page.now tables.now) }
 {
-    match kept_page(sites, site, page) {
+    match kept_page(tables, site, page) {
         Some(kept) => Ok(Some(kept.page.copy(alloc)?)),
         None => Ok(None),
     }
 }
 
 /// The heads of a site's pages.
-pub fn heads(
-    alloc: Global,
-    sites: &Rows<KeptSite>,
-    site: &Text,
-) -> Result<List<PageHead>, OutOfMemory>
-    requires { FitTables sites.now }
-    ensures { IfOk result (λ heads. heads ≡ heads_of site.now sites.now) }
+pub fn heads(alloc: Global, tables: &Tables, site: &Text) -> Result<List<PageHead>, OutOfMemory>
+    requires { FitTables tables.now }
+    ensures { IfOk result (λ heads. heads ≡ heads_of site.now tables.now) }
 {
-    match sites.get(site) {
+    match tables.sites.get(site) {
         Some(kept) => heads_among(alloc, kept.pages.as_slice()),
         None => Ok(List::from_vec(Vec::new(alloc))),
     }
@@ -82,14 +90,14 @@ fn heads_among(alloc: Global, pages: &[KeptPage]) -> Result<List<PageHead>, OutO
 /// The judgements of a page.
 pub fn judgements(
     alloc: Global,
-    sites: &Rows<KeptSite>,
+    tables: &Tables,
     site: &Text,
     page: &Text,
 ) -> Result<List<Judgement>, OutOfMemory>
-    requires { FitTables sites.now }
-    ensures { IfOk result (λ js. js ≡ judgements_of site.now page.now sites.now) }
+    requires { FitTables tables.now }
+    ensures { IfOk result (λ js. js ≡ judgements_of site.now page.now tables.now) }
 {
-    judgements_in(alloc, kept_page(sites, site, page))
+    judgements_in(alloc, kept_page(tables, site, page))
 }
 
 /// The judgements that are kept of a page; none of a strange one.
@@ -105,14 +113,14 @@ pub fn judgements_in(alloc: Global, kept: Option<&KeptPage>) -> Result<List<Judg
 /// The outcomes of a page.
 pub fn outcomes(
     alloc: Global,
-    sites: &Rows<KeptSite>,
+    tables: &Tables,
     site: &Text,
     page: &Text,
 ) -> Result<Outcomes, OutOfMemory>
-    requires { FitTables sites.now }
-    ensures { IfOk result (λ outcomes. outcomes ≡ outcomes_of site.now page.now sites.now) }
+    requires { FitTables tables.now }
+    ensures { IfOk result (λ outcomes. outcomes ≡ outcomes_of site.now page.now tables.now) }
 {
-    match kept_page(sites, site, page) {
+    match kept_page(tables, site, page) {
         Some(kept) => kept.outcomes.copy(alloc),
         None => Ok(Outcomes {
             rows: List::from_vec(Vec::new(alloc)),

@@ -1,8 +1,8 @@
-ghost use Rattle.std.specs.Prelude.{◌≡◌, ◌≤◌, [], Some, true, false, IfSome, IfOk, OnErr, MatchResult};
+ghost use Rattle.std.specs.Prelude.{◌≡◌, ◌≤◌, Some, true, false, IfSome, IfOk, OnErr, MatchResult};
 ghost use Rattle.counts.specs.Counts.{Rose};
 ghost use Rattle.keep_core.specs.declared.fault.KeepFault.TheVariants as keep;
-ghost use Rattle.keep_core.specs.Tables.{site_of, page_of, heads_of, judgements_of, outcomes_of};
-ghost use Rattle.keep_core.specs.Fits.{Fits, FitsSite, FitsPage, FitsHeads, IsThere};
+ghost use Rattle.keep_core.specs.Tables.{no_tables, edition_of, sites_of, site_of, page_of, heads_of, judgements_of, outcomes_of};
+ghost use Rattle.keep_core.specs.Fits.{Fits, FitsSite, FitsPage, FitsHeads, FitNames, IsThere};
 ghost use Rattle.keep_core.specs.Keeping.{Reads, Makes, CountsFaults};
 ghost use Rattle.keep_core.specs.Memory.{Memory, fails_next, after_call, after_change, FailsByList};
 
@@ -11,7 +11,7 @@ use crate::fault::KeepFault;
 use crate::keeper::Keeper;
 use crate::page::{Page, PageHead};
 use crate::site::Site;
-use crate::tables::KeptSite;
+use crate::tables::Tables;
 use crate::{edits, lookups};
 use counts::{is_named, next};
 use judge_core::{Judgement, Outcomes};
@@ -20,11 +20,11 @@ use snap_tree::{Duplicate, List, Text};
 use std::alloc::Global;
 use std::marker::Model;
 
-/// A keeper in memory. It starts empty, always tells its tables, and wants memory for copies of what it keeps
+/// A keeper in memory. It starts empty and of edition 0, always tells its tables, and wants memory for copies of what it keeps
 /// and answers.
 #[derive(Drop)]
 pub struct MemoryKeeper {
-    sites: Rows<KeptSite>,
+    tables: Tables,
     fails: List<u64>,
     calls: u64,
     faults: u64,
@@ -41,19 +41,22 @@ impl Model for MemoryKeeper {
 
     ghost use Rattle.keep_core.specs.Fits.{FitTables};
 
-    ghost view = { λ k. record { tables = k.sites; fails = k.fails; calls = k.calls; faults = k.faults } };
+    ghost view = { λ k. record { tables = k.tables; fails = k.fails; calls = k.calls; faults = k.faults } };
 
-    ghost invariant = { λ k. FitTables k.sites };
+    ghost invariant = { λ k. FitTables k.tables };
 }
 
 impl MemoryKeeper {
     /// A keeper of nothing. Its calls are counted from 1, and those that `fails` names fail. It takes no
     /// memory.
     pub fn new(alloc: Global, fails: List<u64>) -> Self
-        ensures { result ≡ record { tables = []; fails = fails; calls = 0; faults = 0 } }
+        ensures { result ≡ record { tables = no_tables; fails = fails; calls = 0; faults = 0 } }
     {
         MemoryKeeper {
-            sites: Rows::new(alloc),
+            tables: Tables {
+                edition: 0,
+                sites: Rows::new(alloc),
+            },
             fails,
             calls: 0,
             faults: 0,
@@ -83,6 +86,27 @@ impl Keeper for MemoryKeeper {
     ghost faults = { λ k. k.faults };
 
     /// Fails exactly where the list names the call, as each call does.
+    fn edition(&mut self, alloc: Global) -> Result<u64, KeepFault>
+        ensures reads { Reads edition_of (Some self.old.tables) (Some self.new.tables) result }
+        ensures faults { CountsFaults self.old.faults self.new.faults result }
+        ensures fails { FailsByList self.old result }
+        ensures after { self.new ≡ after_call self.old }
+    {
+        self.count_call()?;
+        Ok(self.tables.edition)
+    }
+
+    fn sites(&mut self, alloc: Global) -> Result<List<Text>, KeepFault>
+        ensures reads { Reads sites_of (Some self.old.tables) (Some self.new.tables) result }
+        ensures fits { IfOk result FitNames }
+        ensures faults { CountsFaults self.old.faults self.new.faults result }
+        ensures fails { FailsByList self.old result }
+        ensures after { self.new ≡ after_call self.old }
+    {
+        self.count_call()?;
+        Ok(lookups::site_names(alloc, &self.tables)?)
+    }
+
     fn site(&mut self, alloc: Global, site: &Text) -> Result<Option<Site>, KeepFault>
         ensures reads { Reads (site_of site.now) (Some self.old.tables) (Some self.new.tables) result }
         ensures fits { IfOk result (λ found. IfSome found FitsSite) }
@@ -91,7 +115,7 @@ impl Keeper for MemoryKeeper {
         ensures after { self.new ≡ after_call self.old }
     {
         self.count_call()?;
-        Ok(lookups::site_row(alloc, &self.sites, site)?)
+        Ok(lookups::site_row(alloc, &self.tables, site)?)
     }
 
     fn load(&mut self, alloc: Global, site: &Text, page: &Text) -> Result<Option<Page>, KeepFault>
@@ -102,7 +126,7 @@ impl Keeper for MemoryKeeper {
         ensures after { self.new ≡ after_call self.old }
     {
         self.count_call()?;
-        Ok(lookups::page_row(alloc, &self.sites, site, page)?)
+        Ok(lookups::page_row(alloc, &self.tables, site, page)?)
     }
 
     fn list(&mut self, alloc: Global, site: &Text) -> Result<List<PageHead>, KeepFault>
@@ -113,7 +137,7 @@ impl Keeper for MemoryKeeper {
         ensures after { self.new ≡ after_call self.old }
     {
         self.count_call()?;
-        Ok(lookups::heads(alloc, &self.sites, site)?)
+        Ok(lookups::heads(alloc, &self.tables, site)?)
     }
 
     fn judgements(
@@ -128,7 +152,7 @@ impl Keeper for MemoryKeeper {
         ensures after { self.new ≡ after_call self.old }
     {
         self.count_call()?;
-        Ok(lookups::judgements(alloc, &self.sites, site, page)?)
+        Ok(lookups::judgements(alloc, &self.tables, site, page)?)
     }
 
     fn outcomes(&mut self, alloc: Global, site: &Text, page: &Text) -> Result<Outcomes, KeepFault>
@@ -138,7 +162,7 @@ impl Keeper for MemoryKeeper {
         ensures after { self.new ≡ after_call self.old }
     {
         self.count_call()?;
-        Ok(lookups::outcomes(alloc, &self.sites, site, page)?)
+        Ok(lookups::outcomes(alloc, &self.tables, site, page)?)
     }
 
     fn apply(&mut self, alloc: Global, batch: &Batch) -> Result<(), KeepFault>
@@ -149,7 +173,7 @@ impl Keeper for MemoryKeeper {
         ensures after { self.new ≡ after_change batch.now.change self.old result }
     {
         self.count_call()?;
-        edits::make(alloc, &mut self.sites, &batch.change)?;
+        edits::make(alloc, &mut self.tables, &batch.change)?;
         Ok(())
     }
 }

@@ -27,6 +27,13 @@ pub struct PagePut {
     pub outcomes: Outcomes,
 }
 
+/// New outcomes of a page, which is named.
+#[derive(Drop)]
+pub struct PageOutcomes {
+    pub page: Text,
+    pub outcomes: Outcomes,
+}
+
 /// A page as reports show it: without its tree, but with the tree's address.
 #[derive(Debug, Drop, PartialEq, Eq)]
 pub struct SitePage {

@@ -19,6 +19,14 @@ pub struct KeptSite {
     pub pages: Rows<KeptPage>,
 }
 
+/// What is kept: the sites in byte order of their names, and the edition of the rules by which the outcomes of
+/// their pages were found.
+#[derive(Drop)]
+pub struct Tables {
+    pub edition: u64,
+    pub sites: Rows<KeptSite>,
+}
+
 impl Named for KeptPage {
     ghost name = { λ p. p.page.head.page };
 

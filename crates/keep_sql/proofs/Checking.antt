@@ -11,7 +11,7 @@ use Rattle.judge_core.specs.declared.outcomes.OutRow.{OutRow}
 use Rattle.judge_core.specs.declared.outcomes.Outcomes.{Outcomes}
 use Rattle.keep_core.specs.declared.site.Site.{Site}
 use Rattle.keep_core.specs.declared.page.Page.{Page}
-use Rattle.store_statements.specs.Stored.{Stored, stored, sites_in, pages_of, site_at, members_at, page_at, heads_at, judgements_at, outcomes_at}
+use Rattle.store_statements.specs.Stored.{Stored, stored, sites_in, pages_of, site_at, members_at, page_at, heads_at, judgements_at, outcomes_at, languages_at}
 use Rattle.store_tables.specs.Reading.{read_counted}
 use Rattle.store_tables.specs.Judgements.{judgement_from, judgements_shown}
 use Rattle.store_tables.specs.Outcomes.{outcome_from, outcomes_shown}
@@ -53,30 +53,38 @@ pub still_recalled : (known : Option Known) (a b : State) → IsUnchanged a b �
 still_recalled None a b same recalls = tt
 still_recalled (Some k) a b same recalls = λ is_open. ap (λ (d : Database). outcomes_shown (outcomes_at k.site k.page (stored d.trees))) same.0.now_is ∙ recalls same.0.was_open
 
-is_read : {A : Type 0} (o : Option A) (x : A) → o ≡ Some x → IsSome o
+pub is_read : {A : Type 0} (o : Option A) (x : A) → o ≡ Some x → IsSome o
 is_read o x is = subst IsSome (sym is) refl
 
 module _ (site : List ℕ) (s : Stored) where
   -- a site that reads is there
-  pub site_kept : (x : Site) → site_shown site (site_at site s) (members_at site s) ≡ Some (Some x) → is_site s site ≡ true
+  pub site_kept : (x : Site) → site_shown site (site_at site s) (members_at site s) (languages_at site s) ≡ Some (Some x) → is_site s site ≡ true
   site_kept x is = by (at (name_at 0) site (sites_in s)) is
     where
-      by : (o : Option Row) → site_shown site (option_to_list (option_map (λ r. column r 1 ∷ []) o)) (members_at site s) ≡ Some (Some x) → is_some o ≡ true
+      by : (o : Option Row) → site_shown site (option_to_list (option_map (λ r. column r 1 ∷ []) o)) (members_at site s) (languages_at site s) ≡ Some (Some x) → is_some o ≡ true
       by None is = absurd (none_some x (some_same None (Some x) is))
       by (Some r) is = refl
 
-  pub reads_kept : (x : Site) → site_shown site (site_at site s) (members_at site s) ≡ Some (Some x) → ReadsSite site s
+  pub reads_kept : (x : Site) → site_shown site (site_at site s) (members_at site s) (languages_at site s) ≡ Some (Some x) → ReadsSite site s
   reads_kept x is = record {
-    reads = is_read (site_shown site (site_at site s) (members_at site s)) (Some x) is;
+    reads = is_read (site_shown site (site_at site s) (members_at site s) (languages_at site s)) (Some x) is;
+    languages = λ strange. absurd (true≢false (sym (site_kept x is) ∙ strange));
     members = λ strange. absurd (true≢false (sym (site_kept x is) ∙ strange));
     pages = λ strange. absurd (true≢false (sym (site_kept x is) ∙ strange));
   }
 
-  pub reads_none : (x : Option Site) → site_shown site (site_at site s) (members_at site s) ≡ Some x → (members_at site s ≡ []) × (heads_at site s ≡ []) → ReadsSite site s
-  reads_none x is none = record { reads = is_read (site_shown site (site_at site s) (members_at site s)) x is; members = λ _. none.0; pages = λ _. none.1 }
+  pub reads_none : (x : Option Site) → site_shown site (site_at site s) (members_at site s) (languages_at site s) ≡ Some x
+      → (members_at site s ≡ []) × (languages_at site s ≡ []) × (heads_at site s ≡ []) → ReadsSite site s
+  reads_none x is none = record {
+    reads = is_read (site_shown site (site_at site s) (members_at site s) (languages_at site s)) x is;
+    languages = λ _. none.1;
+    members = λ _. none.0;
+    pages = λ _. none.2;
+  }
 
-  pub kept_reads : (x : Site) → site_shown site (site_at site s) (members_at site s) ≡ Some (Some x) → (is_site s site ≡ true) × IsSome (site_shown site (site_at site s) (members_at site s))
-  kept_reads x is = (site_kept x is, is_read (site_shown site (site_at site s) (members_at site s)) (Some x) is)
+  pub kept_reads : (x : Site) → site_shown site (site_at site s) (members_at site s) (languages_at site s) ≡ Some (Some x)
+      → (is_site s site ≡ true) × IsSome (site_shown site (site_at site s) (members_at site s) (languages_at site s))
+  kept_reads x is = (site_kept x is, is_read (site_shown site (site_at site s) (members_at site s) (languages_at site s)) (Some x) is)
 
 none_counted : {X : Type 0} (read : ℕ → Row → Option X) (place : ℕ) (rs : List Row) (ts : List X) → read_counted read place rs ≡ Some ts → ts ≡ [] → rs ≡ []
 none_counted read place [] ts is none = refl

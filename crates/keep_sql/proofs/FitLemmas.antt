@@ -1,5 +1,5 @@
 -- What is read of a site and of heads fits, where it comes in order.
-use Rattle.std.proofs.Common.{◌≡◌, ℕ, pos, ◌≤◌, List, [], ◌∷◌, Bool, true, false, cond, nat_le, Option, Some, None, IfSome, IsTrue, refl, sym, ap, subst, ◌∙◌, arith, All}
+use Rattle.std.proofs.Common.{◌≡◌, ℕ, pos, ◌≤◌, List, [], ◌∷◌, Bool, true, false, cond, nat_le, Option, Some, None, is_none, IfSome, IsTrue, refl, sym, ap, subst, ◌∙◌, arith, All}
 use Rattle.std.specs.Prelude.{negsuc}
 use Rattle.std.proofs.lemmas.Bool.Decides.{nat_tests}
 use Rattle.std.proofs.lemmas.List.Elements.{All-cons, All-nil, All-head, All-tail}
@@ -15,12 +15,15 @@ use Rattle.keep_core.specs.declared.member.Member.{Member}
 use Rattle.keep_core.specs.declared.site.Site.{Site}
 use Rattle.keep_core.specs.declared.page.PageHead.{PageHead}
 use Rattle.keep_core.specs.Names.{is_name}
-use Rattle.keep_core.specs.Fits.{FitsSite, FitsHead, FitsHeads}
+use Rattle.keep_core.specs.Fits.{FitsSite, FitsHead, FitsHeads, FitNames}
 use Rattle.sql_rows.specs.Tables.{name_at}
-use Rattle.store_tables.specs.Reading.{◌>>=◌, read_each}
+use Rattle.snap_tree.specs.Langs.{AreLangs, langs_fault}
+use Rattle.store_tables.specs.Languages.{language_from, languages_shown, of_form}
+use Rattle.store_tables.proofs.Named.{site_from_reads}
+use Rattle.store_tables.specs.Reading.{◌>>=◌, read_each, read_counted}
 use Rattle.store_tables.specs.Cells.{number_in, text_in, named, role_in}
 use Rattle.store_tables.specs.Members.{member_from}
-use Rattle.store_tables.specs.Sites.{site_from, site_shown}
+use Rattle.store_tables.specs.Sites.{site_from, site_shown, names_shown}
 use Rattle.store_tables.specs.Pages.{head_from, heads_shown}
 use Rattle.store_tables.proofs.Steps.{some_same, none_some, both_read, found_reads}
 use Rattle.store_tables.proofs.Each.{first_reads}
@@ -73,28 +76,41 @@ users (r ∷ rs) ms is =
     let f = first_reads member_from r rs ms is in
     subst (All (λ (m : Member). IsTrue (is_name m.user))) (sym f.4) (All-cons (λ (m : Member). IsTrue (is_name m.user)) f.0 f.1 (member_is r f.0 f.2) (users rs f.1 f.3))
 
-site_is_named : (name : List ℕ) (counter : Value) (members : List Row) (x : Site) → site_from name counter members ≡ Some x → IsTrue (is_name x.name)
-unfolding site_from
-site_is_named name counter members x is =
-    let a = both_read {B = Site} (named name) (λ n. number_in MOST_REVISION counter >>= (λ k. read_each member_from members >>= (λ ms. Some (record { name = n; counter = k; members = ms })))) x is in
-    let b = both_read {B = Site} (number_in MOST_REVISION counter) (λ k. read_each member_from members >>= (λ ms. Some (record { name = a.0; counter = k; members = ms }))) x a.2 in
-    let c = both_read {B = Site} (read_each member_from members) (λ ms. Some (record { name = a.0; counter = b.0; members = ms })) x b.2 in
-    subst (λ (s : Site). IsTrue (is_name s.name)) (some_same {A = Site} (record { name = a.0; counter = b.0; members = c.0 }) x c.2) (named_is name a.0 a.1)
+site_is_named : (name : List ℕ) (counter : Value) (members languages : List Row) (x : Site) → site_from name counter members languages ≡ Some x → IsTrue (is_name x.name)
+site_is_named name counter members languages x is = named_is name x.name (site_from_reads name counter members languages x is)
 
-pub site_fits : (site : List ℕ) (counters members : List Row) (found : Option Site) → site_shown site counters members ≡ Some found → IfSome found (λ s. IsInOrder (λ (m : Member). m.user) s.members)
+-- a list that reads is of the form
+langs_fit : (rows : List Row) (langs : List (List ℕ)) → languages_shown rows ≡ Some langs → AreLangs langs
+langs_fit rows langs is =
+    let a = both_read {B = List (List ℕ)} (read_counted language_from 1 rows) of_form langs is in
+    by a.0 (langs_fault a.0) refl a.2
+  where
+    by : (ls : List (List ℕ)) (fault : Option ℕ) → langs_fault ls ≡ fault → of_form ls ≡ Some langs → AreLangs langs
+    by ls None none is = let same : ls ≡ langs = some_same ls langs (sym (ap (λ (f : Option ℕ). cond (is_none f) (Some ls) None) none) ∙ is) in subst AreLangs same none
+    by ls (Some place) some is = absurd (none_some langs (sym (ap (λ (f : Option ℕ). cond (is_none f) (Some ls) None) some) ∙ is))
+
+-- and so are names that read names
+pub names_fit : (rows : List Row) (names : List (List ℕ)) → names_shown rows ≡ Some names → FitNames names
+names_fit [] names is = subst FitNames (some_same [] names is) (All-nil (λ (n : List ℕ). IsTrue (is_name n)))
+names_fit (r ∷ rs) names is =
+    let f = first_reads (λ c. named (name_at 0 c)) r rs names is in
+    subst FitNames (sym f.4) (All-cons (λ (n : List ℕ). IsTrue (is_name n)) f.0 f.1 (named_is (name_at 0 r) f.0 f.2) (names_fit rs f.1 f.3))
+
+pub site_fits : (site : List ℕ) (counters members languages : List Row) (found : Option Site) → site_shown site counters members languages ≡ Some found → IfSome found (λ s. IsInOrder (λ (m : Member). m.user) s.members)
     → IfSome found FitsSite
-site_fits site counters members None is up = tt
-site_fits site [] members (Some x) is up = absurd (none_some x (some_same None (Some x) is))
-site_fits site (c ∷ cs) members (Some x) is up =
-    let found = found_reads (site_from site (column c 0) members) (Some x) is in
+site_fits site counters members languages None is up = tt
+site_fits site [] members languages (Some x) is up = absurd (none_some x (some_same None (Some x) is))
+site_fits site (c ∷ cs) members languages (Some x) is up =
+    let found = found_reads (site_from site (column c 0) members languages) (Some x) is in
     let same : x ≡ found.0 = some_same x found.0 found.2 in
-    let reads : site_from site (column c 0) members ≡ Some x = found.1 ∙ ap (λ (s : Site). Some s) (sym same) in
-    let parts = site_parts site (column c 0) members x reads in
+    let reads : site_from site (column c 0) members languages ≡ Some x = found.1 ∙ ap (λ (s : Site). Some s) (sym same) in
+    let parts = site_parts site (column c 0) members languages x reads in
     record {
-      name = site_is_named site (column c 0) members x reads;
+      name = site_is_named site (column c 0) members languages x reads;
       counter = number_within MOST_REVISION (column c 0) x.counter parts.0;
       users = users members x.members parts.1;
       in_order = up;
+      languages = langs_fit languages x.languages parts.2;
     }
 
 head_fits : (page : List ℕ) (rev hand : Value) (h : PageHead) → head_from page rev hand ≡ Some h → FitsHead h

@@ -8,10 +8,9 @@ use Rattle.sqlite.specs.Held.{Held, state}
 use Rattle.sqlite.specs.State.{State, HasCleanDisk}
 use Rattle.keep_core.specs.declared.change.Change.{Change}
 use Rattle.keep_core.specs.declared.fault.KeepFault.{KeepFault}
-use Rattle.keep_core.specs.Changes.{changed}
 use Rattle.keep_core.specs.Fits.{Fits}
 use Rattle.keep_core.specs.Keeping.{Stays, Reads, Makes}
-use Rattle.keep_core.specs.Tables.{Tables}
+use Rattle.keep_core.specs.declared.tables.Tables.{Tables}
 use Rattle.store_statements.specs.Stored.{stored}
 use Rattle.store_statements.specs.Changes.{IsStore}
 use Rattle.store_tables.specs.Told.{tables_in}
@@ -102,10 +101,11 @@ module _ (old new : State) (clean : doubt old.is_clean ≤ doubt new.is_clean) w
       by (inr made) =
           let applies = made (store clean_old is_open) in
           inr (record {
+            all = applies.0;
             was = λ t is.
-                let before = applied change (rows_in old) (stored db) applies fits t is in
+                let before = applied change (rows_in old) (stored db) applies.1 fits t is in
                 (before.0, told_by old before.0 (record { clean = clean_old; is_open = is_open; gives = before.1 }), before.2);
-            now = λ before is. applies_tells change (rows_in old) (stored db) applies fits numbered before (told_is old before is).gives;
+            now = λ before is. applies_tells change (rows_in old) (stored db) applies.1 fits numbered before (told_is old before is).gives;
           })
 
 -- ---- a keeper that is ready

@@ -7,5 +7,6 @@ pub mod Over
 pub mod FitLemmas
 pub mod KeepLemmas
 pub mod Noting
+pub mod Renewing
 pub mod PrepareLemmas
 pub mod Restart

@@ -3,7 +3,6 @@ use Rattle.std.proofs.Common.{Result, Ok, ◌∙◌, arith}
 use Rattle.std.specs.Borrow.{MutBor}
 use Rattle.sqlite_trees.specs.declared.store.Store.{Ghosts}
 use Rattle.sqlite.specs.Held.{Held, state}
-use Rattle.sqlite.specs.State.{HasCleanDisk}
 use Rattle.sqlite.proofs.StateLemmas.{survives_then}
 use Rattle.sql_rows.specs.Inside.{Steps}
 

@@ -1,5 +1,5 @@
 -- A keeper over a store.
-use Rattle.std.specs.Prelude.{◌≡◌, ◌⊎◌, ℕ, [], false, ◌&&◌, if◌then◌else◌, Option, Some, None, IfSome, IsSomeAnd, Result, Err, IsTrue, refl}
+use Rattle.std.specs.Prelude.{◌≡◌, ◌⊎◌, ℕ, true, false, ◌&&◌, if◌then◌else◌, Option, Some, None, IfSome, IsSomeAnd, Result, Err, IsTrue, refl}
 use Rattle.std.specs.Coded.{Coded, code_by, coded×, coded_ℕ, coded_option}
 use Rattle.counts.specs.Counts.{Rose}
 use Rattle.sqlite.specs.Held.{Held, held_code, state}
@@ -10,9 +10,10 @@ use Rattle.sqlite_trees.specs.declared.store.Store.{Ghosts}
 use Rattle.keep_core.specs.declared.fault.KeepFault.{KeepFault}
 use Rattle.keep_core.specs.declared.fault.KeepFault.TheVariants.{Failed}
 use Rattle.keep_core.specs.declared.change.Change.{Change}
-use Rattle.keep_core.specs.Tables.{Tables}
+use Rattle.keep_core.specs.declared.tables.Tables.{Tables}
+use Rattle.keep_core.specs.Tables.{no_tables}
 use Rattle.keep_core.specs.Changes.{changed}
-use Rattle.store_statements.specs.Stored.{stored}
+use Rattle.store_statements.specs.Stored.{Stored, stored}
 use Rattle.store_statements.specs.Changes.{IsStore}
 use Rattle.store_tables.specs.Told.{tables_in}
 use Rattle.keep_sql.specs.declared.known.Known.{Known}
@@ -20,7 +21,7 @@ use Rattle.keep_sql.specs.declared.keeper.Prepared.{Prepared}
 use Rattle.keep_sql.specs.declared.keeper.Prepared.TheVariants.{Ready, OtherEdition}
 use Rattle.keep_sql.specs.Reading.{rows_in, edition_in, Recalls}
 use Rattle.keep_sql.specs.Writing.{MayLeave}
-use Rattle.keep_sql.specs.Preparing.{HasNone, HasSix, IsPrepared}
+use Rattle.keep_sql.specs.Preparing.{HasNone, HasAll, HasRows, IsPrepared, is_taken}
 
 -- the connection of a store that is ready, that of one that isn't yet, a store that was shut, and the count of faults
 pub record Keeper (S : Type 0) : Type 0 where
@@ -73,8 +74,12 @@ module _ {S : Type 0} (g : Ghosts S) where
   abbrev pub HasEdition : ℕ → Option (Held S) → Type 0
   HasEdition number conn = IfSome conn (λ c. HasCleanDisk (state g c) → IsTrue (state g c).is_open → edition_in (state g c) ≡ Some (Some number))
 
+  -- of a store whose rows are taken
+  abbrev pub HasTaken : Option (Held S) → Type 0
+  HasTaken conn = (number : ℕ) × (is_taken number ≡ true) × HasEdition number conn
+
   abbrev pub IsNoted : Prepared → Keeper S → Type 0
-  IsNoted Ready k = HasEdition 2 k.ready
+  IsNoted Ready k = HasTaken k.ready
   IsNoted (OtherEdition number) k = HasEdition number k.waiting
 
   -- what holds of the store of a keeper that is ready, before and after a call; one that isn't ready stays so
@@ -119,11 +124,15 @@ module _ {S : Type 0} (g : Ghosts S) where
 
 -- of a store that is ready empty tables are told, where it had none, or what its rows told
 abbrev pub IsToldOf : State → State → Type 0
-IsToldOf old new = HasCleanDisk new → IsTrue new.is_open → (HasNone old.now.trees × (told new ≡ Some [])) ⊎ (HasSix old.now.trees × (told new ≡ tables_in (rows_in old)))
+IsToldOf old new =
+    HasCleanDisk new → IsTrue new.is_open
+    → (HasNone old.now.trees × (told new ≡ Some no_tables)) ⊎ ((s : Stored) × HasRows old.now.trees s × (told new ≡ tables_in s))
 
--- and what it had noted: where it is ready no edition, or 2, and else this number
+-- and what it had noted: where it is ready no edition, or one whose rows are taken, and else this number
 abbrev pub FoundEdition : Prepared → State → State → Type 0
-FoundEdition Ready old new = HasCleanDisk new → IsTrue new.is_open → HasNone old.now.trees ⊎ ((edition_in old ≡ Some None) ⊎ (edition_in old ≡ Some (Some 2)))
+FoundEdition Ready old new =
+    HasCleanDisk new → IsTrue new.is_open
+    → HasNone old.now.trees ⊎ ((edition_in old ≡ Some None) ⊎ ((number : ℕ) × (is_taken number ≡ true) × (edition_in old ≡ Some (Some number))))
 FoundEdition (OtherEdition number) old new = HasCleanDisk new → IsTrue new.is_open → edition_in old ≡ Some (Some number)
 
 -- the rows stay
@@ -138,8 +147,9 @@ LeavesAll old new = Survives old new (λ _. ⊥)
 abbrev pub LeavesChange : Change → State → State → Type 0
 LeavesChange change old new = Survives old new (MayLeave change old)
 
--- what a database tells is the change of what a store told, and it does so where the store told tables
+-- what a database tells, which has all tables, is the change of what a store told, and it does so where the store told tables
 pub record TellsChanged (change : Change) (s : State) (db : Trees) : Type 0 where
+  pub all : HasAll db
   pub was : (t : Tables) → tables_in (stored db) ≡ Some t → (before : Tables) × (told s ≡ Some before) × (t ≡ changed change before)
   pub now : (before : Tables) → told s ≡ Some before → tables_in (stored db) ≡ Some (changed change before)
 

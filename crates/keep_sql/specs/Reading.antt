@@ -9,21 +9,27 @@ use Rattle.judge_core.specs.declared.outcomes.Outcomes.{Outcomes}
 use Rattle.keep_core.specs.declared.site.Site.{Site}
 use Rattle.keep_core.specs.declared.page.PageHead.{PageHead}
 use Rattle.keep_core.specs.declared.page.Page.{Page}
-use Rattle.store_statements.specs.Stored.{Stored, stored, site_at, members_at, page_at, heads_at, judgements_at, outcomes_at, editions_at}
+use Rattle.store_statements.specs.Stored.{Stored, stored, names_at, site_at, members_at, page_at, heads_at, judgements_at, outcomes_at, editions_at, languages_at}
 use Rattle.store_statements.specs.Changes.{IsStore, IsReady}
-use Rattle.store_tables.specs.Sites.{site_shown}
+use Rattle.store_tables.specs.Sites.{site_shown, names_shown}
 use Rattle.store_tables.specs.Pages.{page_shown, heads_shown}
 use Rattle.store_tables.specs.Judgements.{judgements_shown}
 use Rattle.store_tables.specs.Outcomes.{outcomes_shown}
-use Rattle.store_tables.specs.Editions.{edition_shown}
+use Rattle.store_tables.specs.Editions.{edition_shown, kept_edition}
 use Rattle.keep_sql.specs.declared.known.Known.{Known}
 
 abbrev pub rows_in : State → Stored
 rows_in s = stored s.now.trees
 
 -- what the rows are read as; None where one doesn't read
+abbrev pub kept_in : State → Option ℕ
+kept_in s = kept_edition (editions_at (rows_in s))
+
+abbrev pub names_in : State → Option (List (List ℕ))
+names_in s = names_shown (names_at (rows_in s))
+
 abbrev pub site_in : List ℕ → State → Option (Option Site)
-site_in site s = site_shown site (site_at site (rows_in s)) (members_at site (rows_in s))
+site_in site s = site_shown site (site_at site (rows_in s)) (members_at site (rows_in s)) (languages_at site (rows_in s))
 
 abbrev pub page_in : List ℕ → List ℕ → State → Option (Option Page)
 page_in site page s = page_shown page (page_at site page (rows_in s))

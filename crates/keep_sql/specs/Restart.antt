@@ -5,15 +5,16 @@ use Rattle.sqlite_trees.specs.declared.store.Store.{Ghosts}
 use Rattle.sqlite.specs.Held.{state}
 use Rattle.keep_core.specs.declared.change.Change.{Change}
 use Rattle.keep_core.specs.Changes.{changed}
-use Rattle.keep_core.specs.Tables.{Tables}
-use Rattle.store_statements.specs.Stored.{stored}
+use Rattle.keep_core.specs.declared.tables.Tables.{Tables}
+use Rattle.store_statements.specs.Stored.{Stored}
 use Rattle.store_tables.specs.Told.{tables_in}
+use Rattle.keep_sql.specs.Preparing.{HasRows}
 use Rattle.keep_sql.specs.Keeper.{Keeper, tables, held, LeftBy, LeavesTables, LeavesPrepared, Across, IsToldOf}
 
 module _ (Sound : Tables → Type 0) where
-  -- where stored rows tell tables, these are sound
+  -- where the rows of a database that has tables tell any, these are sound
   abbrev pub AreSound : Trees → Type 0
-  AreSound db = (t : Tables) → tables_in (stored db) ≡ Some t → Sound t
+  AreSound db = (s : Stored) → HasRows db s → (t : Tables) → tables_in s ≡ Some t → Sound t
 
   -- of all that may be left
   abbrev pub AllSound : (Trees → Type 0) → Type 0

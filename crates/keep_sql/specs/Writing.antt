@@ -16,6 +16,7 @@ use Rattle.store_tables.specs.Outcomes.{outcome_cells}
 use Rattle.store_tables.specs.Batches.{Applies, ReadsPage, PutsOne}
 use Rattle.keep_sql.specs.declared.known.Known.{Known}
 use Rattle.keep_sql.specs.Reading.{rows_in, Recalls}
+use Rattle.keep_sql.specs.Preparing.{HasAll}
 
 -- a call in a transaction finds this of the rows, and leaves them as they were
 abbrev pub FindsInside : {S A E : Type 0} → Ghosts S → (Stored → Type 0) → MutBor (Held S) → MutBor (Held S) → Result A E → Type 0
@@ -56,6 +57,6 @@ pub record ChangesStore {A E : Type 0} (change : Change) (old new : State) (resu
   -- a crash leaves just what the change made
   pub settled : HasCleanDisk new → OnOk result ((db : Trees) → new.may_leave db → db ≡ new.now.trees)
 
--- what a crash may leave besides what it could leave before: the change
+-- what a crash may leave besides what it could leave before: the change, in a database that has all tables
 abbrev pub MayLeave : Change → State → Trees → Type 0
-MayLeave change s db = IsStore s → Applies change (rows_in s) (stored db)
+MayLeave change s db = IsStore s → HasAll db × Applies change (rows_in s) (stored db)

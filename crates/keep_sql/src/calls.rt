@@ -1,8 +1,8 @@
 //! What is read of a store, each in a transaction of its own that is dropped.
 
 ghost use Rattle.std.specs.Prelude.{◌≡◌, false, IfOk, IfSome};
-ghost use Rattle.keep_core.specs.Fits.{FitsSite, FitsPage, FitsHeads};
-ghost use Rattle.keep_sql.specs.Reading.{site_in, page_in, heads_in, judgements_in, outcomes_in, ReadsStore, OnlyReads};
+ghost use Rattle.keep_core.specs.Fits.{FitsSite, FitsPage, FitsHeads, FitNames};
+ghost use Rattle.keep_sql.specs.Reading.{kept_in, names_in, site_in, page_in, heads_in, judgements_in, outcomes_in, ReadsStore, OnlyReads};
 
 use crate::reads;
 use judge_core::{Judgement, Outcomes};
@@ -12,7 +12,33 @@ use sqlite::{Alter, Connection};
 use std::alloc::Global;
 use store_tables::{Memo, StoreFault};
 
-/// The site of a name with its members; None where there is none.
+/// The edition that is kept.
+pub fn read_edition<S: Alter>(conn: &mut Connection<S>) -> Result<u64, StoreFault>
+    requires idle { conn.old.in_transaction ≡ false }
+    ensures only { OnlyReads S.Store conn.old conn.new }
+    ensures reads { ReadsStore S.Store kept_in conn.old conn.new result }
+{
+    let _idle = conn.is_autocommit();
+    let mut tx = conn.transaction();
+    reads::kept_in(&mut tx)
+}
+
+/// The names of all sites, in byte order.
+pub fn read_names<S: Alter>(
+    alloc: Global,
+    conn: &mut Connection<S>,
+) -> Result<List<Text>, StoreFault>
+    requires idle { conn.old.in_transaction ≡ false }
+    ensures only { OnlyReads S.Store conn.old conn.new }
+    ensures reads { ReadsStore S.Store names_in conn.old conn.new result }
+    ensures fits { IfOk result FitNames }
+{
+    let _idle = conn.is_autocommit();
+    let mut tx = conn.transaction();
+    reads::names_in(alloc, &mut tx)
+}
+
+/// The site of a name with its members and its languages; None where there is none.
 pub fn read_site<S: Alter>(
     alloc: Global,
     conn: &mut Connection<S>,

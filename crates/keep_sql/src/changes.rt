@@ -1,6 +1,6 @@
 //! Changes of what is kept, each of rows that read.
 
-ghost use Rattle.std.specs.Prelude.{◌≡◌, false};
+ghost use Rattle.std.specs.Prelude.{◌≡◌, true, false};
 ghost use Rattle.std.specs.List.{All};
 ghost use Rattle.sqlite.specs.Held.{state};
 ghost use Rattle.sqlite.specs.State.{HasCleanDisk, Survives};
@@ -9,16 +9,23 @@ ghost use Rattle.keep_core.specs.declared.page.PagePut.{PagePut};
 ghost use Rattle.keep_core.specs.declared.change.Change.TheVariants as change;
 ghost use Rattle.keep_core.specs.Fits.{Fits, FitsPage};
 ghost use Rattle.store_statements.specs.Changes.{MakesInside};
-ghost use Rattle.store_tables.specs.Batches.{Applies, PutsPages, PutsEach, DropsWhole, ReadsPage};
+ghost use Rattle.store_tables.specs.Batches.{Applies, PutsPages, PutsEach, DropsWhole, ReadsPage, RefreshesOne, RefreshesEach};
+ghost use Rattle.store_tables.specs.Told.{is_page};
 ghost use Rattle.keep_sql.specs.Reading.{Recalls};
 ghost use Rattle.keep_sql.specs.Writing.{MakesKnowing, PutsOver, ChangesStore, MayLeave};
 
-use crate::checks::{check_judged, check_kept, check_page, check_site, has_site};
+use crate::checks::{
+    check_editions, check_judged, check_kept, check_page, check_site, has_page, has_site,
+};
 use crate::known::Known;
-use crate::writes::{write_judgement, write_members, write_outcomes, write_page, write_site};
+use crate::reads;
+use crate::writes::{
+    write_edition, write_judgements, write_languages, write_members, write_outcomes, write_page,
+    write_site,
+};
 use judge_core::{Judgement, Outcomes};
-use keep_core::{Change, PagePut, Site};
-use snap_tree::Text;
+use keep_core::{Change, PageOutcomes, PagePut, Site};
+use snap_tree::{List, Text};
 use sqlite::{Alter, Connection, Transaction};
 use std::alloc::Global;
 use store_statements::{drop_judgements, drop_outcomes, drop_page};
@@ -35,7 +42,8 @@ fn put_site<S: Alter>(
     check_site(alloc, tx, &site.name)?;
     let name = site.name.as_str();
     write_site(tx, name, site.counter)?;
-    write_members(tx, name, site.members.as_slice())
+    write_members(tx, name, site.members.as_slice())?;
+    write_languages(tx, name, site.languages.as_slice())
 }
 
 // Puts a page over one that reads, whose outcomes may be those that are known.
@@ -137,17 +145,104 @@ fn judge<S: Alter>(
     tx: &mut Transaction<'_, S>,
     site: &Text,
     page: &Text,
-    judgement: &Judgement,
+    js: &List<Judgement>,
     outcomes: &Outcomes,
     known: Option<Known>,
 ) -> Result<(), StoreFault>
     ensures steps { Steps S.Store tx.old.conn tx.new.conn result }
-    ensures makes { MakesKnowing S.Store known (Applies (change.AddJudgement site.now page.now judgement.now outcomes.now)) tx.old.conn tx.new.conn result }
+    ensures makes { MakesKnowing S.Store known (Applies (change.AddJudgements site.now page.now js.now outcomes.now)) tx.old.conn tx.new.conn result }
 {
     let (place, kept) = check_judged(alloc, tx, site, page, known)?;
     let (site, page) = (site.as_str(), page.as_str());
-    write_judgement(tx, site, page, place, judgement)?;
+    write_judgements(tx, site, page, place, js.as_slice())?;
     write_outcomes(tx, site, page, &kept, outcomes)
+}
+
+// Gives a page new outcomes, where it is there.
+#[tactic(auto, using(crate::proofs::Over::refreshes_there, crate::proofs::Over::refreshes_none))]
+fn refresh_one<S: Alter>(
+    alloc: Global,
+    tx: &mut Transaction<'_, S>,
+    site: &Text,
+    one: &PageOutcomes,
+) -> Result<(), StoreFault>
+    ensures steps { Steps S.Store tx.old.conn tx.new.conn result }
+    ensures makes { MakesInside S.Store (RefreshesOne site.now one.now) tx.old.conn tx.new.conn result }
+{
+    if has_page(tx, site.as_str(), one.page.as_str())? {
+        refresh_there(alloc, tx, site, one)
+    } else {
+        Ok(())
+    }
+}
+
+fn refresh_there<S: Alter>(
+    alloc: Global,
+    tx: &mut Transaction<'_, S>,
+    site: &Text,
+    one: &PageOutcomes,
+) -> Result<(), StoreFault>
+    ensures steps { Steps S.Store tx.old.conn tx.new.conn result }
+    ensures makes { MakesInside S.Store (λ old new. is_page old site.now one.now.page ≡ true → RefreshesOne site.now one.now old new) tx.old.conn tx.new.conn result }
+{
+    let kept = reads::outcomes_in(alloc, tx, site, &one.page)?;
+    let (site, page) = (site.as_str(), one.page.as_str());
+    write_outcomes(tx, site, page, &kept, &one.outcomes)
+}
+
+fn refresh_each<S: Alter>(
+    alloc: Global,
+    tx: &mut Transaction<'_, S>,
+    site: &Text,
+    outcomes: &[PageOutcomes],
+) -> Result<(), StoreFault>
+    ensures steps { Steps S.Store tx.old.conn tx.new.conn result }
+    ensures makes { MakesInside S.Store (RefreshesEach site.now outcomes.now) tx.old.conn tx.new.conn result }
+{
+    let Some((first, rest)) = outcomes.split_first() else {
+        return Ok(());
+    };
+    refresh_one(alloc, tx, site, first)?;
+    refresh_each(alloc, tx, site, rest)
+}
+
+fn refresh<S: Alter>(
+    alloc: Global,
+    tx: &mut Transaction<'_, S>,
+    site: &Text,
+    outcomes: &List<PageOutcomes>,
+) -> Result<(), StoreFault>
+    ensures steps { Steps S.Store tx.old.conn tx.new.conn result }
+    ensures makes { MakesInside S.Store (Applies (change.Refresh site.now outcomes.now)) tx.old.conn tx.new.conn result }
+{
+    if has_site(tx, site.as_str())? {
+        refresh_each(alloc, tx, site, outcomes.as_slice())
+    } else {
+        Ok(())
+    }
+}
+
+fn relist<S: Alter>(
+    alloc: Global,
+    tx: &mut Transaction<'_, S>,
+    site: &Text,
+    languages: &List<Text>,
+    outcomes: &List<PageOutcomes>,
+) -> Result<(), StoreFault>
+    ensures steps { Steps S.Store tx.old.conn tx.new.conn result }
+    ensures makes { MakesInside S.Store (Applies (change.PutLanguages site.now languages.now outcomes.now)) tx.old.conn tx.new.conn result }
+{
+    check_kept(alloc, tx, site)?;
+    write_languages(tx, site.as_str(), languages.as_slice())?;
+    refresh_each(alloc, tx, site, outcomes.as_slice())
+}
+
+fn set_edition<S: Alter>(tx: &mut Transaction<'_, S>, number: u64) -> Result<(), StoreFault>
+    ensures steps { Steps S.Store tx.old.conn tx.new.conn result }
+    ensures makes { MakesInside S.Store (Applies (change.SetEdition number)) tx.old.conn tx.new.conn result }
+{
+    check_editions(tx)?;
+    write_edition(tx, number)
 }
 
 /// Makes a change that fits, of rows that read. Outcomes that are known aren't read again.
@@ -170,16 +265,24 @@ pub fn make_inside<S: Alter>(
             pages,
         } => put_pages(alloc, memo, tx, site, *counter, pages.as_slice(), known),
         Change::DropPage { site, page } => take_out(alloc, memo, tx, site, page),
-        Change::AddJudgement {
+        Change::AddJudgements {
             site,
             page,
-            judgement,
+            judgements,
             outcomes,
-        } => judge(alloc, tx, site, page, judgement, outcomes, known),
+        } => judge(alloc, tx, site, page, judgements, outcomes, known),
+        Change::PutLanguages {
+            site,
+            languages,
+            pages,
+        } => relist(alloc, tx, site, languages, pages),
+        Change::Refresh { site, pages } => refresh(alloc, tx, site, pages),
+        Change::SetEdition { number } => set_edition(tx, *number),
     }
 }
 
 /// The same as one transaction, whose commit is the last call. After an error nothing is changed.
+#[tactic(auto, using(crate::proofs::Ready::all_left))]
 pub fn make<S: Alter>(
     alloc: Global,
     memo: &mut Memo,

@@ -4,10 +4,11 @@ ghost use Rattle.std.specs.Prelude.{◌≡◌, [], suc, length, IfOk, OnOk, IsTr
 ghost use Rattle.sqlite.specs.Held.{state};
 ghost use Rattle.sqlite.specs.State.{HasCleanDisk, IsUnchanged};
 ghost use Rattle.sql_rows.specs.Inside.{Steps};
-ghost use Rattle.store_statements.specs.Stored.{site_at, members_at, heads_at, judgements_at};
+ghost use Rattle.store_statements.specs.Stored.{site_at, members_at, heads_at, judgements_at, languages_at, editions_at};
 ghost use Rattle.store_statements.specs.Changes.{IsReady, ShowsInside};
 ghost use Rattle.store_tables.specs.Batches.{ReadsSite, ReadsPage, ReadsJudged};
 ghost use Rattle.store_tables.specs.Sites.{site_shown};
+ghost use Rattle.store_tables.specs.Editions.{edition_shown};
 ghost use Rattle.store_tables.specs.Judgements.{judgements_shown};
 ghost use Rattle.store_tables.specs.Told.{is_site, is_page};
 ghost use Rattle.keep_sql.specs.Reading.{outcomes_in, Recalls, ReadsKnowing};
@@ -20,7 +21,7 @@ use keep_core::Page;
 use snap_tree::{List, Text};
 use sqlite::{Alter, Transaction};
 use std::alloc::Global;
-use store_statements::{heads, page_judgements, page_row, site_members, site_row};
+use store_statements::{heads, page_judgements, page_row, site_languages, site_members, site_row};
 use store_tables::{Memo, StoreFault};
 
 /// Whether there is a site of this name.
@@ -45,20 +46,21 @@ pub fn has_page<S: Alter>(
     Ok(rows.len() != 0)
 }
 
-// Fails where there are members or pages of a site.
+// Fails where there are members, languages or pages of a site.
 fn check_none<S: Alter>(tx: &mut Transaction<'_, S>, site: &str) -> Result<(), StoreFault>
     ensures steps { Steps S.Store tx.old.conn tx.new.conn result }
-    ensures finds { FindsInside S.Store (λ s. (members_at site.now s ≡ []) × (heads_at site.now s ≡ [])) tx.old.conn tx.new.conn result }
+    ensures finds { FindsInside S.Store (λ s. (members_at site.now s ≡ []) × (languages_at site.now s ≡ []) × (heads_at site.now s ≡ [])) tx.old.conn tx.new.conn result }
 {
     let members = site_members(tx, site)?;
+    let languages = site_languages(tx, site)?;
     let pages = heads(tx, site)?;
-    if members.len() != 0 || pages.len() != 0 {
+    if members.len() != 0 || languages.len() != 0 || pages.len() != 0 {
         return Err(StoreFault::Failed);
     }
     Ok(())
 }
 
-/// A site's row and its members read; without the row there are no members or pages of its name.
+/// A site's row, its members and its languages read; without the row there are none and no pages of its name.
 pub fn check_site<S: Alter>(
     alloc: Global,
     tx: &mut Transaction<'_, S>,
@@ -73,14 +75,14 @@ pub fn check_site<S: Alter>(
     }
 }
 
-/// A site is there, and its row and its members read.
+/// A site is there, and its row, its members and its languages read.
 pub fn check_kept<S: Alter>(
     alloc: Global,
     tx: &mut Transaction<'_, S>,
     site: &Text,
 ) -> Result<(), StoreFault>
     ensures steps { Steps S.Store tx.old.conn tx.new.conn result }
-    ensures finds { FindsInside S.Store (λ s. (is_site s site.now ≡ true) × IsSome (site_shown site.now (site_at site.now s) (members_at site.now s))) tx.old.conn tx.new.conn result }
+    ensures finds { FindsInside S.Store (λ s. (is_site s site.now ≡ true) × IsSome (site_shown site.now (site_at site.now s) (members_at site.now s) (languages_at site.now s))) tx.old.conn tx.new.conn result }
 {
     match reads::site_in(alloc, tx, site)? {
         Some(_) => Ok(()),
@@ -188,4 +190,13 @@ pub fn check_judged<S: Alter>(
     let place = next_place(alloc, tx, site.as_str(), page.as_str())?;
     let outcomes = kept_outcomes(alloc, tx, site, page, known)?;
     Ok((place, outcomes))
+}
+
+/// The editions that are noted read.
+pub fn check_editions<S: Alter>(tx: &mut Transaction<'_, S>) -> Result<(), StoreFault>
+    ensures steps { Steps S.Store tx.old.conn tx.new.conn result }
+    ensures finds { FindsInside S.Store (λ s. IsSome (edition_shown (editions_at s))) tx.old.conn tx.new.conn result }
+{
+    reads::kept_in(tx)?;
+    Ok(())
 }

@@ -53,18 +53,19 @@ fn is_in_order(site: &Option<Site>) -> bool
     }
 }
 
-/// The site of a name, by what is shown of its row, if there is one, and of its members.
+/// The site of a name, by what is shown of its row, if there is one, of its members and of its languages.
 #[tactic(auto, using(crate::proofs::FitLemmas::site_fits))]
 pub fn site(
     alloc: Global,
     name: &Text,
     counters: &[Row],
     members: &[Row],
+    languages: &[Row],
 ) -> Result<Option<Site>, StoreFault>
-    ensures reads { IfOk result (λ found. site_shown name.now counters.now members.now ≡ Some found) }
+    ensures reads { IfOk result (λ found. site_shown name.now counters.now members.now languages.now ≡ Some found) }
     ensures fits { IfOk result (λ found. IfSome found FitsSite) }
 {
-    let found = store_tables::read_site(alloc, name, counters, members)?;
+    let found = store_tables::read_site(alloc, name, counters, members, languages)?;
     if !is_in_order(&found) {
         return Err(StoreFault::Failed);
     }

@@ -3,13 +3,16 @@
 ghost use Rattle.std.specs.Prelude.{◌≡◌, ◌≢◌, ◌≤◌, false, Ok as ok, None, Some, IfOk, IfSome, IsSome, OnOk};
 ghost use Rattle.counts.specs.Counts.{Rose};
 ghost use Rattle.keep_core.specs.declared.fault.KeepFault.TheVariants as keep;
-ghost use Rattle.keep_core.specs.Tables.{site_of, page_of, heads_of, judgements_of, outcomes_of};
-ghost use Rattle.keep_core.specs.Fits.{Fits, FitsSite, FitsPage, FitsHeads, IsThere};
+ghost use Rattle.keep_core.specs.Tables.{edition_of, sites_of, site_of, page_of, heads_of, judgements_of, outcomes_of};
+ghost use Rattle.keep_core.specs.Fits.{Fits, FitsSite, FitsPage, FitsHeads, FitNames, IsThere};
 ghost use Rattle.keep_core.specs.Keeping.{Reads, Makes, CountsFaults};
 ghost use Rattle.keep_sql.specs.declared.keeper.Prepared.TheVariants as prepared;
+ghost use Rattle.keep_sql.specs.Preparing.{is_taken};
 ghost use Rattle.keep_sql.specs.Keeper.{tables as told_tables, WaitsFailing, Across, Between, LeavesAll, LeavesChange, LeavesTables, LeavesPrepared, IsSettled, IsNoted, IsToldOf, FoundEdition, StaysStored, GivesBack, AreWell, first_of, held};
 
-use crate::calls::{read_heads, read_judgements, read_outcomes, read_page, read_site};
+use crate::calls::{
+    read_edition, read_heads, read_judgements, read_names, read_outcomes, read_page, read_site,
+};
 use crate::known::Known;
 use crate::{changes, preparing};
 use counts::next;
@@ -25,7 +28,7 @@ use store_tables::{Memo, StoreFault, see_numbers};
 #[derive(Clone, Copy, Debug, PartialEq, Eq)]
 pub enum Prepared {
     Ready,
-    /// Another edition than 2 is noted.
+    /// Another edition is noted than 0, 1, 2, 3,003 and 4,003.
     OtherEdition { number: u64 },
 }
 
@@ -96,8 +99,8 @@ impl<S: Alter> SqlKeeper<S> {
 }
 
 impl<S: Alter + Drop> SqlKeeper<S> {
-    /// Prepares the store: it is opened anew, gets its tables where it has none, and the edition 2 where none is
-    /// noted. Where the answer isn't Ready the keeper isn't ready afterwards, whatever it was before.
+    /// Prepares the store: it is opened anew, gets the tables that it lacks, and the edition 0 where none is noted, unless
+    /// an edition is noted whose rows aren't taken; then nothing is changed. Where the answer isn't Ready the keeper isn't ready afterwards, whatever it was before.
     ///
     /// # Errors
     ///
@@ -106,7 +109,7 @@ impl<S: Alter + Drop> SqlKeeper<S> {
     pub fn prepare(&mut self, alloc: Global) -> Result<Prepared, KeepFault>
         ensures ready { result ≡ ok prepared.Ready → IsSome self.new.ready }
         ensures waits { result ≢ ok prepared.Ready → self.new.ready ≡ None }
-        ensures edition { IfOk result (λ p. (number : _) → p ≡ prepared.OtherEdition number → number ≢ 2) }
+        ensures edition { IfOk result (λ p. (number : _) → p ≡ prepared.OtherEdition number → is_taken number ≡ false) }
         ensures noted { IfOk result (λ p. IsNoted S.Store p self.new) }
         ensures told { result ≡ ok prepared.Ready → Across S.Store IsToldOf (held self.old) self.new.ready }
         ensures stays { result ≢ ok prepared.Ready → Between S.Store StaysStored (held self.old) self.new.waiting }
@@ -127,13 +130,14 @@ impl<S: Alter + Drop> SqlKeeper<S> {
             }
         };
         match preparing::prepare(&mut conn) {
-            Ok(2) => {
-                self.ready = Some(conn);
-                Ok(Prepared::Ready)
-            }
             Ok(number) => {
-                self.waiting = Some(conn);
-                Ok(Prepared::OtherEdition { number })
+                if preparing::is_taken(number) {
+                    self.ready = Some(conn);
+                    Ok(Prepared::Ready)
+                } else {
+                    self.waiting = Some(conn);
+                    Ok(Prepared::OtherEdition { number })
+                }
             }
             Err(fault) => {
                 self.waiting = Some(conn);
@@ -189,6 +193,39 @@ impl<S: Alter> Keeper for SqlKeeper<S> {
     ghost tables = { told_tables S.Store };
 
     ghost faults = { λ k. k.faults };
+
+    fn edition(&mut self, alloc: Global) -> Result<u64, KeepFault>
+        ensures reads { Reads edition_of (told_tables S.Store self.old) (told_tables S.Store self.new) result }
+        ensures faults { CountsFaults self.old.faults self.new.faults result }
+        ensures waits { WaitsFailing self.old self.new result }
+        ensures crash { Across S.Store LeavesAll self.old.ready self.new.ready }
+    {
+        self.known = None;
+        let Some(conn) = &mut self.ready else {
+            return Err(refused(&mut self.faults));
+        };
+        match read_edition(conn) {
+            Ok(number) => Ok(number),
+            Err(fault) => Err(fault_of(fault, &mut self.faults)),
+        }
+    }
+
+    fn sites(&mut self, alloc: Global) -> Result<List<Text>, KeepFault>
+        ensures reads { Reads sites_of (told_tables S.Store self.old) (told_tables S.Store self.new) result }
+        ensures fits { IfOk result FitNames }
+        ensures faults { CountsFaults self.old.faults self.new.faults result }
+        ensures waits { WaitsFailing self.old self.new result }
+        ensures crash { Across S.Store LeavesAll self.old.ready self.new.ready }
+    {
+        self.known = None;
+        let Some(conn) = &mut self.ready else {
+            return Err(refused(&mut self.faults));
+        };
+        match read_names(alloc, conn) {
+            Ok(names) => Ok(names),
+            Err(fault) => Err(fault_of(fault, &mut self.faults)),
+        }
+    }
 
     fn site(&mut self, alloc: Global, site: &Text) -> Result<Option<Site>, KeepFault>
         ensures reads { Reads (site_of site.now) (told_tables S.Store self.old) (told_tables S.Store self.new) result }

@@ -1,28 +1,35 @@
-//! A store that gets its tables, where it has none, and its edition, where none is noted.
+//! A store that gets the tables that it lacks, and the edition 0, where none is noted.
 
-ghost use Rattle.std.specs.Prelude.{◌≡◌, ◌≤◌, false, IfOk, IfErr, OnOk, IsTrue, [], pos, Some};
+ghost use Rattle.std.specs.Prelude.{◌≡◌, ◌≤◌, true, false, IfOk, IfErr, OnOk, IsTrue, [], take, pos, Some};
 ghost use Rattle.sqlite_trees.specs.Tree.{Trees};
 ghost use Rattle.sqlite_trees.specs.View.{doubt};
 ghost use Rattle.sqlite.specs.Held.{state};
 ghost use Rattle.sqlite.specs.State.{HasCleanDisk, Survives};
 ghost use Rattle.sql_rows.specs.Inside.{Steps};
-ghost use Rattle.sql_rows.specs.Stores as rows;
-ghost use Rattle.store_statements.specs.Schema.{schema_of};
-ghost use Rattle.store_statements.specs.Stored.{stored};
+ghost use Rattle.store_statements.specs.Schema.{schema_of, the_tables};
 ghost use Rattle.store_statements.specs.Changes.{IsStore, IsReady, AddsEdition};
 ghost use Rattle.store_statements.specs.Making.{HasTables, nothing};
 ghost use Rattle.store_statements.specs.Opening.{OpensAgain};
 ghost use Rattle.keep_sql.specs.Reading.{ReadsInside, LeavesInside, edition_in, rows_in};
-ghost use Rattle.keep_sql.specs.Preparing.{KeepsOnErr, IsBare, IsSound, IsPrepared, Prepares, Notes, NotesOurs, NotesInside, NotesStore};
+ghost use Rattle.keep_sql.specs.Preparing.{KeepsOnErr, IsBare, IsOlder, IsSound, IsPrepared, Prepares, IsRenewed, Renews, Notes, NotesOurs, MakesOurs, RenewsOurs, NotesInside, StaysFound, NotesStore, is_taken};
 
 use sqlite::{Alter, Connection, Transaction};
 use sqlite_schema::schema::Schema;
 use std::alloc::Global;
-use store_statements::{add_edition, edition_rows, is_ours, make_tables, reopen};
+use store_statements::{
+    add_edition, edition_rows, is_older, is_ours, make_last, make_tables, reopen,
+};
 use store_tables::StoreFault;
 
-// The edition of the rows that this keeper writes.
-const EDITION: u64 = 2;
+// The edition of rows whose outcomes no known rules found.
+const NO_EDITION: u64 = 0;
+
+/// Whether rows of this edition are taken: of none, or of the rules of one of the desk's editions.
+pub fn is_taken(number: u64) -> bool
+    ensures { result ≡ is_taken number }
+{
+    matches!(number, 0 | 1 | 2 | 3_003 | 4_003)
+}
 
 /// Opens the store of a connection anew, which is given back where that fails. Its rows stay, and a crash leaves what it
 /// could leave before.
@@ -53,21 +60,22 @@ fn is_bare(schema: &Schema) -> bool
 fn make_inside<S: Alter>(tx: &mut Transaction<'_, S>) -> Result<(), StoreFault>
     ensures steps { Steps S.Store tx.old.conn tx.new.conn result }
     ensures makes { HasCleanDisk (state S.Store tx.new.conn.now) → HasTables [] (state S.Store tx.old.conn.now)
-        → OnOk result (IsReady (state S.Store tx.new.conn.now) × AddsEdition (pos 2) nothing (rows_in (state S.Store tx.new.conn.now))) }
+        → OnOk result (IsReady (state S.Store tx.new.conn.now) × AddsEdition (pos 0) nothing (rows_in (state S.Store tx.new.conn.now))) }
 {
     make_tables(tx)?;
-    add_edition(tx, 2)?;
+    add_edition(tx, 0)?;
     Ok(())
 }
 
 // Makes the tables of a store that has none, and notes its edition, as one transaction.
+#[tactic(auto, using(crate::proofs::Noting::makes_left))]
 fn make_store<S: Alter>(conn: &mut Connection<S>) -> Result<(), StoreFault>
     requires idle { conn.old.in_transaction ≡ false }
     ensures idle { conn.new.in_transaction ≡ false }
     ensures made { HasCleanDisk (state S.Store conn.new) → IsBare (state S.Store conn.old)
-        → OnOk result (IsStore (state S.Store conn.new) × AddsEdition (pos 2) nothing (rows_in (state S.Store conn.new))) }
+        → OnOk result (IsStore (state S.Store conn.new) × AddsEdition (pos 0) nothing (rows_in (state S.Store conn.new))) }
     ensures kept { KeepsOnErr S.Store conn.old conn.new result }
-    ensures crash { Survives (state S.Store conn.old) (state S.Store conn.new) (λ db. IsBare (state S.Store conn.old) → AddsEdition (pos 2) nothing (stored db)) }
+    ensures crash { Survives (state S.Store conn.old) (state S.Store conn.new) (λ db. IsBare (state S.Store conn.old) → MakesOurs db) }
 {
     let _idle = conn.is_autocommit();
     let mut tx = conn.transaction();
@@ -86,16 +94,18 @@ fn noted_inside<S: Alter>(tx: &mut Transaction<'_, S>) -> Result<Option<u64>, St
     store_tables::read_edition(rows.as_slice())
 }
 
-// The edition that is noted; None where none was, after which ours is.
+// The edition that is noted; None where none was, after which 0 is.
 fn note_inside<S: Alter>(tx: &mut Transaction<'_, S>) -> Result<Option<u64>, StoreFault>
     ensures steps { Steps S.Store tx.old.conn tx.new.conn result }
     ensures notes { HasCleanDisk (state S.Store tx.new.conn.now) → IsReady (state S.Store tx.old.conn.now)
         → IfOk result (NotesInside (rows_in (state S.Store tx.old.conn.now)) (state S.Store tx.new.conn.now)) }
+    ensures stays { HasCleanDisk (state S.Store tx.new.conn.now) → IsReady (state S.Store tx.old.conn.now)
+        → IfOk result (StaysFound (state S.Store tx.old.conn.now) (state S.Store tx.new.conn.now)) }
 {
     if let Some(number) = noted_inside(tx)? {
         return Ok(Some(number));
     }
-    add_edition(tx, 2)?;
+    add_edition(tx, 0)?;
     Ok(None)
 }
 
@@ -118,7 +128,7 @@ fn found_or_noted<S: Alter>(conn: &mut Connection<S>) -> Result<Option<u64>, Sto
     Ok(None)
 }
 
-// The edition of a store, which gets ours where none is noted.
+// The edition of a store with all tables, which notes 0 where none is noted.
 #[tactic(auto, using(crate::proofs::Noting::notes_found, crate::proofs::Noting::notes_ours))]
 fn note<S: Alter>(conn: &mut Connection<S>) -> Result<u64, StoreFault>
     requires idle { conn.old.in_transaction ≡ false }
@@ -130,11 +140,45 @@ fn note<S: Alter>(conn: &mut Connection<S>) -> Result<u64, StoreFault>
 {
     match found_or_noted(conn)? {
         Some(number) => Ok(number),
-        None => Ok(EDITION),
+        None => Ok(NO_EDITION),
     }
 }
 
-/// The edition of a store that was opened anew: of one that has the tables, or gets them now.
+// Makes the last table of an older store, and gives the edition, which is 0 where none was noted.
+fn renew_inside<S: Alter>(tx: &mut Transaction<'_, S>) -> Result<u64, StoreFault>
+    ensures steps { Steps S.Store tx.old.conn tx.new.conn result }
+    ensures makes { HasCleanDisk (state S.Store tx.new.conn.now) → HasTables (take 6 the_tables) (state S.Store tx.old.conn.now)
+        → IfOk result (IsRenewed (state S.Store tx.old.conn.now) (state S.Store tx.new.conn.now)) }
+{
+    make_last(tx)?;
+    match note_inside(tx)? {
+        Some(number) => Ok(number),
+        None => Ok(NO_EDITION),
+    }
+}
+
+// The same as one transaction, where rows of that edition are taken; else the store is left as it was.
+#[tactic(auto, using(crate::proofs::Renewing::renews_taken, crate::proofs::Renewing::renews_untaken, crate::proofs::Renewing::renewed_left))]
+fn renew<S: Alter>(conn: &mut Connection<S>) -> Result<u64, StoreFault>
+    requires idle { conn.old.in_transaction ≡ false }
+    ensures idle { conn.new.in_transaction ≡ false }
+    ensures renews { HasCleanDisk (state S.Store conn.new) → IsTrue (state S.Store conn.new).is_open → IsOlder (state S.Store conn.old)
+        → IfOk result (Renews (state S.Store conn.old) (state S.Store conn.new)) }
+    ensures kept { KeepsOnErr S.Store conn.old conn.new result }
+    ensures crash { Survives (state S.Store conn.old) (state S.Store conn.new) (λ db. IsOlder (state S.Store conn.old) → RenewsOurs (state S.Store conn.old) db) }
+{
+    let _idle = conn.is_autocommit();
+    let mut tx = conn.transaction();
+    let number = renew_inside(&mut tx)?;
+    if !is_taken(number) {
+        return Ok(number);
+    }
+    tx.commit()?;
+    Ok(number)
+}
+
+/// The edition of a store that was opened anew: of one that has the tables, or gets those that it lacks now. Where rows of
+/// the edition aren't taken nothing is changed.
 ///
 /// # Errors
 ///
@@ -146,7 +190,7 @@ pub fn prepare<S: Alter>(conn: &mut Connection<S>) -> Result<u64, StoreFault>
     requires sound { HasCleanDisk (state S.Store conn.old) → IsSound (state S.Store conn.old) }
     ensures idle { conn.new.in_transaction ≡ false }
     ensures store { HasCleanDisk (state S.Store conn.new) → IsTrue (state S.Store conn.new).is_open
-        → IfOk result (λ number. IsStore (state S.Store conn.new) × (edition_in (state S.Store conn.new) ≡ Some (Some number))) }
+        → IfOk result (λ number. (is_taken number ≡ true → IsStore (state S.Store conn.new)) × (edition_in (state S.Store conn.new) ≡ Some (Some number))) }
     ensures made { HasCleanDisk (state S.Store conn.new) → IsTrue (state S.Store conn.new).is_open
         → IfOk result (λ number. Prepares number (state S.Store conn.old).now.trees (state S.Store conn.new).now.trees) }
     ensures kept { KeepsOnErr S.Store conn.old conn.new result }
@@ -154,7 +198,10 @@ pub fn prepare<S: Alter>(conn: &mut Connection<S>) -> Result<u64, StoreFault>
 {
     if is_bare(conn.schema()) {
         make_store(conn)?;
-        return Ok(EDITION);
+        return Ok(NO_EDITION);
+    }
+    if is_older(conn.schema()) {
+        return renew(conn);
     }
     if !is_ours(conn.schema()) {
         return Err(StoreFault::Failed);

@@ -3,8 +3,8 @@
 
 ghost use Rattle.std.specs.Prelude.{IfOk, IfSome};
 ghost use Rattle.sql_rows.specs.Inside.{Steps};
-ghost use Rattle.keep_core.specs.Fits.{FitsSite, FitsPage, FitsHeads};
-ghost use Rattle.keep_sql.specs.Reading.{site_in, page_in, heads_in, judgements_in, outcomes_in, ReadsInside, LeavesInside};
+ghost use Rattle.keep_core.specs.Fits.{FitsSite, FitsPage, FitsHeads, FitNames};
+ghost use Rattle.keep_sql.specs.Reading.{kept_in, names_in, site_in, page_in, heads_in, judgements_in, outcomes_in, ReadsInside, LeavesInside};
 
 use crate::fitting;
 use judge_core::{Judgement, Outcomes};
@@ -12,10 +12,37 @@ use keep_core::{Page, PageHead, Site};
 use snap_tree::{List, Text};
 use sqlite::{Alter, Transaction};
 use std::alloc::Global;
-use store_statements::{heads, page_judgements, page_outcomes, page_row, site_members, site_row};
+use store_statements::{
+    edition_rows, heads, page_judgements, page_outcomes, page_row, site_languages, site_members,
+    site_names, site_row,
+};
 use store_tables::{Memo, StoreFault};
 
-/// The site of a name with its members; None where there is none.
+/// The edition that is kept.
+pub fn kept_in<S: Alter>(tx: &mut Transaction<'_, S>) -> Result<u64, StoreFault>
+    ensures steps { Steps S.Store tx.old.conn tx.new.conn result }
+    ensures reads { ReadsInside S.Store kept_in tx.old.conn tx.new.conn result }
+    ensures same { LeavesInside S.Store tx.old.conn tx.new.conn result }
+{
+    let rows = edition_rows(tx)?;
+    store_tables::read_kept_edition(rows.as_slice())
+}
+
+/// The names of all sites, in byte order.
+pub fn names_in<S: Alter>(
+    alloc: Global,
+    tx: &mut Transaction<'_, S>,
+) -> Result<List<Text>, StoreFault>
+    ensures steps { Steps S.Store tx.old.conn tx.new.conn result }
+    ensures reads { ReadsInside S.Store names_in tx.old.conn tx.new.conn result }
+    ensures fits { IfOk result FitNames }
+    ensures same { LeavesInside S.Store tx.old.conn tx.new.conn result }
+{
+    let rows = site_names(tx)?;
+    store_tables::read_names(alloc, rows.as_slice())
+}
+
+/// The site of a name with its members and its languages; None where there is none.
 pub fn site_in<S: Alter>(
     alloc: Global,
     tx: &mut Transaction<'_, S>,
@@ -28,7 +55,14 @@ pub fn site_in<S: Alter>(
 {
     let counters = site_row(tx, site.as_str())?;
     let members = site_members(tx, site.as_str())?;
-    fitting::site(alloc, site, counters.as_slice(), members.as_slice())
+    let languages = site_languages(tx, site.as_str())?;
+    fitting::site(
+        alloc,
+        site,
+        counters.as_slice(),
+        members.as_slice(),
+        languages.as_slice(),
+    )
 }
 
 /// A page of a site; None where there is none.

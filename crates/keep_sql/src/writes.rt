@@ -1,4 +1,4 @@
-//! The statements that write a site, a page, a judgement and outcomes, in their order. Each call fails with `Failed` where
+//! The statements that write a site, a page, judgements, outcomes and the edition, in their order. Each call fails with `Failed` where
 //! a statement was refused for another cause than memory, or a number is out of the range of a column.
 
 ghost use Rattle.std.specs.Prelude.{◌≡◌, ◌≤◌, ◌+◌, [], ◌∷◌, pos, map, length, Some, Ok as ok, IfOk};
@@ -9,8 +9,11 @@ ghost use Rattle.sql_rows.specs.Inside.{Steps};
 ghost use Rattle.sql_rows.specs.Tables.{name_at};
 ghost use Rattle.judge_core.specs.Equality.{same_row};
 ghost use Rattle.keep_core.specs.Fits.{FitsPage};
-ghost use Rattle.store_statements.specs.Changes.{MakesInside, PutsSite, ChangesMembers, ChangesPages, ChangesJudgements, ChangesOutcomes};
+ghost use Rattle.store_statements.specs.Changes.{MakesInside, PutsSite, ChangesMembers, ChangesLanguages, ChangesPages, ChangesJudgements, ChangesOutcomes, ChangesEditions, AddsEdition};
 ghost use Rattle.store_tables.specs.Members.{member_cells};
+ghost use Rattle.sqlite_value.specs.declared.value.Value.TheVariants.{Int};
+ghost use Rattle.store_tables.specs.Batches.{judgements_cells};
+ghost use Rattle.store_tables.specs.Languages.{language_cells, languages_cells, language_rows};
 ghost use Rattle.store_tables.specs.Pages.{page_cells};
 ghost use Rattle.store_tables.specs.Judgements.{judgement_cells};
 ghost use Rattle.store_tables.specs.Outcomes.{outcome_cells, outcomes_cells, outcome_rows};
@@ -19,10 +22,12 @@ ghost use Rattle.keep_sql.specs.Writing.{changed_cells};
 
 use judge_core::{Judgement, OutRow, Outcomes};
 use keep_core::{Member, Page};
+use snap_tree::Text;
 use sqlite::{Alter, Transaction};
 use std::alloc::Global;
 use store_statements::{
-    add_judgement, add_member, drop_members, drop_outcomes, put_outcome, put_page, put_site,
+    add_edition, add_judgement, add_language, add_member, drop_editions, drop_languages,
+    drop_members, drop_outcomes, put_outcome, put_page, put_site,
 };
 use store_tables::{
     Memo, PageValues, StoreFault, column_number, judgement_row, outcome_row, page_values,
@@ -83,6 +88,74 @@ pub fn write_members<S: Alter>(
     add_members(tx, site, members)
 }
 
+fn write_language<S: Alter>(
+    tx: &mut Transaction<'_, S>,
+    site: &str,
+    place: u64,
+    tag: &Text,
+) -> Result<(), StoreFault>
+    ensures steps { Steps S.Store tx.old.conn tx.new.conn result }
+    ensures makes { MakesInside S.Store (ChangesLanguages site.now (put_row (name_at 1) (language_cells site.now place tag.now))) tx.old.conn tx.new.conn result }
+{
+    let seq = column_number(place)?;
+    add_language(tx, site, seq, tag.as_str())?;
+    Ok(())
+}
+
+// In halves, so that many rows nest few calls.
+fn add_languages<S: Alter>(
+    tx: &mut Transaction<'_, S>,
+    site: &str,
+    place: u64,
+    languages: &[Text],
+) -> Result<(), StoreFault>
+    ensures steps { Steps S.Store tx.old.conn tx.new.conn result }
+    ensures makes { MakesInside S.Store (ChangesLanguages site.now (put_rows (name_at 1) (languages_cells site.now place languages.now))) tx.old.conn tx.new.conn result }
+{
+    if languages.len() < 2 {
+        return match languages.first() {
+            Some(tag) => write_language(tx, site, place, tag),
+            None => Ok(()),
+        };
+    }
+    let (first, second) = languages.split_at(languages.len() / 2);
+    let next = place_after(place, first.len())?;
+    add_languages(tx, site, place, first)?;
+    add_languages(tx, site, next, second)
+}
+
+/// Puts languages in place of those of a site.
+pub fn write_languages<S: Alter>(
+    tx: &mut Transaction<'_, S>,
+    site: &str,
+    languages: &[Text],
+) -> Result<(), StoreFault>
+    ensures steps { Steps S.Store tx.old.conn tx.new.conn result }
+    ensures makes { MakesInside S.Store (ChangesLanguages site.now (λ _. language_rows site.now languages.now)) tx.old.conn tx.new.conn result }
+{
+    drop_languages(tx, site)?;
+    add_languages(tx, site, 1, languages)
+}
+
+// Notes an edition, where none is noted.
+fn note_edition<S: Alter>(tx: &mut Transaction<'_, S>, number: u64) -> Result<(), StoreFault>
+    ensures steps { Steps S.Store tx.old.conn tx.new.conn result }
+    ensures makes { MakesInside S.Store (AddsEdition (pos number)) tx.old.conn tx.new.conn result }
+{
+    let number = column_number(number)?;
+    add_edition(tx, number)?;
+    Ok(())
+}
+
+/// Notes an edition in place of all that are noted.
+pub fn write_edition<S: Alter>(tx: &mut Transaction<'_, S>, number: u64) -> Result<(), StoreFault>
+    ensures steps { Steps S.Store tx.old.conn tx.new.conn result }
+    ensures makes { MakesInside S.Store (ChangesEditions (λ _. put_row (name_at 0) (Int (pos number) ∷ []) [])) tx.old.conn tx.new.conn result }
+{
+    drop_editions(tx)?;
+    note_edition(tx, number)
+}
+
 /// Puts a page's row in place of the one of its name. Its snapshot is remembered.
 pub fn write_page<S: Alter>(
     alloc: Global,
@@ -103,8 +176,8 @@ pub fn write_page<S: Alter>(
     Ok(())
 }
 
-/// Puts a judgement of a page at a place of its list.
-pub fn write_judgement<S: Alter>(
+// Puts a judgement of a page at a place of its list.
+fn write_judgement<S: Alter>(
     tx: &mut Transaction<'_, S>,
     site: &str,
     page: &str,
@@ -117,6 +190,29 @@ pub fn write_judgement<S: Alter>(
     let row = judgement_row(place, judgement)?;
     add_judgement(tx, site, page, &row)?;
     Ok(())
+}
+
+/// Puts judgements of a page into its list, the first at this place.
+pub fn write_judgements<S: Alter>(
+    tx: &mut Transaction<'_, S>,
+    site: &str,
+    page: &str,
+    place: u64,
+    js: &[Judgement],
+) -> Result<(), StoreFault>
+    ensures steps { Steps S.Store tx.old.conn tx.new.conn result }
+    ensures makes { MakesInside S.Store (ChangesJudgements site.now page.now (put_rows (name_at 2) (judgements_cells site.now page.now place js.now))) tx.old.conn tx.new.conn result }
+{
+    if js.len() < 2 {
+        return match js.first() {
+            Some(judgement) => write_judgement(tx, site, page, place, judgement),
+            None => Ok(()),
+        };
+    }
+    let (first, second) = js.split_at(js.len() / 2);
+    let next = place_after(place, first.len())?;
+    write_judgements(tx, site, page, place, first)?;
+    write_judgements(tx, site, page, next, second)
 }
 
 fn write_outcome<S: Alter>(

@@ -7,19 +7,20 @@ use Rattle.named_rows.proofs.Lookups.{all_at}
 use Rattle.named_rows.proofs.Order.{in_order_none, at_each}
 use Rattle.keep_core.specs.declared.tables.KeptPage.{KeptPage}
 use Rattle.keep_core.specs.declared.tables.KeptSite.{KeptSite}
-use Rattle.keep_core.specs.Tables.{Tables, site_name, page_name, kept_site, kept_page, pages_in, pages_of}
+use Rattle.keep_core.specs.declared.tables.Tables.{Tables}
+use Rattle.keep_core.specs.Tables.{site_name, page_name, kept_site, kept_page, pages_in, pages_of}
 use Rattle.keep_core.specs.Fits.{FitsKept, FitTables}
 use Rattle.kept_pages.specs.KeptPages.{shown, pages_at, site_pages}
 
-abbrev IsFound : List ℕ → Tables → KeptPage → Type 0
+abbrev pub IsFound : List ℕ → Tables → KeptPage → Type 0
 IsFound site t p = kept_page site (page_name p) t ≡ Some p
 
 order_in : (o : Option KeptSite) → IfSome o FitsKept → IsInOrder page_name (pages_in o)
 order_in None fits = in_order_none page_name
 order_in (Some s) fits = fits.in_order
 
-each_found : (site : List ℕ) (t : Tables) → FitTables t → All (IsFound site t) (pages_of site t)
-each_found site t fit = at_each page_name (pages_of site t) (order_in (kept_site site t) (all_at site_name FitsKept site t fit.each))
+pub each_found : (site : List ℕ) (t : Tables) → FitTables t → All (IsFound site t) (pages_of site t)
+each_found site t fit = at_each page_name (pages_of site t) (order_in (kept_site site t) (all_at site_name FitsKept site t.sites fit.each))
 
 found_among : (site : List ℕ) (t : Tables) (rows : List KeptPage) → All (IsFound site t) rows
     → pages_at site (map (λ p. p.page.head) rows) t ≡ map shown rows

@@ -8,7 +8,8 @@ use Rattle.keep_core.specs.declared.page.Page.{Page}
 use Rattle.keep_core.specs.declared.page.PageHead.{PageHead}
 use Rattle.keep_core.specs.declared.page.SitePage.{SitePage}
 use Rattle.keep_core.specs.declared.tables.KeptPage.{KeptPage}
-use Rattle.keep_core.specs.Tables.{Tables, outcomes_in}
+use Rattle.keep_core.specs.declared.tables.Tables.{Tables}
+use Rattle.keep_core.specs.Tables.{outcomes_in}
 use Rattle.keep_core.specs.Keeping.{Stays, Reads}
 use Rattle.kept_pages.specs.KeptPages.{shown, page_at, pages_at}
 

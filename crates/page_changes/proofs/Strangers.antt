@@ -33,15 +33,6 @@ row_lost t n r h = by_both r (sight_of t n) h
 
 -- ---- a list by its numbers
 
-pub or_none : {X : Type 0} (g f : Option X) → option_or g None ≡ f → g ≡ f
-or_none None f h = h
-or_none (Some x) f h = h
-
-pub next_or : {X : Type 0} (g h f : Option X) (x : X) (b : Bool) → h ≡ option_or g (if b then Some x else None) → option_or h f ≡ option_or g (if b then Some x else f)
-next_or None h f x true e = ap (λ h. option_or h f) e
-next_or None h f x false e = ap (λ h. option_or h f) e
-next_or (Some y) h f x b e = ap (λ h. option_or h f) e
-
 pub marks_find : (old new : Trees) (n : NodeId) (rows : List Row) → first_agreed n.0 (map (λ row. marks_of old new row.id) rows) ≡ option_map (λ row. agreed (marks_of old new row.id)) (find (has_number n) rows)
 marks_find old new n [] = refl
 marks_find old new n (row ∷ rows) = by_number (row.id.0 == n.0) (marks_find old new n rows)

@@ -7,12 +7,13 @@ ghost use Rattle.page_changes.specs.Marks.{AreMarks};
 ghost use Rattle.page_changes.specs.ByNumber.{AreByNumber};
 ghost use Rattle.page_changes.specs.Flags.{AreFlags, IsCommon, flags_at, joined};
 
-use crate::by_number::{ByNumber, by_number};
+use crate::by_number::{Agreement, by_number};
 use crate::labels::labels_by_id;
 use crate::marks::{Marks, PageMarks, compare};
 use crate::pages::Pages;
 use crate::references::references_below;
 use crate::tags::{metas_same, table_same, titles_same};
+use number_tables::NumberTable;
 use snap_tree::{NodeId, OutOfMemory, Tree};
 use std::alloc::Global;
 
@@ -120,7 +121,7 @@ fn marks_by_number(
     old: &Tree,
     new: &Tree,
     marks: &PageMarks,
-) -> Result<ByNumber, OutOfMemory>
+) -> Result<NumberTable<Agreement>, OutOfMemory>
     requires { AreMarks (seen old.now.trees) (seen new.now.trees) marks.now }
     ensures { IfOk result (λ by_number. AreByNumber (seen old.now.trees) (seen new.now.trees) by_number) }
 {

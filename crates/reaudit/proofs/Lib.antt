@@ -10,3 +10,5 @@ pub mod Marking
 mod Live
 pub mod SameRows
 pub mod ListChanges
+pub mod Halves
+pub mod Turns

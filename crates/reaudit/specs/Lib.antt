@@ -7,3 +7,4 @@ pub mod Nodes
 pub mod Again
 pub mod SameRows
 pub mod Relisted
+pub mod Pages

@@ -7,8 +7,9 @@ ghost use Rattle.reaudit.specs.ByNumber.{placed_by};
 ghost use Rattle.reaudit.specs.Known.{ArePlaced, in_order, same_nodes};
 ghost use Rattle.reaudit.specs.Relisted.{AreRelisted};
 
-use crate::by_number::{ByNumber, by_number, found};
+use crate::by_number::by_number;
 use crate::relisted::all_agreeing;
+use number_tables::NumberTable;
 use page_changes::{Flags, changes};
 use snap_tree::{List, NodeId, OutOfMemory, Row, Text, Tree};
 use std::alloc::Global;
@@ -38,7 +39,7 @@ pub(crate) fn same_langs(old: &List<Text>, new: &List<Text>) -> bool
 
 fn place_all(
     alloc: Global,
-    by_number: &ByNumber,
+    by_number: &NumberTable<Known>,
     langs: bool,
     rows: &[Row],
 ) -> Result<Vec<Placed>, OutOfMemory>
@@ -48,7 +49,7 @@ fn place_all(
     for row in rows {
         placed.push(Placed {
             node: row.id,
-            known: found(by_number, row.id),
+            known: by_number.at(row.id.0),
             langs,
         })?;
     }

@@ -1,10 +1,12 @@
 ghost use Rattle.std.specs.Prelude.{◌≡◌, true, slice_set, IfOk};
 ghost use Rattle.reaudit.specs.Marks.{is_marked, AreMarked};
 
-use crate::by_number::slots;
 use judge_core::OutRow;
 use snap_tree::{NodeId, OutOfMemory};
 use std::alloc::Global;
+
+// A page's numbers are mostly below so many times the count of its nodes.
+const SPREAD: usize = 2;
 
 // Marks a node, where the table reaches so far.
 #[tactic(auto, using(crate::proofs::Marking::set_past))]
@@ -27,7 +29,7 @@ pub(crate) fn marks_of(
     ensures { IfOk result (λ marks. AreMarked marks.items rows.now) }
 {
     let mut marks = Vec::new(alloc);
-    marks.resize(slots(count), false)?;
+    marks.resize(count.saturating_mul(SPREAD).saturating_add(1), false)?;
     for row in rows {
         mark(&mut marks, row.node);
     }

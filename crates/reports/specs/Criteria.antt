@@ -44,19 +44,19 @@ level_of NameRoleValue = level.A
 
 -- the numbers of the rules that count under a criterion, with their ids
 abbrev pub rules_of : Criterion → List ℕ
-rules_of NonTextContent = 10 ∷ 11 ∷ 15 ∷ []  -- 23a2a8 59796f 7d6734
-rules_of InfoAndRelationships = 14 ∷ 22 ∷ 24 ∷ 25 ∷ []  -- ffd0e9 bc4a75 a25f45 d0f69e
+rules_of NonTextContent = 10 ∷ 11 ∷ 15 ∷ 34 ∷ []  -- 23a2a8 59796f 7d6734 qt1vmo
+rules_of InfoAndRelationships = 14 ∷ 22 ∷ 24 ∷ 25 ∷ 37 ∷ []  -- ffd0e9 bc4a75 a25f45 d0f69e ff89c9
 rules_of InputPurpose = 17 ∷ []  -- 73f2c2
 rules_of ResizeText = 6 ∷ []  -- b4f0c3
 rules_of TimingAdjustable = 7 ∷ []  -- bc659a
 rules_of BypassBlocks = 30 ∷ []  -- cf77f2
 rules_of PageTitled = 1 ∷ 2 ∷ []  -- 2779a5 c4a8a4
 rules_of LinkPurpose = 9 ∷ []  -- c487ae
-rules_of HeadingsAndLabels = 16 ∷ []  -- b49b2e
-rules_of LanguageOfPage = 3 ∷ 4 ∷ []  -- b5c3f8 bf051a
+rules_of HeadingsAndLabels = 16 ∷ 33 ∷ []  -- b49b2e cc0f0a
+rules_of LanguageOfPage = 3 ∷ 4 ∷ 31 ∷ []  -- b5c3f8 bf051a 5b7ae0
 rules_of LanguageOfParts = 5 ∷ []  -- de46e4
--- 97a4e1 c487ae 59796f e086e5 cae760 674b10 5f99a7 6a7281 4e8ab6 6cfa84
-rules_of NameRoleValue = 8 ∷ 9 ∷ 11 ∷ 12 ∷ 13 ∷ 18 ∷ 19 ∷ 20 ∷ 21 ∷ 23 ∷ []
+-- 97a4e1 c487ae 59796f e086e5 cae760 674b10 5f99a7 6a7281 4e8ab6 6cfa84 m6b1q3 5c01ea 307n5z
+rules_of NameRoleValue = 8 ∷ 9 ∷ 11 ∷ 12 ∷ 13 ∷ 18 ∷ 19 ∷ 20 ∷ 21 ∷ 23 ∷ 35 ∷ 36 ∷ 39 ∷ []
 
 -- the criteria in the order of their numbers
 abbrev pub all_criteria : List Criterion

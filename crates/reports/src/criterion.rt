@@ -126,18 +126,18 @@ impl Criterion {
         ensures { result.now ≡ rules_of self }
     {
         match self {
-            Criterion::NonTextContent => &[10, 11, 15],
-            Criterion::InfoAndRelationships => &[14, 22, 24, 25],
+            Criterion::NonTextContent => &[10, 11, 15, 34],
+            Criterion::InfoAndRelationships => &[14, 22, 24, 25, 37],
             Criterion::InputPurpose => &[17],
             Criterion::ResizeText => &[6],
             Criterion::TimingAdjustable => &[7],
             Criterion::BypassBlocks => &[30],
             Criterion::PageTitled => &[1, 2],
             Criterion::LinkPurpose => &[9],
-            Criterion::HeadingsAndLabels => &[16],
-            Criterion::LanguageOfPage => &[3, 4],
+            Criterion::HeadingsAndLabels => &[16, 33],
+            Criterion::LanguageOfPage => &[3, 4, 31],
             Criterion::LanguageOfParts => &[5],
-            Criterion::NameRoleValue => &[8, 9, 11, 12, 13, 18, 19, 20, 21, 23],
+            Criterion::NameRoleValue => &[8, 9, 11, 12, 13, 18, 19, 20, 21, 23, 35, 36, 39],
         }
     }
 

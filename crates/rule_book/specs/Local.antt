@@ -13,17 +13,17 @@ use Rattle.rules_tables.proofs.Local.{references_local, headers_local}
 use Rattle.rule_book.specs.Book.{thirty}
 
 -- a table whose atomic rules are local: none, or a rule that is local, and then such a table
-record AreLocal (entries : List Entry) : Type 0 where
-  each : AllByRecursion IsLocalEntry entries
+pub record AreLocal (entries : List Entry) : Type 0 where
+  pub each : AllByRecursion IsLocalEntry entries
 
-none : AreLocal []
+pub none : AreLocal []
 none = record { each = tt }
 
 infixr 5 ◌then◌
-◌then◌ : {e : Entry} {later : List Entry} → IsLocal e.info e.says → AreLocal later → AreLocal (e ∷ later)
+pub ◌then◌ : {e : Entry} {later : List Entry} → IsLocal e.info e.says → AreLocal later → AreLocal (e ∷ later)
 ◌then◌ local others = record { each = (λ is. local, others.each) }
 
-each_local : AreLocal thirty
+pub each_local : AreLocal thirty
 each_local =
     title_local
     then title_descriptive_local

@@ -6,5 +6,5 @@
 mod table;
 mod thirty;
 
-pub use table::{composites, infos};
+pub use table::{BLOCKS_CAN_BE_BYPASSED, composites, infos, said, said_of_page};
 pub use thirty::Thirty;

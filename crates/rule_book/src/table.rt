@@ -24,7 +24,7 @@ use snap_tree::{NodeId, OutOfMemory, Tree};
 use std::alloc::Global;
 
 /// The composite rule over those on repeated blocks, ACT rule cf77f2.
-const BLOCKS_CAN_BE_BYPASSED: RuleInfo = RuleInfo {
+pub const BLOCKS_CAN_BE_BYPASSED: RuleInfo = RuleInfo {
     no: RuleNo(30),
     id: *b"cf77f2",
     applies: Class::Whole,

@@ -2,7 +2,7 @@
 use Rattle.std.specs.Prelude.{ℕ, List, codes, bytes_eq, Option}
 use Rattle.std.specs.List.{find}
 use Rattle.rule_core.specs.declared.reason.Reason.{Reason}
-use Rattle.rule_core.specs.declared.reason.Reason.TheVariants.{Met, Decorative, Merged, NoTitle, EmptyTitle, JudgeTitle, NoLang, EmptyLang, UnknownLang, ThreeLetter, NoZoom, SmallScale, Delay, NoName, JudgeHeading, BadTokens, NoKnownRole, OutsideRole, UnknownAttr, LaterAttr, BadValue, DeadReference, MissingState, BadOwned, NothingOwned, FocusableInside, HeadersOutside, NoCells, LargeGrid, NoHeading, JudgeHeadingStart, NoLandmark, JudgeLandmark, NoSkipLink, JudgeSkipLink, NoCollapse, JudgeCollapse}
+use Rattle.rule_core.specs.declared.reason.Reason.TheVariants.{Met, Decorative, Merged, NoTitle, EmptyTitle, JudgeTitle, NoLang, EmptyLang, UnknownLang, ThreeLetter, NoZoom, SmallScale, Delay, NoName, JudgeHeading, BadTokens, NoKnownRole, OutsideRole, UnknownAttr, LaterAttr, BadValue, DeadReference, MissingState, BadOwned, NothingOwned, FocusableInside, HeadersOutside, NoCells, LargeGrid, NoHeading, JudgeHeadingStart, NoLandmark, JudgeLandmark, NoSkipLink, JudgeSkipLink, NoCollapse, JudgeCollapse, LangMismatch, JudgeLabel, JudgeImage, NotPermitted, NoRole, NoContext, MaybeOwned, MarkedExposed, LabelMissing, JudgeLabelInName}
 use Rattle.rule_core.specs.declared.reason.TheConstants.{REASONS}
 
 abbrev pub word_of : Reason → List ℕ
@@ -43,6 +43,16 @@ word_of NoSkipLink = codes "no-skip-link"
 word_of JudgeSkipLink = codes "judge-skip-link"
 word_of NoCollapse = codes "no-collapse"
 word_of JudgeCollapse = codes "judge-collapse"
+word_of LangMismatch = codes "lang-mismatch"
+word_of JudgeLabel = codes "judge-label"
+word_of JudgeImage = codes "judge-image"
+word_of NotPermitted = codes "not-permitted"
+word_of NoRole = codes "no-role"
+word_of NoContext = codes "no-context"
+word_of MaybeOwned = codes "maybe-owned"
+word_of MarkedExposed = codes "marked-exposed"
+word_of LabelMissing = codes "label-missing"
+word_of JudgeLabelInName = codes "judge-label-in-name"
 
 -- the reason that has the word, where there is one
 abbrev pub reason_of : List ℕ → Option Reason

@@ -55,7 +55,7 @@ pub enum Reason {
     BadOwned,
     /// Nothing is owned, where the role wants owned elements.
     NothingOwned,
-    /// A node is tabbable that is hidden from assistive technology.
+    /// A node is tabbable that is hidden from assistive technology, or whose ancestor's role hides all in it.
     FocusableInside,
     /// A token of `headers` is the id of no other cell of the same table.
     HeadersOutside,
@@ -79,10 +79,31 @@ pub enum Reason {
     NoCollapse,
     /// A person has to judge whether the repeated blocks can be collapsed.
     JudgeCollapse,
+    /// The primary subtags of `lang` and `xml:lang` differ.
+    LangMismatch,
+    /// A person has to judge whether the label of a form field says what to fill in.
+    JudgeLabel,
+    /// A person has to judge whether the name of an image says what it shows.
+    JudgeImage,
+    /// The role doesn't permit a state or property that has a value.
+    NotPermitted,
+    /// A state or property has a value that only some roles permit, and there is no role.
+    NoRole,
+    /// The role stands in none of the roles in which it has to stand.
+    NoContext,
+    /// The role stands in none of the roles in which it has to stand, but its element has an id, by which
+    /// another one may own it.
+    MaybeOwned,
+    /// An element that is marked as decorative is in the accessibility tree all the same.
+    MarkedExposed,
+    /// No word of the shown text is a word of the name.
+    LabelMissing,
+    /// A person has to judge whether the name says what is shown.
+    JudgeLabelInName,
 }
 
 /// The reasons, in the order of their declaration.
-const REASONS: [Reason; 37] = [
+const REASONS: [Reason; 47] = [
     Reason::Met,
     Reason::Decorative,
     Reason::Merged,
@@ -120,6 +141,16 @@ const REASONS: [Reason; 37] = [
     Reason::JudgeSkipLink,
     Reason::NoCollapse,
     Reason::JudgeCollapse,
+    Reason::LangMismatch,
+    Reason::JudgeLabel,
+    Reason::JudgeImage,
+    Reason::NotPermitted,
+    Reason::NoRole,
+    Reason::NoContext,
+    Reason::MaybeOwned,
+    Reason::MarkedExposed,
+    Reason::LabelMissing,
+    Reason::JudgeLabelInName,
 ];
 
 impl Reason {
@@ -165,6 +196,16 @@ impl Reason {
             Reason::JudgeSkipLink => "judge-skip-link",
             Reason::NoCollapse => "no-collapse",
             Reason::JudgeCollapse => "judge-collapse",
+            Reason::LangMismatch => "lang-mismatch",
+            Reason::JudgeLabel => "judge-label",
+            Reason::JudgeImage => "judge-image",
+            Reason::NotPermitted => "not-permitted",
+            Reason::NoRole => "no-role",
+            Reason::NoContext => "no-context",
+            Reason::MaybeOwned => "maybe-owned",
+            Reason::MarkedExposed => "marked-exposed",
+            Reason::LabelMissing => "label-missing",
+            Reason::JudgeLabelInName => "judge-label-in-name",
         }
     }
 

@@ -1,7 +1,6 @@
 pub mod Beginning
 pub mod Joining
 pub mod Stopping
-pub mod Judged
 pub mod AttributesTold
 pub mod ReferencesTold
 pub mod OwnersTold

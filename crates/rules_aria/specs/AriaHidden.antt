@@ -26,9 +26,9 @@ stops_among rows = map (λ row. row.id) (filter (λ row. row.facts.tabbable) row
 abbrev pub stops : Sight → List NodeId
 stops s = stops_among (s.row ∷ rows_of s.below)
 
-abbrev pub hidden_finding : List NodeId → Finding
-hidden_finding [] = met
-hidden_finding (n ∷ nodes) = failed FocusableInside
+abbrev pub focus_finding : List NodeId → Finding
+focus_finding [] = met
+focus_finding (n ∷ nodes) = failed FocusableInside
 
 -- numbers in decimal, with one space between
 abbrev pub number_words : List NodeId → List ℕ
@@ -37,7 +37,7 @@ number_words nodes = join_with_byte 32 (map (λ n. decimal n.0) nodes)
 -- the target is an element with aria-hidden `true`; the evidence is the numbers of the nodes that the Tab
 -- key reaches in it
 abbrev pub hidden_verdict : Sight → Option Verdict
-hidden_verdict s = if is_hidden s.row then Some (verdict_of (hidden_finding (stops s)) (number_words (stops s))) else None
+hidden_verdict s = if is_hidden s.row then Some (verdict_of (focus_finding (stops s)) (number_words (stops s))) else None
 
 -- element with aria-hidden has no content in sequential focus navigation
 abbrev pub hidden_holds_no_focus : Document → NodeId → Option Verdict

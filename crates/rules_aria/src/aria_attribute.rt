@@ -2,9 +2,12 @@ ghost use Rattle.std.specs.Prelude.{◌≡◌, [], IfOk};
 ghost use Rattle.std.specs.List.{list_any};
 ghost use Rattle.aria_tables.specs.Attributes.{is_later};
 ghost use Rattle.acc_tree.specs.Seen.{seen_row, aria_attrs};
-ghost use Rattle.rules_aria.specs.AriaAttribute.{is_unknown, attribute_finding, attribute_verdict, aria_attribute_is_defined, aria_attribute_is_defined_info};
+ghost use Rattle.snap_tree.specs.Trees.{Document};
+ghost use Rattle.snap_tree.specs.declared.row.NodeId.{NodeId};
+ghost use Rattle.rule_sights.specs.Targets.{JudgesRows};
+ghost use Rattle.rules_aria.specs.AriaAttribute.{is_unknown, attribute_finding, attribute_verdict, aria_attribute_is_defined, aria_attribute_is_defined_info, aria_attribute_is_defined_target};
 
-use crate::aria_lines::aria_lines;
+use crate::attribute_lines::aria_lines;
 use acc_tree::aria_attrs;
 use aria_tables::{attr_of, is_later};
 use rule_core::{Class, Finding, Reason, Rule, RuleInfo, RuleNo, Verdict};
@@ -32,6 +35,13 @@ impl AriaAttributeIsDefined {
         expects: Class::SelfOnly,
         inputs: [0; 4],
     };
+
+    /// The law of its targets: on each page it has a verdict exactly where the node is one. It does nothing: the clause
+    /// is what it is for.
+    #[tactic(auto, using(crate::proofs::Local::attributes))]
+    pub fn law_of_targets()
+        ensures { (page : Document) (n : NodeId) → JudgesRows aria_attribute_is_defined aria_attribute_is_defined_target page n }
+    {}
 }
 
 fn is_unknown(attr: &Attr) -> bool

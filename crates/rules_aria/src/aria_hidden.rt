@@ -1,6 +1,9 @@
 ghost use Rattle.std.specs.Prelude.{◌≡◌, ◌<◌, ◌^◌, decimal, IfOk};
 ghost use Rattle.acc_tree.specs.Sights.{seen_sight};
-ghost use Rattle.rules_aria.specs.AriaHidden.{stops_among, stops, hidden_finding, number_words, hidden_verdict, hidden_holds_no_focus, hidden_holds_no_focus_info};
+ghost use Rattle.snap_tree.specs.Trees.{Document};
+ghost use Rattle.snap_tree.specs.declared.row.NodeId.{NodeId};
+ghost use Rattle.rule_sights.specs.Targets.{JudgesRows};
+ghost use Rattle.rules_aria.specs.AriaHidden.{stops_among, stops, focus_finding, number_words, hidden_verdict, hidden_holds_no_focus, hidden_holds_no_focus_info, hidden_holds_no_focus_target};
 
 use crate::joined::add_word;
 use acc_tree::{Attribute, Sight, is_hidden};
@@ -29,9 +32,17 @@ impl HiddenHoldsNoFocus {
         expects: Class::Sub,
         inputs: [0; 4],
     };
+
+    /// The law of its targets: on each page it has a verdict exactly where the node is one. It does nothing: the clause
+    /// is what it is for.
+    #[tactic(auto, using(crate::proofs::Local::hidden))]
+    pub fn law_of_targets()
+        ensures { (page : Document) (n : NodeId) → JudgesRows hidden_holds_no_focus hidden_holds_no_focus_target page n }
+    {}
 }
 
-fn stops_among(alloc: Global, rows: &[Row]) -> Result<Vec<NodeId>, OutOfMemory>
+/// The numbers of those of these rows at which the Tab key stops, in their order. Fails only for want of memory.
+pub fn stops_among(alloc: Global, rows: &[Row]) -> Result<Vec<NodeId>, OutOfMemory>
     ensures { IfOk result (λ nodes. nodes.items ≡ stops_among rows.now) }
 {
     let mut nodes = Vec::new(alloc);
@@ -54,8 +65,9 @@ fn stops(alloc: Global, sight: &Sight<'_>) -> Result<Vec<NodeId>, OutOfMemory>
     Ok(nodes)
 }
 
-fn finding(nodes: &[NodeId]) -> Finding
-    ensures { result ≡ hidden_finding nodes.now }
+/// What is found where the Tab key is to stop at no node: it fails where there is one.
+pub fn focus_finding(nodes: &[NodeId]) -> Finding
+    ensures { result ≡ focus_finding nodes.now }
 {
     if nodes.is_empty() {
         Finding::met()
@@ -71,7 +83,8 @@ fn number_word(alloc: Global, number: u32) -> Result<Text, OutOfMemory>
     Ok(Text::from_string(format!(in alloc; "{number}")?))
 }
 
-fn number_words(alloc: Global, nodes: &[NodeId]) -> Result<Text, OutOfMemory>
+/// The numbers in decimal, with one space between. Fails only for want of memory.
+pub fn number_words(alloc: Global, nodes: &[NodeId]) -> Result<Text, OutOfMemory>
     ensures { IfOk result (λ text. text ≡ number_words nodes.now) }
 {
     let mut words = String::new(alloc);
@@ -90,7 +103,7 @@ fn verdict(alloc: Global, sight: &Sight<'_>) -> Result<Option<Verdict>, OutOfMem
     }
     let nodes = stops(alloc, sight)?;
     let words = number_words(alloc, nodes.as_slice())?;
-    Ok(Some(finding(nodes.as_slice()).verdict(alloc, &words)?))
+    Ok(Some(focus_finding(nodes.as_slice()).verdict(alloc, &words)?))
 }
 
 impl Rule for HiddenHoldsNoFocus {

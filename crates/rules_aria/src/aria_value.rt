@@ -3,10 +3,13 @@ ghost use Rattle.std.specs.List.{list_any};
 ghost use Rattle.acc_tree.specs.References.{found};
 ghost use Rattle.acc_tree.specs.Seen.{seen_row, seen, aria_attrs};
 ghost use Rattle.acc_tree.specs.Sights.{seen_sight};
-ghost use Rattle.rules_aria.specs.AriaValue.{filled_attr, is_bad, is_dead, has_filled, value_finding, value_verdict, aria_value_is_valid, aria_value_is_valid_info};
+ghost use Rattle.snap_tree.specs.Trees.{Document};
+ghost use Rattle.snap_tree.specs.declared.row.NodeId.{NodeId};
+ghost use Rattle.rule_sights.specs.Targets.{JudgesRows};
+ghost use Rattle.rules_aria.specs.AriaValue.{filled_attr, is_bad, is_dead, has_filled, value_finding, value_verdict, aria_value_is_valid, aria_value_is_valid_info, aria_value_is_valid_target};
 ghost use Rattle.rule_sights.specs.Nodes.{sight_where};
 
-use crate::aria_lines::aria_lines;
+use crate::attribute_lines::aria_lines;
 use acc_tree::{Above, Sight, aria_attrs, exposed_at, first_found, sight_of};
 use aria_tables::{AriaAttr, attr_of, is_reference, value_ok};
 use rule_core::{Class, Finding, Reason, Rule, RuleInfo, RuleNo, Verdict};
@@ -33,9 +36,17 @@ impl AriaValueIsValid {
         expects: Class::Sub,
         inputs: [0; 4],
     };
+
+    /// The law of its targets: on each page it has a verdict exactly where the node is one. It does nothing: the clause
+    /// is what it is for.
+    #[tactic(auto, using(crate::proofs::Local::values))]
+    pub fn law_of_targets()
+        ensures { (page : Document) (n : NodeId) → JudgesRows aria_value_is_valid aria_value_is_valid_target page n }
+    {}
 }
 
-fn filled_attr(attr: &Attr) -> Option<AriaAttr>
+/// The known ARIA attribute that an attribute is, where its value isn't blank; None otherwise.
+pub fn filled_attr(attr: &Attr) -> Option<AriaAttr>
     ensures { result ≡ filled_attr attr.now }
 {
     if blank(&attr.value) {

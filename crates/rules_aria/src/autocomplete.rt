@@ -3,7 +3,10 @@ ghost use Rattle.texts.specs.Words.{words};
 ghost use Rattle.aria_tables.specs.Words.{is_among};
 ghost use Rattle.acc_tree.specs.Seen.{seen_row};
 ghost use Rattle.acc_tree.specs.Tags.{html_tag};
-ghost use Rattle.rules_aria.specs.Autocomplete.{begins_section, is_address_kind, is_contact_kind, is_webauthn, is_on_or_off, fields, contact_fields, one, optionally, nothing_more, ending, a_field, a_contact_field, either_field, a_detail, is_accepted, takes_data, is_form_field, is_disabled, asks_for_data, is_autocomplete_target, autocomplete_finding, autocomplete_verdict, autocomplete_is_valid, autocomplete_is_valid_info};
+ghost use Rattle.snap_tree.specs.Trees.{Document};
+ghost use Rattle.snap_tree.specs.declared.row.NodeId.{NodeId};
+ghost use Rattle.rule_sights.specs.Targets.{JudgesRows};
+ghost use Rattle.rules_aria.specs.Autocomplete.{begins_section, is_address_kind, is_contact_kind, is_webauthn, is_on_or_off, fields, contact_fields, one, optionally, nothing_more, ending, a_field, a_contact_field, either_field, a_detail, is_accepted, takes_data, is_form_field, is_disabled, asks_for_data, is_autocomplete_target, autocomplete_finding, autocomplete_verdict, autocomplete_is_valid, autocomplete_is_valid_info, autocomplete_is_valid_target};
 
 use crate::token::begins;
 use acc_tree::{
@@ -98,6 +101,13 @@ impl AutocompleteIsValid {
         expects: Class::SelfOnly,
         inputs: [0; 4],
     };
+
+    /// The law of its targets: on each page it has a verdict exactly where the node is one. It does nothing: the clause
+    /// is what it is for.
+    #[tactic(auto, using(crate::proofs::Local::fields))]
+    pub fn law_of_targets()
+        ensures { (page : Document) (n : NodeId) → JudgesRows autocomplete_is_valid autocomplete_is_valid_target page n }
+    {}
 }
 
 fn begins_section(token: &str) -> bool

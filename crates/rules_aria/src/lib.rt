@@ -5,21 +5,20 @@
 
 mod aria_attribute;
 mod aria_hidden;
-mod aria_lines;
 mod aria_value;
+mod attribute_lines;
 mod autocomplete;
 mod joined;
-mod laws;
 mod owned_elements;
 mod required_states;
 mod role;
 mod token;
 
 pub use aria_attribute::AriaAttributeIsDefined;
-pub use aria_hidden::HiddenHoldsNoFocus;
-pub use aria_value::AriaValueIsValid;
+pub use aria_hidden::{HiddenHoldsNoFocus, focus_finding, number_words, stops_among};
+pub use aria_value::{AriaValueIsValid, filled_attr};
+pub use attribute_lines::aria_lines;
 pub use autocomplete::AutocompleteIsValid;
-pub use laws::laws_of_targets;
 pub use owned_elements::OwnsRequiredElements;
 pub use required_states::HasRequiredStates;
 pub use role::RoleIsValid;

@@ -3,7 +3,10 @@ ghost use Rattle.aria_tables.specs.Owning.{allowed_owned, looks_through};
 ghost use Rattle.acc_tree.specs.Owning.{owned_by};
 ghost use Rattle.acc_tree.specs.Seen.{seen_row, seen};
 ghost use Rattle.acc_tree.specs.Sights.{seen_sight};
-ghost use Rattle.rules_aria.specs.OwnedElements.{are_allowed, owned_finding, role_words, verdict_on, is_owner_target, owned_verdict, owns_required_elements, owns_required_elements_info};
+ghost use Rattle.snap_tree.specs.Trees.{Document};
+ghost use Rattle.snap_tree.specs.declared.row.NodeId.{NodeId};
+ghost use Rattle.rule_sights.specs.Targets.{JudgesRows};
+ghost use Rattle.rules_aria.specs.OwnedElements.{are_allowed, owned_finding, role_words, verdict_on, is_owner_target, owned_verdict, owns_required_elements, owns_required_elements_info, owns_required_elements_target};
 
 use crate::joined::add_word;
 use acc_tree::{
@@ -36,6 +39,13 @@ impl OwnsRequiredElements {
         expects: Class::Sub,
         inputs: [0; 4],
     };
+
+    /// The law of its targets: on each page it has a verdict exactly where the node is one. It does nothing: the clause
+    /// is what it is for.
+    #[tactic(auto, using(crate::proofs::Local::owners))]
+    pub fn law_of_targets()
+        ensures { (page : Document) (n : NodeId) → JudgesRows owns_required_elements owns_required_elements_target page n }
+    {}
 }
 
 fn are_allowed(allowed: &[Role], elements: &[OwnedElement]) -> bool

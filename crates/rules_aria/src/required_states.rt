@@ -1,9 +1,12 @@
 ghost use Rattle.std.specs.Prelude.{◌≡◌, IfOk};
 ghost use Rattle.acc_tree.specs.Seen.{seen_row};
 ghost use Rattle.acc_tree.specs.Tags.{html_tag};
-ghost use Rattle.rules_aria.specs.RequiredStates.{is_checked_by_type, is_check_input, is_exempt, lacks_one, states_finding, is_states_target, states_verdict, has_required_states, has_required_states_info};
+ghost use Rattle.snap_tree.specs.Trees.{Document};
+ghost use Rattle.snap_tree.specs.declared.row.NodeId.{NodeId};
+ghost use Rattle.rule_sights.specs.Targets.{JudgesRows};
+ghost use Rattle.rules_aria.specs.RequiredStates.{is_checked_by_type, is_check_input, is_exempt, lacks_one, states_finding, is_states_target, states_verdict, has_required_states, has_required_states_info, has_required_states_target};
 
-use crate::aria_lines::aria_lines;
+use crate::attribute_lines::aria_lines;
 use acc_tree::{
     Above, Attribute, InputType, Tag, explicit_at, html_tag, implicit_at, included_at, input_type,
     is_blank_at,
@@ -34,6 +37,13 @@ impl HasRequiredStates {
         expects: Class::SelfOnly,
         inputs: [0; 4],
     };
+
+    /// The law of its targets: on each page it has a verdict exactly where the node is one. It does nothing: the clause
+    /// is what it is for.
+    #[tactic(auto, using(crate::proofs::Local::states))]
+    pub fn law_of_targets()
+        ensures { (page : Document) (n : NodeId) → JudgesRows has_required_states has_required_states_target page n }
+    {}
 }
 
 fn is_checked_by_type(kind: InputType) -> bool

@@ -1,6 +1,9 @@
 ghost use Rattle.std.specs.Prelude.{◌≡◌, IfOk};
 ghost use Rattle.acc_tree.specs.Seen.{seen_row};
-ghost use Rattle.rules_aria.specs.Role.{names_known, is_outside, names_outside, role_finding, is_role_target, role_verdict, role_is_valid, role_is_valid_info};
+ghost use Rattle.snap_tree.specs.Trees.{Document};
+ghost use Rattle.snap_tree.specs.declared.row.NodeId.{NodeId};
+ghost use Rattle.rule_sights.specs.Targets.{JudgesRows};
+ghost use Rattle.rules_aria.specs.Role.{names_known, is_outside, names_outside, role_finding, is_role_target, role_verdict, role_is_valid, role_is_valid_info, role_is_valid_target};
 
 use crate::token::begins;
 use acc_tree::{Above, Attribute, attr, exposed_at};
@@ -30,6 +33,13 @@ impl RoleIsValid {
         expects: Class::SelfOnly,
         inputs: [0; 4],
     };
+
+    /// The law of its targets: on each page it has a verdict exactly where the node is one. It does nothing: the clause
+    /// is what it is for.
+    #[tactic(auto, using(crate::proofs::Local::roles))]
+    pub fn law_of_targets()
+        ensures { (page : Document) (n : NodeId) → JudgesRows role_is_valid role_is_valid_target page n }
+    {}
 }
 
 fn names_known(text: &str) -> bool

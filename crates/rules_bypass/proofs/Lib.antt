@@ -1,6 +1,5 @@
 pub mod Fragments
 pub mod Stopping
 pub mod ByRows
-pub mod Judged
 pub mod Local
 pub mod AtAGlance

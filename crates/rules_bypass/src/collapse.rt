@@ -1,4 +1,8 @@
-ghost use Rattle.rules_bypass.specs.Bypass.{has_collapse, has_collapse_info};
+ghost use Rattle.snap_tree.specs.Trees.{Document};
+ghost use Rattle.snap_tree.specs.declared.row.NodeId.{NodeId};
+ghost use Rattle.rule_sights.specs.Targets.{JudgesRows};
+ghost use Rattle.acc_tree.specs.Seen.{seen};
+ghost use Rattle.rules_bypass.specs.Bypass.{has_collapse, has_collapse_info, has_collapse_target};
 
 use crate::bypass::Bypass;
 use rule_core::{Class, Rule, RuleInfo, RuleNo, Verdict};
@@ -26,6 +30,13 @@ impl HasCollapse {
         expects: Class::Whole,
         inputs: [0; 4],
     };
+
+    /// The law of its targets: on each page it has a verdict exactly where the node is one. It does nothing: the clause
+    /// is what it is for.
+    #[tactic(auto, using(crate::proofs::Local::collapses))]
+    pub fn law_of_targets()
+        ensures { (page : Document) (n : NodeId) → JudgesRows has_collapse (has_collapse_target (seen page.trees)) page n }
+    {}
 }
 
 impl Rule for HasCollapse {

@@ -6,12 +6,10 @@ mod bypass;
 mod collapse;
 mod heading;
 mod landmark;
-mod laws;
 mod shapes;
 mod skip_link;
 
 pub use collapse::HasCollapse;
 pub use heading::HasHeadingToStart;
 pub use landmark::HasLandmark;
-pub use laws::laws_of_targets;
 pub use skip_link::HasSkipLink;

@@ -9,6 +9,7 @@ use Rattle.snap_tree.specs.Trees.{Document}
 use Rattle.acc_tree.specs.declared.above.Above.{Above}
 use Rattle.acc_tree.specs.Seen.{seen}
 use Rattle.acc_tree.specs.Sights.{Sight, sight_of}
+use Rattle.acc_name.specs.declared.named.Name.{Name}
 use Rattle.acc_name.specs.Names.{name_of}
 use Rattle.acc_name.proofs.NamedAgain.{name_looks}
 use Rattle.rule_core.specs.declared.info.Class.{Class}
@@ -29,19 +30,19 @@ use Rattle.rule_core.proofs.Targets.{IsKept, on_nodes, by_classes, by_target}
 -- ---- rules as functions of a name and a sight
 
 abbrev pub Rests : Type 0
-Rests = List ℕ → Option Sight → Option Verdict
+Rests = Name → Option Sight → Option Verdict
 
 -- what a rule says of a node that rests on its name and its sight so
 abbrev pub by_name : Rests → Says
-by_name rests page n = rests (name_of (seen page.trees) n).text (sight_of (seen page.trees) n)
+by_name rests page n = rests (name_of (seen page.trees) n) (sight_of (seen page.trees) n)
 
 -- the targets are of these roles
 abbrev pub of_roles : List Role → (Above → Row → Bool) → (Option Role → List ℕ → Option Verdict) → Rests
-of_roles those is_target says name sight = option_and_then (of_target is_target says name) (option_and_then (if_role those) sight)
+of_roles those is_target says name sight = option_and_then (of_target is_target says name.text) (option_and_then (if_role those) sight)
 
 -- the rows of the targets pass this test
 abbrev pub of_rows : (Row → Bool) → (Above → Row → Bool) → (Option Role → List ℕ → Option Verdict) → Rests
-of_rows passes is_target says name sight = option_and_then (of_target is_target says name) (option_and_then (if_row passes) sight)
+of_rows passes is_target says name sight = option_and_then (of_target is_target says name.text) (option_and_then (if_row passes) sight)
 
 -- ---- their laws
 
@@ -53,7 +54,7 @@ kept_by_name class sub rests old new n versions k =
     ap (λ class. all_same (seen old.trees) (seen new.trees) (class_keys class (seen old.trees) n)) (sym sub) ∙ on_nodes class old new n k in
     let name = name_looks old.trees new.trees n versions.old_well versions.new_well keys in
     let sight = looks sight_of sub_keys sub_sight old.trees new.trees n versions.old_well versions.new_well keys in
-    λ i. rests (name i).text (sight i)
+    λ i. rests (name i) (sight i)
 
 -- the law, where a row and what is above it tell the targets
 pub named_local : (info : RuleInfo) → info.applies ≡ SelfOnly → info.expects ≡ Sub → (rests : Rests) (target : Above → Row → Bool)

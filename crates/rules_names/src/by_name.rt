@@ -8,12 +8,13 @@ use rule_core::{LastLong, NodeVerdict, Verdict, push_verdict};
 use snap_tree::{NodeId, OutOfMemory, Tree};
 use std::alloc::Global;
 
-/// A rule on names: what it says of each node of a page.
-pub(crate) trait JudgesByName {
+/// A rule on names: what it says of each node of a page. Both calls of `Rule` judge by it, in [`judge_alone`] and
+/// [`judge_in_turn`].
+pub trait JudgesByName {
     ghost says: { Document → NodeId → Option Verdict };
 
     /// The verdict on a node. A name that is too long for evidence isn't digested anew where it is equal to
-    /// the last such name.
+    /// the last such name. Fails only for want of memory.
     fn judge_by(
         &self,
         alloc: Global,
@@ -24,8 +25,8 @@ pub(crate) trait JudgesByName {
         ensures { IfOk result (λ verdict. verdict ≡ says tree.now n) };
 }
 
-/// The verdict on a node by itself.
-pub(crate) fn judge_alone<R: JudgesByName>(
+/// The verdict on a node by itself. Fails only for want of memory.
+pub fn judge_alone<R: JudgesByName>(
     rule: &R,
     alloc: Global,
     tree: &Tree,
@@ -37,8 +38,8 @@ pub(crate) fn judge_alone<R: JudgesByName>(
 }
 
 /// The verdicts on a page, in document order. Elements that stand in one another often have one name, which
-/// is then digested once.
-pub(crate) fn judge_in_turn<R: JudgesByName>(
+/// is then digested once. Fails only for want of memory.
+pub fn judge_in_turn<R: JudgesByName>(
     rule: &R,
     alloc: Global,
     tree: &Tree,

@@ -6,7 +6,7 @@ use acc_tree::{InputType, Tag, html_tag, input_type};
 use snap_tree::{Body, Row, Space};
 
 /// Whether the node is an element of HTML.
-pub(crate) fn is_html_element(row: &Row) -> bool
+pub fn is_html_element(row: &Row) -> bool
     ensures { result ≡ is_html_element (seen_row row.now) }
 {
     matches!(
@@ -32,7 +32,7 @@ pub(crate) fn is_svg_element(row: &Row) -> bool
 }
 
 /// Whether the node is an HTML `img`.
-pub(crate) fn is_img(row: &Row) -> bool
+pub fn is_img(row: &Row) -> bool
     ensures { result ≡ is_img (seen_row row.now) }
 {
     matches!(html_tag(row), Some(Tag::Img))

@@ -1,4 +1,7 @@
-ghost use Rattle.rules_names.specs.FormField.{form_field_has_name, form_field_has_name_info};
+ghost use Rattle.snap_tree.specs.Trees.{Document};
+ghost use Rattle.snap_tree.specs.declared.row.NodeId.{NodeId};
+ghost use Rattle.rule_sights.specs.Targets.{JudgesRows};
+ghost use Rattle.rules_names.specs.FormField.{form_field_has_name, form_field_has_name_info, form_field_has_name_target};
 
 use crate::by_name::{JudgesByName, judge_alone, judge_in_turn};
 use crate::named::wants_name;
@@ -28,10 +31,17 @@ impl FormFieldHasName {
         expects: Class::Sub,
         inputs: [0; 4],
     };
+
+    /// The law of its targets: on each page it has a verdict exactly where the node is one. It does nothing: the clause
+    /// is what it is for.
+    #[tactic(auto, using(crate::proofs::Local::fields))]
+    pub fn law_of_targets()
+        ensures { (page : Document) (n : NodeId) → JudgesRows form_field_has_name form_field_has_name_target page n }
+    {}
 }
 
 /// The roles of form fields.
-const FORM_FIELDS: [Role; 11] = [
+pub const FORM_FIELDS: [Role; 11] = [
     Role::Checkbox,
     Role::Combobox,
     Role::Listbox,

@@ -1,4 +1,7 @@
-ghost use Rattle.rules_names.specs.Heading.{heading_has_name, heading_has_name_info};
+ghost use Rattle.snap_tree.specs.Trees.{Document};
+ghost use Rattle.snap_tree.specs.declared.row.NodeId.{NodeId};
+ghost use Rattle.rule_sights.specs.Targets.{JudgesRows};
+ghost use Rattle.rules_names.specs.Heading.{heading_has_name, heading_has_name_info, heading_has_name_target};
 
 use crate::by_name::{JudgesByName, judge_alone, judge_in_turn};
 use crate::named::wants_name;
@@ -27,6 +30,13 @@ impl HeadingHasName {
         expects: Class::Sub,
         inputs: [0; 4],
     };
+
+    /// The law of its targets: on each page it has a verdict exactly where the node is one. It does nothing: the clause
+    /// is what it is for.
+    #[tactic(auto, using(crate::proofs::Local::headings))]
+    pub fn law_of_targets()
+        ensures { (page : Document) (n : NodeId) → JudgesRows heading_has_name heading_has_name_target page n }
+    {}
 }
 
 impl JudgesByName for HeadingHasName {

@@ -2,16 +2,21 @@ ghost use Rattle.std.specs.Prelude.{◌≡◌, IfOk};
 ghost use Rattle.acc_tree.specs.Roles.{role_at};
 ghost use Rattle.acc_tree.specs.Seen.{seen_row, seen};
 ghost use Rattle.acc_name.specs.Names.{name_of};
-ghost use Rattle.rules_names.specs.HeadingDescriptive.{asks_a_person, heading_is_descriptive, heading_is_descriptive_info};
+ghost use Rattle.rule_core.specs.declared.reason.Reason.TheVariants.{JudgeHeading};
+ghost use Rattle.snap_tree.specs.Trees.{Document};
+ghost use Rattle.snap_tree.specs.declared.row.NodeId.{NodeId};
+ghost use Rattle.rule_sights.specs.Targets.{JudgesRows};
+ghost use Rattle.rules_names.specs.Named.{asks_a_person};
+ghost use Rattle.rules_names.specs.HeadingDescriptive.{heading_is_descriptive, heading_is_descriptive_info, heading_is_descriptive_target};
 
 use crate::by_name::{JudgesByName, judge_alone, judge_in_turn};
-use crate::named::named_verdict;
+use crate::named::asks_a_person;
 use acc_name::name;
 use acc_tree::{Sight, included_at, role_at};
 use aria_tables::Role;
-use rule_core::{Class, Finding, LastLong, NodeVerdict, Reason, Rule, RuleInfo, RuleNo, Verdict};
+use rule_core::{Class, LastLong, NodeVerdict, Reason, Rule, RuleInfo, RuleNo, Verdict};
 use rule_sights::sight_as;
-use snap_tree::{NodeId, OutOfMemory, Text, Tree};
+use snap_tree::{NodeId, OutOfMemory, Tree};
 use std::alloc::Global;
 
 /// ACT rule b49b2e, Heading is descriptive
@@ -33,21 +38,13 @@ impl HeadingIsDescriptive {
         expects: Class::Sub,
         inputs: [0; 4],
     };
-}
 
-fn asks_a_person(
-    alloc: Global,
-    last: &mut LastLong,
-    role: Option<Role>,
-    name: &Text,
-) -> Result<Option<Verdict>, OutOfMemory>
-    ensures { IfOk result (λ verdict. verdict ≡ asks_a_person role name.now) }
-{
-    if name.is_empty() {
-        return Ok(None);
-    }
-    let finding = Finding::cant_tell(Reason::JudgeHeading);
-    Ok(Some(named_verdict(alloc, last, finding, role, name)?))
+    /// The law of its targets: on each page it has a verdict exactly where the node is one. It does nothing: the clause
+    /// is what it is for.
+    #[tactic(auto, using(crate::proofs::Local::descriptive))]
+    pub fn law_of_targets()
+        ensures { (page : Document) (n : NodeId) → JudgesRows heading_is_descriptive (heading_is_descriptive_target (name_of (seen page.trees) n).text) page n }
+    {}
 }
 
 fn verdict(
@@ -57,10 +54,11 @@ fn verdict(
     n: NodeId,
     sight: &Sight<'_>,
 ) -> Result<Option<Verdict>, OutOfMemory>
-    ensures { IfOk result (λ verdict. verdict ≡ asks_a_person (role_at sight.now.above (seen_row sight.now.row.now)) (name_of (seen tree.now.trees) n).text) }
+    ensures { IfOk result (λ verdict. verdict ≡ asks_a_person JudgeHeading (role_at sight.now.above (seen_row sight.now.row.now)) (name_of (seen tree.now.trees) n).text) }
 {
     let name = name(alloc, tree, n)?;
-    asks_a_person(alloc, last, role_at(&sight.above, sight.row), &name.text)
+    let role = role_at(&sight.above, sight.row);
+    asks_a_person(alloc, last, Reason::JudgeHeading, role, &name.text)
 }
 
 impl JudgesByName for HeadingIsDescriptive {

@@ -2,7 +2,10 @@ ghost use Rattle.std.specs.Prelude.{◌≡◌, IfOk};
 ghost use Rattle.acc_tree.specs.Roles.{role_at};
 ghost use Rattle.acc_tree.specs.Seen.{seen_row, seen};
 ghost use Rattle.acc_name.specs.Names.{name_of};
-ghost use Rattle.rules_names.specs.Image.{is_included_image, is_decorative_image, is_image_target, image_finding, image_verdict, image_has_name, image_has_name_info};
+ghost use Rattle.snap_tree.specs.Trees.{Document};
+ghost use Rattle.snap_tree.specs.declared.row.NodeId.{NodeId};
+ghost use Rattle.rule_sights.specs.Targets.{JudgesRows};
+ghost use Rattle.rules_names.specs.Image.{is_included_image, is_decorative_image, is_image_target, image_finding, image_verdict, image_has_name, image_has_name_info, image_has_name_target};
 
 use crate::by_name::{JudgesByName, judge_alone, judge_in_turn};
 use crate::elements::{is_html_element, is_img};
@@ -35,6 +38,13 @@ impl ImageHasName {
         expects: Class::Sub,
         inputs: [0; 4],
     };
+
+    /// The law of its targets: on each page it has a verdict exactly where the node is one. It does nothing: the clause
+    /// is what it is for.
+    #[tactic(auto, using(crate::proofs::Local::images))]
+    pub fn law_of_targets()
+        ensures { (page : Document) (n : NodeId) → JudgesRows image_has_name image_has_name_target page n }
+    {}
 }
 
 fn is_included_image(above: &Above, row: &Row) -> bool

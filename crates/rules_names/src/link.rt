@@ -1,6 +1,9 @@
 ghost use Rattle.std.specs.Prelude.{◌≡◌};
 ghost use Rattle.acc_tree.specs.Seen.{seen_row};
-ghost use Rattle.rules_names.specs.Link.{is_link_target, link_has_name, link_has_name_info};
+ghost use Rattle.snap_tree.specs.Trees.{Document};
+ghost use Rattle.snap_tree.specs.declared.row.NodeId.{NodeId};
+ghost use Rattle.rule_sights.specs.Targets.{JudgesRows};
+ghost use Rattle.rules_names.specs.Link.{is_link_target, link_has_name, link_has_name_info, link_has_name_target};
 
 use crate::by_name::{JudgesByName, judge_alone, judge_in_turn};
 use crate::elements::is_html_element;
@@ -30,6 +33,13 @@ impl LinkHasName {
         expects: Class::Sub,
         inputs: [0; 4],
     };
+
+    /// The law of its targets: on each page it has a verdict exactly where the node is one. It does nothing: the clause
+    /// is what it is for.
+    #[tactic(auto, using(crate::proofs::Local::links))]
+    pub fn law_of_targets()
+        ensures { (page : Document) (n : NodeId) → JudgesRows link_has_name link_has_name_target page n }
+    {}
 }
 
 fn is_target(above: &Above, row: &Row) -> bool

@@ -2,7 +2,7 @@ ghost use Rattle.std.specs.Prelude.{◌≡◌, IfOk};
 ghost use Rattle.acc_tree.specs.Roles.{role_at};
 ghost use Rattle.acc_tree.specs.Seen.{seen_row, seen};
 ghost use Rattle.acc_name.specs.Names.{name_of};
-ghost use Rattle.rules_names.specs.Named.{named_verdict, name_finding, wants_name};
+ghost use Rattle.rules_names.specs.Named.{named_verdict, name_finding, wants_name, asks_a_person};
 
 use crate::role_and_name::role_and_name;
 use acc_name::name;
@@ -12,8 +12,9 @@ use rule_core::{Finding, LastLong, Reason, Verdict};
 use snap_tree::{NodeId, OutOfMemory, Text, Tree};
 use std::alloc::Global;
 
-/// The verdict that rests on a role and a name.
-pub(crate) fn named_verdict(
+/// The verdict that rests on a role and a name: its evidence is the role's word, or `-` where there is no role, a
+/// line feed, and `brief` of the name. Fails only for want of memory.
+pub fn named_verdict(
     alloc: Global,
     last: &mut LastLong,
     finding: Finding,
@@ -37,8 +38,9 @@ pub(crate) fn name_finding(name: &Text) -> Finding
     }
 }
 
-/// What a rule says of a target that wants a name. The name is computed here, and only here.
-pub(crate) fn wants_name(
+/// What a rule says of a target that wants a name: it fails where the name is empty. The name is computed here, and
+/// only here. Fails only for want of memory.
+pub fn wants_name(
     alloc: Global,
     last: &mut LastLong,
     tree: &Tree,
@@ -50,4 +52,22 @@ pub(crate) fn wants_name(
     let role = role_at(&sight.above, sight.row);
     let name = name(alloc, tree, n)?;
     Ok(Some(named_verdict(alloc, last, name_finding(&name.text), role, &name.text)?))
+}
+
+/// What a rule says of an element whose name a person has to judge, for this reason; nothing where the name is
+/// empty. Fails only for want of memory.
+pub fn asks_a_person(
+    alloc: Global,
+    last: &mut LastLong,
+    reason: Reason,
+    role: Option<Role>,
+    name: &Text,
+) -> Result<Option<Verdict>, OutOfMemory>
+    ensures { IfOk result (λ verdict. verdict ≡ asks_a_person reason role name.now) }
+{
+    if name.is_empty() {
+        return Ok(None);
+    }
+    let finding = Finding::cant_tell(reason);
+    Ok(Some(named_verdict(alloc, last, finding, role, name)?))
 }

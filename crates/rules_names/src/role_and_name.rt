@@ -6,7 +6,8 @@ use rule_core::LastLong;
 use snap_tree::{OutOfMemory, Text};
 use std::alloc::Global;
 
-fn role_word(role: Option<Role>) -> &'static str
+/// The word of a role; `-` where there is none.
+pub fn role_word(role: Option<Role>) -> &'static str
     ensures { result.now ≡ role_word role }
 {
     match role {

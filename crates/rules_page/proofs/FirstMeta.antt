@@ -9,6 +9,7 @@ use Rattle.snap_tree.specs.Trees.{Trees}
 use Rattle.acc_tree.specs.declared.attributes.Attribute.TheVariants as attribute
 use Rattle.acc_tree.specs.Attributes.{attribute_name}
 use Rattle.acc_tree.specs.Seen.{attr, is_keyword}
+use Rattle.rule_core.specs.declared.finding.Finding.{Finding}
 use Rattle.rule_core.specs.declared.verdict.Verdict.{Verdict}
 use Rattle.page_keys.specs.Keys.{Own}
 use Rattle.page_keys.specs.Classes.{is_meta}
@@ -33,6 +34,6 @@ first_of (m ∷ metas) [] = None
 first_of (m ∷ metas) (own ∷ owns) = if refreshes_by own then Some m else first_of metas owns
 
 -- what is said of a row, where this is the first that refreshes the page
-abbrev pub said_of_first : Option NodeId → Row → Option Verdict
-said_of_first first row =
-    if is_number row.id first then option_and_then (time_verdict (attr attribute.Content row)) (refresh_time row) else None
+abbrev pub said_of_first : (ℕ → Finding) → Option NodeId → Row → Option Verdict
+said_of_first finds first row =
+    if is_number row.id first then option_and_then (time_verdict finds (attr attribute.Content row)) (refresh_time row) else None

@@ -1,7 +1,6 @@
 pub mod Seeing
 pub mod Saturating
 pub mod Cutting
-pub mod Judged
 pub mod TitleAmong
 pub mod TitleTold
 pub mod FirstMeta

@@ -1,5 +1,5 @@
 -- Which `meta` refreshes a page is told by what each has of its own.
-use Rattle.std.proofs.Common.{◌≡◌, ◌&&◌, List, [], ◌∷◌, ◌++◌, map, filter, codes, Bool, true, false, cond, if◌then◌else◌, Option, Some, None, option_map, option_and_then, refl, sym, ◌∙◌, ap}
+use Rattle.std.proofs.Common.{◌≡◌, ◌&&◌, ℕ, List, [], ◌∷◌, ◌++◌, map, filter, codes, Bool, true, false, cond, if◌then◌else◌, Option, Some, None, option_map, option_and_then, refl, sym, ◌∙◌, ap}
 use Rattle.std.specs.Cmp.{first_so}
 use Rattle.std.specs.List.{AllByRecursion, find}
 use Rattle.std.specs.Option.{is_some, option_map_or}
@@ -13,6 +13,7 @@ use Rattle.acc_tree.specs.declared.attributes.Attribute.TheVariants as attribute
 use Rattle.acc_tree.specs.Seen.{seen, attr, is_word_at}
 use Rattle.acc_tree.specs.Sights.{Sight, sight_of}
 use Rattle.rule_core.specs.declared.info.Class.TheVariants.{Metas}
+use Rattle.rule_core.specs.declared.finding.Finding.{Finding}
 use Rattle.rule_core.specs.declared.verdict.Verdict.{Verdict}
 use Rattle.page_keys.specs.Keys.{Own, own, own_at, tagged_key}
 use Rattle.page_keys.specs.Same.{same, all_same}
@@ -122,25 +123,25 @@ first_told t page n is =
 -- ---- what is said of a node
 
 -- what the rule says of a node by what Metas tells of it
-abbrev pub said_by_metas : (Option (Row × Above)) × (List NodeId × List (Option Own)) → Option Verdict
-said_by_metas told = option_and_then (λ (x : Row × Above). said_of_first (first_of told.1.0 told.1.1) x.0) told.0
+abbrev pub said_by_metas : (ℕ → Finding) → (Option (Row × Above)) × (List NodeId × List (Option Own)) → Option Verdict
+said_by_metas finds told = option_and_then (λ (x : Row × Above). said_of_first finds (first_of told.1.0 told.1.1) x.0) told.0
 
-unsaid : (first : Option NodeId) (row : Row) → is_html (codes "meta") row ≡ false → said_of_first first row ≡ None
-unsaid first row e =
-    by_number (is_number row.id first) (option_and_then (time_verdict (attr attribute.Content row)) (refresh_time row))
-    (ap (λ b. option_and_then (time_verdict (attr attribute.Content row)) (if b && is_word_at attribute.HttpEquiv (codes "refresh") row then option_and_then seconds (attr attribute.Content row) else None)) e)
+unsaid : (finds : ℕ → Finding) (first : Option NodeId) (row : Row) → is_html (codes "meta") row ≡ false → said_of_first finds first row ≡ None
+unsaid finds first row e =
+    by_number (is_number row.id first) (option_and_then (time_verdict finds (attr attribute.Content row)) (refresh_time row))
+    (ap (λ b. option_and_then (time_verdict finds (attr attribute.Content row)) (if b && is_word_at attribute.HttpEquiv (codes "refresh") row then option_and_then seconds (attr attribute.Content row) else None)) e)
   where
     by_number : (b : Bool) (o : Option Verdict) → o ≡ None → (if b then o else None) ≡ None
     by_number true o h = h
     by_number false o h = refl
 
-pub delay_in : (t : Trees) → IsPage t → (n : NodeId) (o : Option Sight) → sight_of t n ≡ o
-    → option_and_then (refresh_verdict (rows_of t)) (option_map (λ s. s.row) o) ≡ option_and_then (λ (x : Row × Above). said_of_first (first_of (metas_at t n) (meta_owns t n)) x.0) (option_map itself o)
-delay_in t page n None e = refl
-delay_in t page n (Some s) e = by_tag (is_html (codes "meta") s.row) refl
+pub delay_in : (finds : ℕ → Finding) (t : Trees) → IsPage t → (n : NodeId) (o : Option Sight) → sight_of t n ≡ o
+    → option_and_then (refresh_verdict finds (rows_of t)) (option_map (λ s. s.row) o) ≡ option_and_then (λ (x : Row × Above). said_of_first finds (first_of (metas_at t n) (meta_owns t n)) x.0) (option_map itself o)
+delay_in finds t page n None e = refl
+delay_in finds t page n (Some s) e = by_tag (is_html (codes "meta") s.row) refl
   where
-    by_tag : (b : Bool) → is_html (codes "meta") s.row ≡ b → said_of_first (first_refresh (rows_of t)) s.row ≡ said_of_first (first_of (metas_at t n) (meta_owns t n)) s.row
+    by_tag : (b : Bool) → is_html (codes "meta") s.row ≡ b → said_of_first finds (first_refresh (rows_of t)) s.row ≡ said_of_first finds (first_of (metas_at t n) (meta_owns t n)) s.row
     by_tag true h =
         let is : is_meta t n ≡ true = ap (λ o. option_map_or (λ (s : Sight). is_html (codes "meta") s.row) o false) e ∙ h in
-        ap (λ first. said_of_first first s.row) (first_told t page n is)
-    by_tag false h = unsaid (first_refresh (rows_of t)) s.row h ∙ sym (unsaid (first_of (metas_at t n) (meta_owns t n)) s.row h)
+        ap (λ first. said_of_first finds first s.row) (first_told t page n is)
+    by_tag false h = unsaid finds (first_refresh (rows_of t)) s.row h ∙ sym (unsaid finds (first_of (metas_at t n) (meta_owns t n)) s.row h)

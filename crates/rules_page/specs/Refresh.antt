@@ -71,17 +71,21 @@ is_number n first = option_map_or (λ m. m.0 == n.0) first false
 abbrev pub refresh_finding : ℕ → Finding
 refresh_finding time = if nat_lt 0 time && nat_lt time 72001 then failed Delay else met
 
-abbrev pub time_verdict : Option (List ℕ) → ℕ → Option Verdict
-time_verdict content time = option_map (verdict_of (refresh_finding time)) content
+-- what is found of the time is given, since two rules differ by it alone
+abbrev pub time_verdict : (ℕ → Finding) → Option (List ℕ) → ℕ → Option Verdict
+time_verdict finds content time = option_map (verdict_of (finds time)) content
 
-abbrev pub refresh_verdict : List Row → Row → Option Verdict
-refresh_verdict rows row =
-    if is_number row.id (first_refresh rows) then option_and_then (time_verdict (attr attribute.Content row)) (refresh_time row) else None
+abbrev pub refresh_verdict : (ℕ → Finding) → List Row → Row → Option Verdict
+refresh_verdict finds rows row =
+    if is_number row.id (first_refresh rows) then option_and_then (time_verdict finds (attr attribute.Content row)) (refresh_time row) else None
 
--- meta element has no refresh delay: the target is the first that refreshes the page; the evidence is its
--- content
+-- what is said of the first that refreshes the page, by what is found of its time; the evidence is its content
+abbrev pub says_of_refresh : (ℕ → Finding) → Document → NodeId → Option Verdict
+says_of_refresh finds page = said_alone (refresh_verdict finds (rows_of (seen page.trees))) page
+
+-- meta element has no refresh delay: the target is the first that refreshes the page
 abbrev pub page_has_no_delay : Document → NodeId → Option Verdict
-page_has_no_delay page = said_alone (refresh_verdict (rows_of (seen page.trees))) page
+page_has_no_delay = says_of_refresh refresh_finding
 
 -- the targets of the rule, among the rows of the page
 abbrev pub page_has_no_delay_target : List Row → Above → Row → Bool

@@ -1,4 +1,7 @@
-ghost use Rattle.rules_page.specs.Language.{page_has_lang, page_has_lang_info};
+ghost use Rattle.snap_tree.specs.Trees.{Document};
+ghost use Rattle.snap_tree.specs.declared.row.NodeId.{NodeId};
+ghost use Rattle.rule_sights.specs.Targets.{JudgesRows};
+ghost use Rattle.rules_page.specs.Language.{page_has_lang, page_has_lang_info, page_has_lang_target};
 
 use crate::filled::filled;
 use acc_tree::{Attribute, attr};
@@ -25,6 +28,13 @@ impl PageHasLang {
         expects: Class::SelfOnly,
         inputs: [0; 4],
     };
+
+    /// The law of its targets: on each page it has a verdict exactly where the node is one. It does nothing: the clause
+    /// is what it is for.
+    #[tactic(auto, using(crate::proofs::Local::languages))]
+    pub fn law_of_targets()
+        ensures { (page : Document) (n : NodeId) → JudgesRows page_has_lang page_has_lang_target page n }
+    {}
 }
 
 impl Rule for PageHasLang {

@@ -1,6 +1,9 @@
 ghost use Rattle.std.specs.Prelude.{◌≡◌, IfOk};
 ghost use Rattle.acc_tree.specs.Seen.{seen_row};
-ghost use Rattle.rules_page.specs.LanguageKnown.{language_verdict, language_is_known, language_is_known_info};
+ghost use Rattle.snap_tree.specs.Trees.{Document};
+ghost use Rattle.snap_tree.specs.declared.row.NodeId.{NodeId};
+ghost use Rattle.rule_sights.specs.Targets.{JudgesRows};
+ghost use Rattle.rules_page.specs.LanguageKnown.{language_verdict, language_is_known, language_is_known_info, language_is_known_target};
 
 use crate::languages::tag_verdict;
 use acc_tree::{Attribute, attr};
@@ -28,6 +31,13 @@ impl LanguageIsKnown {
         expects: Class::Lang,
         inputs: [0; 4],
     };
+
+    /// The law of its targets: on each page it has a verdict exactly where the node is one. It does nothing: the clause
+    /// is what it is for.
+    #[tactic(auto, using(crate::proofs::Local::known))]
+    pub fn law_of_targets()
+        ensures { (page : Document) (n : NodeId) → JudgesRows language_is_known language_is_known_target page n }
+    {}
 }
 
 fn verdict(alloc: Global, accepted: &List<Text>, root: &Row) -> Result<Option<Verdict>, OutOfMemory>

@@ -1,9 +1,11 @@
 ghost use Rattle.std.specs.Prelude.{◌≡◌, IfOk};
 ghost use Rattle.std.specs.List.{list_any};
-ghost use Rattle.snap_tree.specs.Trees.{rows_of};
+ghost use Rattle.snap_tree.specs.Trees.{rows_of, Document};
 ghost use Rattle.acc_tree.specs.Seen.{seen_row, seen};
 ghost use Rattle.acc_tree.specs.Sights.{seen_sight};
-ghost use Rattle.rules_page.specs.LanguageOfParts.{is_html_part, is_shown_text, shows_text, is_part_target, part_verdict, language_of_part_is_known, language_of_part_is_known_info};
+ghost use Rattle.snap_tree.specs.declared.row.NodeId.{NodeId};
+ghost use Rattle.rule_sights.specs.Targets.{JudgesSights};
+ghost use Rattle.rules_page.specs.LanguageOfParts.{is_html_part, is_shown_text, shows_text, is_part_target, part_verdict, language_of_part_is_known, language_of_part_is_known_info, language_of_part_is_known_target};
 
 use crate::languages::tag_verdict;
 use acc_tree::{Attribute, Sight, attr};
@@ -32,6 +34,13 @@ impl LanguageOfPartIsKnown {
         expects: Class::SubLang,
         inputs: [0; 4],
     };
+
+    /// The law of its targets: on each page it has a verdict exactly where the node is one. It does nothing: the clause
+    /// is what it is for.
+    #[tactic(auto, using(crate::proofs::Local::parts))]
+    pub fn law_of_targets()
+        ensures { (page : Document) (n : NodeId) → JudgesSights language_of_part_is_known language_of_part_is_known_target page n }
+    {}
 }
 
 fn is_html_part(row: &Row) -> bool

@@ -56,8 +56,8 @@ fn is_three_letters(subtag: &str) -> bool
     (subtag.len() == 3) & is_all_letters(subtag)
 }
 
-// What stands before the first `-`.
-fn primary_subtag(lang: &str) -> &str
+/// The primary subtag of a language tag: what stands before its first `-`.
+pub fn primary_subtag(lang: &str) -> &str
     ensures { result.now ≡ primary_subtag lang.now }
 {
     match lang.split_once('-') {

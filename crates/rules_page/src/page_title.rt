@@ -1,6 +1,9 @@
 ghost use Rattle.std.specs.Prelude.{◌≡◌, IfOk};
 ghost use Rattle.acc_tree.specs.Seen.{seen};
-ghost use Rattle.rules_page.specs.PageTitle.{first_title, texts, page_title, page_has_title, page_has_title_info};
+ghost use Rattle.snap_tree.specs.Trees.{Document};
+ghost use Rattle.snap_tree.specs.declared.row.NodeId.{NodeId};
+ghost use Rattle.rule_sights.specs.Targets.{JudgesRows};
+ghost use Rattle.rules_page.specs.PageTitle.{first_title, texts, page_title, page_has_title, page_has_title_info, page_has_title_target};
 
 use crate::filled::filled;
 use rule_core::{Class, Reason, Rule, RuleInfo, RuleNo, Verdict};
@@ -26,6 +29,13 @@ impl PageHasTitle {
         expects: Class::Title,
         inputs: [0; 4],
     };
+
+    /// The law of its targets: on each page it has a verdict exactly where the node is one. It does nothing: the clause
+    /// is what it is for.
+    #[tactic(auto, using(crate::proofs::Local::titles))]
+    pub fn law_of_targets()
+        ensures { (page : Document) (n : NodeId) → JudgesRows page_has_title page_has_title_target page n }
+    {}
 }
 
 /// What is below the first HTML element `title` in document order; `None` where there is none.

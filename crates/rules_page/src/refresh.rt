@@ -1,7 +1,9 @@
 ghost use Rattle.std.specs.Prelude.{◌≡◌, map, IfOk};
-ghost use Rattle.snap_tree.specs.Trees.{rows_of};
+ghost use Rattle.snap_tree.specs.Trees.{rows_of, Document};
 ghost use Rattle.acc_tree.specs.Seen.{seen_row, seen};
-ghost use Rattle.rules_page.specs.Refresh.{after_white, is_over, is_over_after_digits, ends_time, is_time, seconds, asks_to_refresh, refresh_time, refreshes, first_refresh, is_number, refresh_finding, time_verdict, refresh_verdict, page_has_no_delay, page_has_no_delay_info};
+ghost use Rattle.snap_tree.specs.declared.row.NodeId.{NodeId};
+ghost use Rattle.rule_sights.specs.Targets.{JudgesRows};
+ghost use Rattle.rules_page.specs.Refresh.{after_white, is_over, is_over_after_digits, ends_time, is_time, seconds, asks_to_refresh, refresh_time, refreshes, first_refresh, is_number, refresh_finding, refresh_verdict, page_has_no_delay, page_has_no_delay_info, page_has_no_delay_target};
 
 use crate::digits::{after_digits, begins_with_digit, number_at_start};
 use acc_tree::{Attribute, attr, is_word_at};
@@ -29,6 +31,13 @@ impl PageHasNoDelay {
         expects: Class::SelfOnly,
         inputs: [0; 4],
     };
+
+    /// The law of its targets: on each page it has a verdict exactly where the node is one. It does nothing: the clause
+    /// is what it is for.
+    #[tactic(auto, using(crate::proofs::Local::refreshing))]
+    pub fn law_of_targets()
+        ensures { (page : Document) (n : NodeId) → JudgesRows page_has_no_delay (page_has_no_delay_target (rows_of (seen page.trees))) page n }
+    {}
 }
 
 fn after_white(text: &[u8]) -> &[u8]
@@ -93,7 +102,9 @@ fn asks_to_refresh(row: &Row) -> bool
     row.is_html("meta") && is_word_at(row, Attribute::HttpEquiv, "refresh")
 }
 
-fn refresh_time(row: &Row) -> Option<u64>
+/// The time in seconds after which a `meta` refreshes its page; None where the row is no such `meta`, or its
+/// content doesn't read. A time past 1,000,000,000 counts as that.
+pub fn refresh_time(row: &Row) -> Option<u64>
     ensures { result ≡ refresh_time (seen_row row.now) }
 {
     if !asks_to_refresh(row) {
@@ -122,8 +133,9 @@ fn first_refresh(rows: &[Row]) -> Option<NodeId>
     None
 }
 
+/// Whether the node is the first `meta` that refreshes the page.
 #[tactic(auto, using(crate::proofs::Seeing::rows_of_seen))]
-fn is_first(tree: &Tree, n: NodeId) -> bool
+pub fn is_first_refresh(tree: &Tree, n: NodeId) -> bool
     ensures { result ≡ is_number n (first_refresh (rows_of (seen tree.now.trees))) }
 {
     match first_refresh(tree.rows()) {
@@ -143,12 +155,12 @@ fn finding(time: u64) -> Finding
 }
 
 fn verdict(alloc: Global, tree: &Tree, row: &Row) -> Result<Option<Verdict>, OutOfMemory>
-    ensures { IfOk result (λ verdict. verdict ≡ refresh_verdict (rows_of (seen tree.now.trees)) (seen_row row.now)) }
+    ensures { IfOk result (λ verdict. verdict ≡ refresh_verdict refresh_finding (rows_of (seen tree.now.trees)) (seen_row row.now)) }
 {
     let Some(time) = refresh_time(row) else {
         return Ok(None);
     };
-    if !is_first(tree, row.id) {
+    if !is_first_refresh(tree, row.id) {
         return Ok(None);
     }
     match attr(row, Attribute::Content) {

@@ -1,5 +1,10 @@
 ghost use Rattle.std.specs.Prelude.{◌≡◌, IfOk};
-ghost use Rattle.rules_page.specs.TitleDescriptive.{title_and_address, asks_a_person, title_is_descriptive, title_is_descriptive_info};
+ghost use Rattle.snap_tree.specs.Trees.{Document};
+ghost use Rattle.snap_tree.specs.declared.row.NodeId.{NodeId};
+ghost use Rattle.rule_sights.specs.Targets.{JudgesRows};
+ghost use Rattle.acc_tree.specs.Seen.{seen};
+ghost use Rattle.rules_page.specs.PageTitle.{page_title};
+ghost use Rattle.rules_page.specs.TitleDescriptive.{title_and_address, asks_a_person, title_is_descriptive, title_is_descriptive_info, title_is_descriptive_target};
 
 use crate::page_title::page_title;
 use rule_core::{Class, Finding, Reason, Rule, RuleInfo, RuleNo, Verdict};
@@ -25,6 +30,13 @@ impl TitleIsDescriptive {
         expects: Class::Title,
         inputs: [0; 4],
     };
+
+    /// The law of its targets: on each page it has a verdict exactly where the node is one. It does nothing: the clause
+    /// is what it is for.
+    #[tactic(auto, using(crate::proofs::Local::descriptive))]
+    pub fn law_of_targets()
+        ensures { (page : Document) (n : NodeId) → JudgesRows title_is_descriptive (title_is_descriptive_target (page_title (seen page.trees))) page n }
+    {}
 }
 
 fn title_and_address(alloc: Global, title: &Text, address: &Text) -> Result<Text, OutOfMemory>

@@ -1,7 +1,10 @@
 ghost use Rattle.std.specs.Prelude.{◌≡◌, ◌<◌, IfOk};
 ghost use Rattle.acc_tree.specs.Numbers.{is_digits};
 ghost use Rattle.acc_tree.specs.Seen.{seen_row};
-ghost use Rattle.rules_page.specs.Viewport.{fraction, with_fraction, thousandths, split_scale, scale, is_below_two, key_of, limits, pair_limits, part_limits, pieces, last_limits, content_limits, is_limited, viewport_finding, zoom_verdict, content_verdict, is_viewport, viewport_verdict, viewport_allows_zoom, viewport_allows_zoom_info};
+ghost use Rattle.snap_tree.specs.Trees.{Document};
+ghost use Rattle.snap_tree.specs.declared.row.NodeId.{NodeId};
+ghost use Rattle.rule_sights.specs.Targets.{JudgesRows};
+ghost use Rattle.rules_page.specs.Viewport.{fraction, with_fraction, thousandths, split_scale, scale, is_below_two, key_of, limits, pair_limits, part_limits, pieces, last_limits, content_limits, is_limited, viewport_finding, zoom_verdict, content_verdict, is_viewport, viewport_verdict, viewport_allows_zoom, viewport_allows_zoom_info, viewport_allows_zoom_target};
 
 use crate::digits::{GREATEST, digit};
 use acc_tree::{Attribute, attr, is_word_at, whole_number};
@@ -29,6 +32,13 @@ impl ViewportAllowsZoom {
         expects: Class::SelfOnly,
         inputs: [0; 4],
     };
+
+    /// The law of its targets: on each page it has a verdict exactly where the node is one. It does nothing: the clause
+    /// is what it is for.
+    #[tactic(auto, using(crate::proofs::Local::viewports))]
+    pub fn law_of_targets()
+        ensures { (page : Document) (n : NodeId) → JudgesRows viewport_allows_zoom viewport_allows_zoom_target page n }
+    {}
 }
 
 /// A key by which a viewport can keep a page from being zoomed.

@@ -13,7 +13,6 @@ pub mod Referring
 pub mod Naming
 pub mod RoleOfCell
 pub mod Deciding
-pub mod Judged
 pub mod CellTold
 pub mod Local
 pub mod Shown

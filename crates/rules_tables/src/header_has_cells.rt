@@ -1,6 +1,9 @@
 ghost use Rattle.std.specs.Prelude.{◌≡◌, ◌++◌, codes, decimal, option_and_then, IfOk};
 ghost use Rattle.rule_core.specs.Findings.{verdict_of};
 ghost use Rattle.acc_tree.specs.Seen.{seen_row, seen};
+ghost use Rattle.snap_tree.specs.Trees.{Document};
+ghost use Rattle.snap_tree.specs.declared.row.NodeId.{NodeId};
+ghost use Rattle.rules_tables.specs.TargetLaws.{JudgesHeaders};
 ghost use Rattle.rules_tables.specs.HeaderHasCells.{is_header_role, is_header_target, header_finding, cells_text};
 ghost use Rattle.rules_tables.specs.HeaderHasCells.{header_verdict, header_has_cells, header_has_cells_info};
 ghost use Rattle.rules_tables.specs.Heads.{IsOf, AreOfPage};
@@ -38,6 +41,13 @@ impl HeaderHasCells {
         expects: Class::Table,
         inputs: [0; 4],
     };
+
+    /// The law of its targets: on each page it has a verdict exactly where the node is one. It does nothing: the clause
+    /// is what it is for.
+    #[tactic(auto, using(crate::proofs::Local::judges_headers))]
+    pub fn law_of_targets()
+        ensures { (page : Document) (n : NodeId) → JudgesHeaders page n }
+    {}
 }
 
 fn is_header_role(role: Option<Role>) -> bool

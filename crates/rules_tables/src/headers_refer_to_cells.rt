@@ -3,6 +3,9 @@ ghost use Rattle.texts.specs.Words.{words};
 ghost use Rattle.acc_tree.specs.declared.attributes.Attribute.TheVariants as attribute;
 ghost use Rattle.acc_tree.specs.Seen.{seen_row, seen, text_at};
 ghost use Rattle.rule_core.specs.Findings.{verdict_of};
+ghost use Rattle.snap_tree.specs.Trees.{Document};
+ghost use Rattle.snap_tree.specs.declared.row.NodeId.{NodeId};
+ghost use Rattle.rules_tables.specs.TargetLaws.{JudgesReferences};
 ghost use Rattle.rules_tables.specs.HeadersReferToCells.{refer_inside, headers_finding, is_headers_target, headers_verdict};
 ghost use Rattle.rules_tables.specs.HeadersReferToCells.{headers_refer_to_cells, headers_refer_to_cells_info};
 ghost use Rattle.rules_tables.specs.TableIds.{AreIds, AreAllIds};
@@ -39,6 +42,13 @@ impl HeadersReferToCells {
         expects: Class::Table,
         inputs: [0; 4],
     };
+
+    /// The law of its targets: on each page it has a verdict exactly where the node is one. It does nothing: the clause
+    /// is what it is for.
+    #[tactic(auto, using(crate::proofs::Local::judges_references))]
+    pub fn law_of_targets()
+        ensures { (page : Document) (n : NodeId) → JudgesReferences page n }
+    {}
 }
 
 fn refer_inside(ids: &Bearers<'_>, inside: &Branches<'_>, n: NodeId, text: &str) -> bool

@@ -1,8 +1,7 @@
 ghost use Rattle.std.specs.Prelude.{◌≡◌, ℕ, List};
 ghost use Rattle.std.specs.List.{AllByRecursion};
-ghost use Rattle.snap_tree.specs.declared.row.NodeId.{NodeId};
 ghost use Rattle.snap_tree.specs.declared.row.Row.{Row};
-ghost use Rattle.snap_tree.specs.Trees.{Trees, Document};
+ghost use Rattle.snap_tree.specs.Trees.{Trees};
 ghost use Rattle.acc_tree.specs.declared.above.Above.{Above};
 ghost use Rattle.rules_tables.specs.declared.spans.TheConstants.{MOST_COLUMNS, MOST_ROWS};
 ghost use Rattle.rules_tables.specs.declared.survey.TheConstants.{MOST_SLOTS};
@@ -10,7 +9,6 @@ ghost use Rattle.rules_tables.specs.Grid.{Placed, first_free, grid};
 ghost use Rattle.rules_tables.specs.GridLaws.{IsFirstFree, AllBeginApart, AreRuns, LiesWithin, IsWidth};
 ghost use Rattle.rules_tables.specs.RoleLaws.{DependsOnTable, KeepsTable};
 ghost use Rattle.rules_tables.specs.TableRows.{table_rows};
-ghost use Rattle.rules_tables.specs.TargetLaws.{JudgesHeaders, JudgesReferences};
 
 /// Laws of grids. It does nothing: the clauses are what it is for.
 ///
@@ -36,16 +34,6 @@ pub fn laws_of_grids()
 pub fn laws_of_roles()
     ensures role { (a b : Above) (cell : Row) → DependsOnTable a b cell }
     ensures table { (above : Above) (row : Row) → KeepsTable above row }
-{}
-
-/// Laws of targets. It does nothing: the clauses are what it is for.
-///
-/// On a well page each of the two rules has a verdict exactly where the node is a target: the nearest
-/// table that what is above a cell names stands in the page.
-#[tactic(auto, using(crate::proofs::Judged::judges_headers, crate::proofs::Judged::judges_references))]
-pub fn laws_of_targets()
-    ensures headers { (page : Document) (n : NodeId) → JudgesHeaders page n }
-    ensures references { (page : Document) (n : NodeId) → JudgesReferences page n }
 {}
 
 /// The numbers of the limits. It does nothing: the clauses are what it is for.

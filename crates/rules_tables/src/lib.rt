@@ -21,4 +21,4 @@ pub use cells::{CellPlace, cell_places};
 pub use grid::Area;
 pub use header_has_cells::HeaderHasCells;
 pub use headers_refer_to_cells::HeadersReferToCells;
-pub use laws::{laws_of_grids, laws_of_limits, laws_of_roles, laws_of_targets};
+pub use laws::{laws_of_grids, laws_of_limits, laws_of_roles};

@@ -1,5 +1,5 @@
 -- One more row is taken in.
-use Rattle.std.proofs.Common.{◌≡◌, ◌≢◌, ⊎_elim, subst, ℕ, suc, ◌+◌, ◌==◌, List, [], ◌∷◌, ◌++◌, length, map, reverse, Bool, true, false, Option, Some, None, if◌then◌else◌, refl, sym, ◌∙◌, ap, arith, MatchOption, add-zero}
+use Rattle.std.proofs.Common.{◌≡◌, ◌≢◌, ⊎_elim, subst, ℕ, suc, ◌+◌, ◌==◌, List, [], ◌∷◌, ◌++◌, length, map, reverse, Bool, true, false, not, Option, Some, None, if◌then◌else◌, refl, sym, ◌∙◌, ap, arith, MatchOption, add-zero}
 use Rattle.std.proofs.lemmas.List.{reverse-append, length-reverse, length-map}
 use Rattle.std.proofs.lemmas.Bool.{cases_eq}
 use Rattle.std.proofs.lemmas.Bool.Decides.{nat_tests}
@@ -8,13 +8,14 @@ use Rattle.std.specs.List.{list_any}
 use Rattle.snap_tree.specs.declared.row.Row.{Row}
 use Rattle.snap_tree.specs.declared.row.NodeId.{NodeId}
 use Rattle.snap_tree.specs.declared.build.Opened.{Opened}
-use Rattle.snap_tree.specs.declared.places.Places.{Places}
+use Rattle.number_tables.specs.declared.table.NumberTable.{NumberTable}
+use Rattle.number_tables.specs.Tables.{at, Puts}
 use Rattle.snap_tree.specs.declared.fault.TreeFault.TheVariants.{DoubleNumber, ParentUnknownOrNotOpen}
 use Rattle.snap_tree.specs.Trees.{Trees, empty, tree, beside}
 use Rattle.snap_tree.specs.Grown.{grown, under, planted}
 use Rattle.snap_tree.specs.Rows.{has_number}
 use Rattle.snap_tree.specs.Faults.{open_rows, ancestors, is_below_text, is_misplaced, is_first, place_fault, row_fault}
-use Rattle.snap_tree.specs.Places.{place_from, place_at, Puts, IsPlaces}
+use Rattle.snap_tree.specs.Places.{place_from, IsPlaces}
 use Rattle.snap_tree.specs.Opened.{opened, from_opened, is_below, HasEntered}
 use Rattle.snap_tree.proofs.Growth.{grown_push}
 use Rattle.snap_tree.proofs.Opening.{from_opened-map, under_opens, Went}
@@ -40,8 +41,16 @@ place_from-push from n (x ∷ rows) r = by_test (x.id.0 == n) refl (place_from-p
     by_test true e h = rw e refl
     by_test false e h = rw e (h ∙ ap (λ k. option_or (place_from (from + 1) n rows) (if r.id.0 == n then Some k else None)) sums)
 
-pub number_is_taken : (places : Places) (earlier : List Row) (r : Row) → IsPlaces places earlier → is_some (place_at places r.id.0) ≡ list_any (has_number r.id) earlier
+pub number_is_taken : (places : NumberTable ℕ) (earlier : List Row) (r : Row) → IsPlaces places earlier → is_some (at places r.id.0) ≡ list_any (has_number r.id) earlier
 number_is_taken places earlier r placed = ap is_some (placed r.id.0) ∙ place_from-any 0 r.id earlier
+
+-- what a table says of whether a number is new
+is_taken_as : (taken is_new : Bool) → is_new ≡ not taken → taken ≡ not is_new
+is_taken_as true is_new is = sym (ap not is)
+is_taken_as false is_new is = sym (ap not is)
+
+pub taken_or_new : (places : NumberTable ℕ) (earlier : List Row) (r : Row) (is_new : Bool) → IsPlaces places earlier → is_new ≡ not (is_some (at places r.id.0)) → list_any (has_number r.id) earlier ≡ not is_new
+taken_or_new places earlier r is_new placed is = sym (number_is_taken places earlier r placed) ∙ is_taken_as _ is_new is
 
 -- ---- faults
 
@@ -87,46 +96,22 @@ opens_next (x ∷ earlier) r h =
 push_opened : (path : List Opened) (r : Row) (above : List Row) → reverse path ≡ map opened above → reverse (path ++ opened r ∷ []) ≡ map opened (r ∷ above)
 push_opened path r above e = reverse-append path (opened r ∷ []) ∙ ap (λ xs. opened r ∷ xs) e
 
-none_from_is_some : {X : Type 0} (o : Option X) → is_some o ≡ false → o ≡ None
-none_from_is_some None e = refl
-none_from_is_some (Some x) e = cc
-
-option_or-None : {X : Type 0} (o : Option X) → option_or o None ≡ o
-option_or-None None = refl
-option_or-None (Some x) = refl
-
-placed_same : (earlier : List Row) (r : Row) → list_any (has_number r.id) earlier ≡ false → Some (length earlier) ≡ place_from 0 r.id.0 (earlier ++ r ∷ [])
-placed_same earlier r free =
-    let none : place_from 0 r.id.0 earlier ≡ None = none_from_is_some _ (place_from-any 0 r.id earlier ∙ free) in
-    let same : (r.id.0 == r.id.0) ≡ true = grind (arith, nat_tests) in
-    sym (place_from-push 0 r.id.0 earlier r ∙ ap (λ o. option_or o (if r.id.0 == r.id.0 then Some (0 + length earlier) else None)) none ∙ ap (λ b. if b then Some (0 + length earlier) else None) same ∙ ap Some zero_plus)
+pub placed_more : (places new : NumberTable ℕ) (earlier : List Row) (r : Row) → IsPlaces places earlier → Puts places new r.id.0 (length earlier) → IsPlaces new (earlier ++ r ∷ [])
+placed_more places new earlier r placed puts n =
+    puts n ∙ ap (λ o. option_or o (if r.id.0 == n then Some (length earlier) else None)) (placed n) ∙ sym (place_from-push 0 n earlier r ∙ ap (λ k. option_or (place_from 0 n earlier) (if r.id.0 == n then Some k else None)) zero_plus)
   where
     zero_plus : 0 + length earlier ≡ length earlier
     zero_plus = omega arith
-
-placed_other : (earlier : List Row) (r : Row) (n : ℕ) → r.id.0 ≢ n → place_from 0 n earlier ≡ place_from 0 n (earlier ++ r ∷ [])
-placed_other earlier r n apart =
-    let other : (r.id.0 == n) ≡ false = grind (arith, nat_tests) in
-    sym (place_from-push 0 n earlier r ∙ ap (λ b. option_or (place_from 0 n earlier) (if b then Some (0 + length earlier) else None)) other ∙ option_or-None (place_from 0 n earlier))
-
-pub placed_more : (places new : Places) (earlier : List Row) (r : Row) → IsPlaces places earlier → Puts places new r.id.0 (length earlier) → list_any (has_number r.id) earlier ≡ false → IsPlaces new (earlier ++ r ∷ [])
-placed_more places new earlier r placed puts free n =
-    ⊎_elim
-    (λ same.
-    let own : (r.id.0 == r.id.0) ≡ true = grind (arith, nat_tests) in
-    subst (λ k. place_at new k ≡ place_from 0 k (earlier ++ r ∷ [])) same (puts r.id.0 ∙ ap (λ b. if b then Some (length earlier) else place_at places r.id.0) own ∙ placed_same earlier r free))
-    (λ apart. let other : (r.id.0 == n) ≡ false = grind (arith, nat_tests) in puts n ∙ ap (λ b. if b then Some (length earlier) else place_at places n) other ∙ placed n ∙ placed_other earlier r n apart)
-    (cases_eq r.id.0 n)
 
 pub is_first-length : (rows : List Row) → (length rows == 0) ≡ is_first rows
 is_first-length [] = refl
 is_first-length (r ∷ rows) = grind (arith, nat_tests)
 
 -- the row is taken in, where it has no fault
-pub entered : (places new : Places) (path closed : List Opened) (earlier : List Row) (r : Row) → HasEntered places path earlier → Puts places new r.id.0 (length earlier) → list_any (has_number r.id) earlier ≡ false
+pub entered : (places new : NumberTable ℕ) (path closed : List Opened) (earlier : List Row) (r : Row) → HasEntered places path earlier → Puts places new r.id.0 (length earlier) → list_any (has_number r.id) earlier ≡ false
     → reverse closed ≡ from_opened r (reverse path) → is_misplaced (is_first earlier) r (length (ancestors r (grown earlier))) ≡ false → HasEntered new (closed ++ opened r ∷ []) (earlier ++ r ∷ [])
 entered places new path closed earlier r h puts free e place = record {
-  placed = placed_more places new earlier r h.placed puts free;
+  placed = placed_more places new earlier r h.placed puts;
   opens = push_opened closed r (ancestors r (grown earlier)) (path_is path closed r (grown earlier) h.opens e) ∙ ap (map opened) (sym (opens_next earlier r place));
 }
 

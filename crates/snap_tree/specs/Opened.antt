@@ -1,11 +1,11 @@
 -- What a pass over the rows keeps of each open node.
-use Rattle.std.specs.Prelude.{◌≡◌, List, [], ◌∷◌, map, reverse, Bool, false, if◌then◌else◌, Option, Some}
+use Rattle.std.specs.Prelude.{◌≡◌, ℕ, List, [], ◌∷◌, map, reverse, Bool, false, if◌then◌else◌, Option, Some}
 use Rattle.snap_tree.specs.declared.row.Row.{Row}
 use Rattle.snap_tree.specs.declared.build.Opened.{Opened}
 use Rattle.snap_tree.specs.declared.fault.TreeFault.{TreeFault}
 use Rattle.snap_tree.specs.declared.fault.BuildFault.{BuildFault}
 use Rattle.snap_tree.specs.declared.fault.BuildFault.TheVariants.{Tree, OutOfMemory}
-use Rattle.snap_tree.specs.declared.places.Places.{Places}
+use Rattle.number_tables.specs.declared.table.NumberTable.{NumberTable}
 use Rattle.snap_tree.specs.Grown.{is_number, grown}
 use Rattle.snap_tree.specs.Faults.{open_rows}
 use Rattle.snap_tree.specs.Places.{IsPlaces}
@@ -29,6 +29,6 @@ Breaks (Tree f) fault = fault ≡ Some f
 Breaks OutOfMemory fault = Unit {0}
 
 -- the rows were taken in: the place of each number, and the open nodes with the deepest at the end
-pub record HasEntered (places : Places) (path : List Opened) (rows : List Row) : Type 0 where
+pub record HasEntered (places : NumberTable ℕ) (path : List Opened) (rows : List Row) : Type 0 where
   pub placed : IsPlaces places rows
   pub opens : reverse path ≡ map opened (open_rows (grown rows))

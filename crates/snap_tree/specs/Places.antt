@@ -1,8 +1,7 @@
 -- Where the rows of a page stand, by their numbers.
-use Rattle.std.specs.Prelude.{◌≡◌, ◌<◌, ◌≤◌, ◌==◌, ℕ, ◌+◌, ◌-◌, length, take, drop, slice_index, slice_get, List, [], ◌∷◌, if◌then◌else◌, Option, Some, None}
-use Rattle.std.specs.Ordering.{nat_cmp}
-use Rattle.std.specs.BTreeMap.{get}
-use Rattle.snap_tree.specs.declared.places.Places.{Places}
+use Rattle.std.specs.Prelude.{◌≡◌, ◌<◌, ◌≤◌, ◌==◌, ℕ, ◌+◌, ◌-◌, length, take, drop, slice_index, List, [], ◌∷◌, if◌then◌else◌, Option, Some, None}
+use Rattle.number_tables.specs.declared.table.NumberTable.{NumberTable}
+use Rattle.number_tables.specs.Tables.{at}
 use Rattle.snap_tree.specs.declared.row.Row.{Row}
 use Rattle.snap_tree.specs.Trees.{sizes_of}
 use Rattle.snap_tree.specs.Grown.{grown}
@@ -12,22 +11,9 @@ abbrev pub place_from : ℕ → ℕ → List Row → Option ℕ
 place_from from n [] = None
 place_from from n (r ∷ rows) = if r.id.0 == n then Some from else place_from (from + 1) n rows
 
--- what a slot of the table has; where the table doesn't reach so far, what the map has
-abbrev pub in_slot : Option (Option ℕ) → Option ℕ → Option ℕ
-in_slot (Some slot) far = slot
-in_slot None far = far
-
--- the place that a number has
-abbrev pub place_at : Places → ℕ → Option ℕ
-place_at places n = in_slot (slice_get places.near.items n) (get nat_cmp places.far n)
-
--- a number has this place, and each other one what it had
-abbrev pub Puts : Places → Places → ℕ → ℕ → Type 0
-Puts old new n place = (m : ℕ) → place_at new m ≡ (if n == m then Some place else place_at old m)
-
 -- each number has its place
-abbrev pub IsPlaces : Places → List Row → Type 0
-IsPlaces places rows = (n : ℕ) → place_at places n ≡ place_from 0 n rows
+abbrev pub IsPlaces : NumberTable ℕ → List Row → Type 0
+IsPlaces places rows = (n : ℕ) → at places n ≡ place_from 0 n rows
 
 -- the run of rows behind the one at a place, as its size says
 abbrev pub run_below : ℕ → List Row → List ℕ → List Row

@@ -5,8 +5,8 @@ ghost use Rattle.snap_tree.specs.Opened.{from_opened, is_below, HasEntered, Brea
 
 use crate::fault::{BuildFault, TreeFault};
 use crate::limits::own_fault;
-use crate::places::Places;
 use crate::row::{NodeId, Row, is_number};
+use number_tables::NumberTable;
 use std::alloc::Global;
 
 /// How many nodes a page has at the most.
@@ -71,7 +71,7 @@ fn place_fault(first: bool, row: &Row, above: usize, below_text: bool) -> Option
 
 // Takes in the next row, or names its first fault.
 fn enter(
-    places: &mut Places,
+    places: &mut NumberTable<usize>,
     path: &mut Vec<Opened>,
     earlier: &[Row],
     row: &Row,
@@ -81,10 +81,10 @@ fn enter(
     ensures sound { OnOk result (row_fault earlier.now row.now ≡ None) }
     ensures fault { IfErr result (λ f. Breaks f (row_fault earlier.now row.now)) }
 {
-    if places.at(row.id.0).is_some() {
+    let is_new = places.put(row.id.0, earlier.len())?;
+    if !is_new {
         return Err(BuildFault::Tree(TreeFault::DoubleNumber { node: row.id }));
     }
-    places.put(row.id.0, earlier.len())?;
     close_to_parent(path, row);
     let below_text = is_below_text(path);
     if let Some(fault) = place_fault(earlier.is_empty(), row, path.len(), below_text) {
@@ -98,12 +98,12 @@ fn enter(
 }
 
 // The place of each number, or the first fault of the rows.
-pub(crate) fn places_of(alloc: Global, rows: &[Row]) -> Result<Places, BuildFault>
+pub(crate) fn places_of(alloc: Global, rows: &[Row]) -> Result<NumberTable<usize>, BuildFault>
     ensures places { IfOk result (λ places. IsPlaces places rows.now) }
     ensures sound { OnOk result (rows_fault [] rows.now ≡ None) }
     ensures fault { IfErr result (λ f. Breaks f (rows_fault [] rows.now)) }
 {
-    let mut places = Places::room(alloc, rows.len())?;
+    let mut places = NumberTable::with_room(alloc, rows.len())?;
     let mut path = Vec::new(alloc);
     for (place, row) in rows.iter().enumerate() {
         let (earlier, _) = rows.split_at(place);

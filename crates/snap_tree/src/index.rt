@@ -6,9 +6,9 @@ ghost use Rattle.snap_tree.specs.Indexed.{IsIndex};
 use crate::branches::Branches;
 use crate::groups::{Groups, Key, groups_of};
 use crate::labels::labels_around;
-use crate::places::Places;
 use crate::row::{NodeId, Row};
 use crate::sizes::sizes_of;
+use number_tables::NumberTable;
 use std::alloc::Global;
 use texts::OutOfMemory;
 
@@ -18,7 +18,7 @@ pub(crate) struct Index {
     /// The size of each row's subtree, in document order, itself counted.
     pub(crate) sizes: Vec<usize>,
     /// The place of each number.
-    pub(crate) places: Places,
+    pub(crate) places: NumberTable<usize>,
     /// The elements of each id.
     pub(crate) ids: Groups,
     /// The labels that name each id.
@@ -29,7 +29,11 @@ pub(crate) struct Index {
 
 impl Index {
     /// The index of rows whose places are known.
-    pub(crate) fn of(alloc: Global, rows: &[Row], places: Places) -> Result<Self, OutOfMemory>
+    pub(crate) fn of(
+        alloc: Global,
+        rows: &[Row],
+        places: NumberTable<usize>,
+    ) -> Result<Self, OutOfMemory>
         requires placed { IsPlaces places rows.now }
         requires sound { shape_fault rows.now ≡ None }
         ensures { IfOk result (λ index. IsIndex rows.now index) }

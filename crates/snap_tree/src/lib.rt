@@ -19,7 +19,6 @@ mod labels;
 mod langs;
 mod laws;
 mod limits;
-mod places;
 mod row;
 mod shared;
 mod sizes;

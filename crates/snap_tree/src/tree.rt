@@ -22,10 +22,10 @@ use crate::groups::{Groups, Key, folded, group, groups_of};
 use crate::index::Index;
 use crate::kids::Kids;
 use crate::labels::all_labels;
-use crate::places::Places;
 use crate::row::{NodeId, Raw, Row};
 use crate::shared::SharedLangs;
 use crate::weight::{MOST_WEIGHT, reference_weight};
+use number_tables::NumberTable;
 use std::alloc::Global;
 use std::marker::Model;
 use std::sync::Arc;
@@ -67,7 +67,7 @@ struct Page {
 
 // The place of each number of rows whose shape is sound, or their first fault.
 #[tactic(auto, unfolding(crate::specs::Faults::shape_fault))]
-fn sound_places(alloc: Global, rows: &[Row]) -> Result<Places, BuildFault>
+fn sound_places(alloc: Global, rows: &[Row]) -> Result<NumberTable<usize>, BuildFault>
     ensures places { IfOk result (λ places. IsPlaces places rows.now) }
     ensures sound { OnOk result (shape_fault rows.now ≡ None) }
     ensures fault { IfErr result (λ f. Breaks f (shape_fault rows.now)) }
@@ -82,7 +82,7 @@ fn sound_places(alloc: Global, rows: &[Row]) -> Result<Places, BuildFault>
 }
 
 // The row of a number, given the place of each; None where no row has it.
-fn row_of<'a>(rows: &'a [Row], places: &Places, n: NodeId) -> Option<&'a Row>
+fn row_of<'a>(rows: &'a [Row], places: &NumberTable<usize>, n: NodeId) -> Option<&'a Row>
     requires { IsPlaces places.now rows.now }
     ensures { option_copied result ≡ find (has_number n) rows.now }
 {

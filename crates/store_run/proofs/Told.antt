@@ -1,5 +1,5 @@
 -- A store that is refused, of which the line was told, or that of want of memory in its place.
-use Rattle.std.proofs.Common.{◌≡◌, ◌≢◌, ℕ, ◌≤◌, inl, inr, List, Option, None, refl, sym, ap, subst}
+use Rattle.std.proofs.Common.{◌≡◌, false, ℕ, ◌≤◌, inl, inr, List, Option, None, refl, sym, ap, subst}
 use Rattle.sqlite_trees.specs.declared.store.Store.{Ghosts}
 use Rattle.links.specs.Wires.{Wire}
 use Rattle.links.specs.Doors.{Doorway}
@@ -7,6 +7,7 @@ use Rattle.rule_core.specs.Books.{Book}
 use Rattle.streams.specs.Told.{Input, Output, Outside}
 use Rattle.keep_sql.specs.declared.keeper.Prepared.{Prepared}
 use Rattle.keep_sql.specs.declared.keeper.Prepared.TheVariants as prepared
+use Rattle.keep_sql.specs.Preparing.{is_taken}
 use Rattle.keep_sql.specs.Keeper.{Keeper, tables, told_of, IsNoted}
 use Rattle.desk_http.specs.Desk.{Desk}
 use Rattle.store_run.specs.declared.refusal.StoreRefusal.{StoreRefusal}
@@ -30,7 +31,7 @@ store_refused g book words keeper keeper' input out err err' wire broken door lo
     (record { input = refl; out = refl; door = refl; log = refl; calls = refl; tells_none = ap (told_of g) none; never_falls = falls }) told)
 
 -- why a store of another edition is refused
-pub other_edition : {S : Type 0} (g : Ghosts S) (keeper keeper' : Keeper S) (p : Prepared) (number : ℕ) → p ≡ prepared.OtherEdition number → ((n : ℕ) → p ≡ prepared.OtherEdition n → n ≢ 2) → IsNoted g p keeper' →
+pub other_edition : {S : Type 0} (g : Ghosts S) (keeper keeper' : Keeper S) (p : Prepared) (number : ℕ) → p ≡ prepared.OtherEdition number → ((n : ℕ) → p ≡ prepared.OtherEdition n → is_taken n ≡ false) → IsNoted g p keeper' →
     RefusalCause g (OtherEdition number) keeper keeper'
 other_edition g keeper keeper' p number is other noted = (other number is, subst (λ q. IsNoted g q keeper') is noted)
 

@@ -1,10 +1,11 @@
 -- What a run over a store does.
-use Rattle.std.specs.Prelude.{◌≡◌, ◌≢◌, ℕ, ◌≤◌, ◌⊎◌, List, None, IsSome}
+use Rattle.std.specs.Prelude.{◌≡◌, ℕ, ◌≤◌, ◌⊎◌, List, false, None, IsSome}
 use Rattle.counts.specs.Counts.{Rose}
 use Rattle.sqlite_trees.specs.declared.store.Store.{Ghosts}
 use Rattle.rule_core.specs.Books.{Book}
 use Rattle.streams.specs.Told.{Outside}
-use Rattle.keep_sql.specs.Keeper.{Keeper, tables, HasEdition}
+use Rattle.keep_sql.specs.Keeper.{Keeper, tables, HasEdition, HasTaken}
+use Rattle.keep_sql.specs.Preparing.{is_taken}
 use Rattle.desk_http.specs.Desk.{Desk}
 use Rattle.desk_run.specs.Run.{Runs}
 use Rattle.store_run.specs.declared.refusal.StoreRefusal.{StoreRefusal}
@@ -25,7 +26,7 @@ pub record IsUntouched {L : Type 0} (old new : Outside) (before now : Desk L) : 
 module _ {S : Type 0} (g : Ghosts S) where
   -- why a store isn't run over: the edition that its rows note, where it is clean and open, or a fault that the keeper counted
   abbrev pub RefusalCause : StoreRefusal → Keeper S → Keeper S → Type 0
-  RefusalCause (OtherEdition number) old new = (number ≢ 2) × HasEdition g number new.waiting
+  RefusalCause (OtherEdition number) old new = (is_taken number ≡ false) × HasEdition g number new.waiting
   RefusalCause StoreFault old new = Rose old.faults new.faults
   RefusalCause NoMemory old new = Unit {0}
 
@@ -40,7 +41,7 @@ module _ {S : Type 0} (g : Ghosts S) where
   pub record IsRunOver {L : Type 0} (book : Book) (words : List (List ℕ)) (old new : Outside) (before now : Desk L) (number : ℕ) : Type 0 where
     pub prepared : Keeper S
     pub ready : IsSome prepared.ready
-    pub edition : HasEdition g 2 prepared.ready
+    pub edition : HasTaken g prepared.ready
     pub never_falls : before.faults ≤ prepared.faults
     pub runs : Runs book words old new (record before { tables = tables g prepared; faults = prepared.faults }) now number
 

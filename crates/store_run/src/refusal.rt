@@ -9,7 +9,7 @@ use streams::{Sink, write_all};
 /// Why a store isn't run over.
 #[derive(Clone, Copy, Debug, PartialEq, Eq)]
 pub enum StoreRefusal {
-    /// The store's rows are of this edition, which isn't 2.
+    /// The store's rows are of this edition, which isn't taken.
     OtherEdition { number: u64 },
     /// The store can't be prepared.
     StoreFault,

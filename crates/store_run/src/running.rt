@@ -17,7 +17,7 @@ use streams::{Sink, Source};
 
 /// Prepares a store, and then does what `run` does over it, with the same status.
 ///
-/// Where the store's rows are of another edition than 2 nothing is done but that `err` says `edition fault` and its number,
+/// Where the store's rows are of an edition that isn't taken nothing is done but that `err` says `edition fault` and its number,
 /// and the status is 9. Where the store can't be prepared it is 6, with the line `store fault`, and 8 for want of memory,
 /// with `no memory`; nothing else is done then either. Where such a line can't be written the status is 4. There is one book
 /// or more, and the door doesn't listen yet.

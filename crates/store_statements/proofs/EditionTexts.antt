@@ -3,7 +3,7 @@ use Rattle.std.proofs.Common.{◌≡◌, inl, inr, ℕ, ℤ, List, [], ◌∷◌
 use Rattle.sqlite_value.specs.declared.value.Value.TheVariants.{Null, Int}
 use Rattle.sqlite_value.specs.Order.{Row}
 use Rattle.sqlite_sql.specs.Term.{Term, lit, col}
-use Rattle.sqlite_schema.specs.declared.command.Command.TheVariants.{Insert, Select}
+use Rattle.sqlite_schema.specs.declared.command.Command.TheVariants.{Insert, Delete, Select}
 use Rattle.sqlite_schema.specs.declared.command.Source.TheVariants.{Values}
 use Rattle.sqlite.specs.Listing.{understood, reads_listing}
 use Rattle.sqlite.specs.State.{State, ExecutesInside, Shown, IsUnchanged}
@@ -12,10 +12,10 @@ use Rattle.sqlite_tied.specs.Compute.{everything}
 use Rattle.sql_rows.specs.Keyed.{KeyKind, IsKeyed, number}
 use Rattle.sql_rows.specs.Queries.{simple, wheres, shows, sorts}
 use Rattle.sql_rows.proofs.Reading.{shows_group}
-use Rattle.sql_rows.proofs.Writing.{puts_more}
+use Rattle.sql_rows.proofs.Writing.{puts_more, drops}
 use Rattle.store_statements.specs.Schema.{the_schema, key_index, edition_table}
 use Rattle.store_statements.specs.Stored.{stored, editions_at}
-use Rattle.store_statements.specs.Changes.{IsReady, Makes, AddsEdition}
+use Rattle.store_statements.specs.Changes.{IsReady, Makes, DropsEditions, AddsEdition}
 use Rattle.store_statements.proofs.StoreLemmas.{made_editions}
 
 abbrev kinds : List KeyKind
@@ -46,6 +46,17 @@ edition_rows_plain : IsPlain (understood the_schema edition_rows_text)
 unfolding understood everything
 edition_rows_plain = (refl, refl)
 
+abbrev drop_editions_text : List ℕ
+drop_editions_text = codes "DELETE FROM edition"
+
+drop_editions_is : command_of (understood the_schema drop_editions_text) ≡ Delete 5 (record { lets = []; body = simple 10 (wheres 1 0 ([])) (col 1 0 ∷ []) [] })
+unfolding understood everything
+drop_editions_is = refl
+
+drop_editions_plain : IsPlain (understood the_schema drop_editions_text)
+unfolding understood everything
+drop_editions_plain = (refl, refl)
+
 abbrev add_edition_text : List ℕ
 add_edition_text = codes "INSERT INTO edition (number) VALUES (?1)"
 
@@ -68,3 +79,7 @@ module _ (old new : State) (ready : IsReady old) where
   pub adds_edition : (edition : ℤ) (count : ℕ) → ExecutesInside 0 add_edition_text (Int edition ∷ []) old new (Ok count) → Makes (AddsEdition edition) old new
   adds_edition edition count h =
       made_editions _ old new (puts_more the_schema edition_table kinds keyed old new ready (Int edition ∷ []) ([]) refl add_edition_text (Int edition ∷ []) count 5 2 add_edition_terms refl add_edition_is add_edition_plain refl refl h)
+
+  pub drops_editions : (count : ℕ) → ExecutesInside 0 drop_editions_text ([]) old new (Ok count) → Makes DropsEditions old new
+  drops_editions count h =
+      made_editions _ old new (drops the_schema edition_table kinds keyed old new ready ([]) ([]) tt tt drop_editions_text count 5 refl drop_editions_is drop_editions_plain refl h)

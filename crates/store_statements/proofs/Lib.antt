@@ -6,4 +6,5 @@ pub mod JudgementTexts
 pub mod OutcomeTexts
 pub mod OutcomeRows
 pub mod EditionTexts
+pub mod LanguageTexts
 pub mod MakeTexts

@@ -14,7 +14,7 @@ use Rattle.sqlite.proofs.Callers.{IsPlain, command_of, statement_of}
 use Rattle.sqlite_tied.specs.Compute.{everything}
 use Rattle.sql_rows.specs.Tables.{Rise}
 use Rattle.sql_rows.proofs.Creating.{creates}
-use Rattle.store_statements.specs.Schema.{schema_of, the_tables, sites_table, members_table, pages_table, judgements_table, outcomes_table, edition_table}
+use Rattle.store_statements.specs.Schema.{schema_of, the_tables, sites_table, members_table, pages_table, judgements_table, outcomes_table, edition_table, languages_table}
 use Rattle.store_statements.specs.Making.{HasTables, MakesTable}
 
 no_rows : Rise []
@@ -106,3 +106,13 @@ edition_maker = record { command = refl; statement = refl; defined = refl; plain
 
 pub makes_edition : (old new : State) (count : ℕ) → HasTables (take 5 the_tables) old → ExecutesInside 0 make_edition_text [] old new (Ok count) → MakesTable (take 5 the_tables) edition_table old new
 makes_edition = makes (take 5 the_tables) edition_table make_edition_text edition_maker
+
+abbrev make_languages_text : List ℕ
+make_languages_text = codes "CREATE TABLE languages (site TEXT NOT NULL, seq INTEGER NOT NULL, tag TEXT NOT NULL, PRIMARY KEY (site, seq)) STRICT"
+
+languages_maker : IsMaker (take 6 the_tables) languages_table make_languages_text
+unfolding understood everything
+languages_maker = record { command = refl; statement = refl; defined = refl; plain = (refl, refl); uncounted = refl; next = refl; tree = refl }
+
+pub makes_languages : (old new : State) (count : ℕ) → HasTables (take 6 the_tables) old → ExecutesInside 0 make_languages_text [] old new (Ok count) → MakesTable (take 6 the_tables) languages_table old new
+makes_languages = makes (take 6 the_tables) languages_table make_languages_text languages_maker

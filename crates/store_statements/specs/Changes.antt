@@ -35,6 +35,9 @@ ChangesOutcomes site page change old new = (new ≡ record old { outcomes = new.
 abbrev pub ChangesEditions : (List Row → List Row) → Stored → Stored → Type 0
 ChangesEditions change old new = (new ≡ record old { editions = new.editions }) × Changes [] change old.editions new.editions
 
+abbrev pub ChangesLanguages : List ℕ → (List Row → List Row) → Stored → Stored → Type 0
+ChangesLanguages site change old new = (new ≡ record old { languages = new.languages }) × Changes (site ∷ []) change old.languages new.languages
+
 -- ---- the writing texts
 
 -- a site's row in place of the one of its name
@@ -76,6 +79,16 @@ PutsOutcome site page o = ChangesOutcomes site page (put_row (name_at 2) (outcom
 
 abbrev pub AddsEdition : ℤ → Stored → Stored → Type 0
 AddsEdition number = ChangesEditions (put_row (name_at 0) (Int number ∷ []))
+
+abbrev pub DropsEditions : Stored → Stored → Type 0
+DropsEditions = ChangesEditions (λ _. [])
+
+abbrev pub DropsLanguages : List ℕ → Stored → Stored → Type 0
+DropsLanguages site = ChangesLanguages site (λ _. [])
+
+-- a language of a site at the place that its seq has
+abbrev pub AddsLanguage : List ℕ → ℤ → List ℕ → Stored → Stored → Type 0
+AddsLanguage site seq tag = ChangesLanguages site (put_row (name_at 1) (Text site ∷ Int seq ∷ Text tag ∷ []))
 
 -- ---- the store under them
 

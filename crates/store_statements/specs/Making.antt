@@ -25,6 +25,10 @@ abbrev pub MakesTableInside : {S A E : Type 0} → Ghosts S → ℕ → Table �
 MakesTableInside g count table old new result =
     HasCleanDisk (state g new.now) → HasTables (take count the_tables) (state g old.now) → OnOk result (MakesTable (take count the_tables) table (state g old.now) (state g new.now))
 
+-- the last table is made behind the six of an older store, whose rows stay
+abbrev pub MakesLast : Stored → Stored → Type 0
+MakesLast old new = new ≡ record old { languages = [] }
+
 -- nothing is stored
 abbrev pub nothing : Stored
-nothing = record { sites = []; members = []; pages = []; judgements = []; outcomes = []; editions = [] }
+nothing = record { sites = []; members = []; pages = []; judgements = []; outcomes = []; editions = []; languages = [] }

@@ -56,9 +56,12 @@ outcomes_table = table_of (codes "outcomes") 8
 abbrev pub edition_table : Table
 edition_table = table_of (codes "edition") 10 (column_of (codes "number") Integer ∷ []) (1 ∷ [])
 
--- in the order in which they are made
+abbrev pub languages_table : Table
+languages_table = table_of (codes "languages") 12 (column_of (codes "site") Text ∷ column_of (codes "seq") Integer ∷ column_of (codes "tag") Text ∷ []) (1 ∷ 2 ∷ [])
+
+-- in the order in which they are made; stores that were made before languages were kept have the first six
 abbrev pub the_tables : List Table
-the_tables = sites_table ∷ members_table ∷ pages_table ∷ judgements_table ∷ outcomes_table ∷ edition_table ∷ []
+the_tables = sites_table ∷ members_table ∷ pages_table ∷ judgements_table ∷ outcomes_table ∷ edition_table ∷ languages_table ∷ []
 
 -- the index that SQLite makes for a table's key, in the tree behind the table's
 abbrev pub key_index : Table → Index
@@ -80,3 +83,6 @@ first_tables n = schema_of (take n the_tables)
 
 abbrev pub the_schema : Schema
 the_schema = schema_of the_tables
+
+abbrev pub old_schema : Schema
+old_schema = first_tables 6

@@ -13,9 +13,10 @@ pub record Stored : Type 0 where
   pub judgements : List Row
   pub outcomes : List Row
   pub editions : List Row
+  pub languages : List Row
 
 abbrev pub stored : Trees → Stored
-stored db = record { sites = kept (db 0); members = kept (db 2); pages = kept (db 4); judgements = kept (db 6); outcomes = kept (db 8); editions = kept (db 10) }
+stored db = record { sites = kept (db 0); members = kept (db 2); pages = kept (db 4); judgements = kept (db 6); outcomes = kept (db 8); editions = kept (db 10); languages = kept (db 12) }
 
 -- ---- the rows, in order of their keys
 
@@ -37,7 +38,14 @@ outcomes_of site page s = rows_of (site ∷ page ∷ []) s.outcomes
 abbrev pub editions_in : Stored → List Row
 editions_in s = rows_of [] s.editions
 
+abbrev pub languages_of : List ℕ → Stored → List Row
+languages_of site s = rows_of (site ∷ []) s.languages
+
 -- ---- what each reading text shows of them
+
+-- each site's name
+abbrev pub names_at : Stored → List Row
+names_at s = map (λ r. column r 0 ∷ []) (sites_in s)
 
 -- the site's counter, or no row
 abbrev pub site_at : List ℕ → Stored → List Row
@@ -66,3 +74,7 @@ outcomes_at site page s = map (λ r. column r 2 ∷ column r 3 ∷ column r 4 �
 -- each edition's number
 abbrev pub editions_at : Stored → List Row
 editions_at s = map (λ r. column r 0 ∷ []) (editions_in s)
+
+-- each language's seq and tag
+abbrev pub languages_at : List ℕ → Stored → List Row
+languages_at site s = map (λ r. column r 1 ∷ column r 2 ∷ []) (languages_of site s)

@@ -4,14 +4,14 @@ ghost use Rattle.std.specs.Prelude.{◌≡◌, IsTrue};
 ghost use Rattle.sql_rows.specs.Inside.{Steps};
 ghost use Rattle.store_statements.specs.Schema.{key_index, edition_table};
 ghost use Rattle.store_statements.specs.Stored.{editions_at};
-ghost use Rattle.store_statements.specs.Changes.{ShowsInside, MakesInside, AddsEdition};
+ghost use Rattle.store_statements.specs.Changes.{ShowsInside, MakesInside, DropsEditions, AddsEdition};
 ghost use Rattle.store_statements.specs.Making.{MakesTableInside};
 
 use crate::ours::{is_index, is_table};
 use sqlite::{Alter, Error, Row, Transaction, params};
 use sqlite_schema::schema::{Index, Kind, Table};
 
-/// Makes the last table, `edition`, in a store that has those before it and no other.
+/// Makes the sixth table, `edition`, in a store that has those before it and no other.
 ///
 /// # Errors
 ///
@@ -50,6 +50,18 @@ pub fn edition_rows<S: Alter>(tx: &mut Transaction<'_, S>) -> Result<Vec<Row>, E
     ensures shown { ShowsInside S.Store (λ rows s. rows.items ≡ editions_at s) tx.old.conn tx.new.conn result }
 {
     tx.query_all("SELECT number FROM edition ORDER BY number", params![])
+}
+
+/// Takes all editions out.
+///
+/// # Errors
+///
+/// Those of a statement of `sqlite`, after which the transaction may have been rolled back.
+pub fn drop_editions<S: Alter>(tx: &mut Transaction<'_, S>) -> Result<usize, Error>
+    ensures steps { Steps S.Store tx.old.conn tx.new.conn result }
+    ensures makes { MakesInside S.Store DropsEditions tx.old.conn tx.new.conn result }
+{
+    tx.execute("DELETE FROM edition", params![])
 }
 
 /// Notes an edition, which isn't there yet.

@@ -1,4 +1,4 @@
-//! The six tables of the store, and a function for each SQL statement that reads or writes them, in a transaction.
+//! The seven tables of the store, and a function for each SQL statement that reads or writes them, in a transaction.
 //!
 //! A contract says what a statement shows or makes in the words of `specs/Stored.antt` and `specs/Changes.antt`: the rows
 //! that the tables hold, without their rowids. Each leaves the last commit as it was, and keeps the
@@ -7,6 +7,7 @@
 
 mod editions;
 mod judgements;
+mod languages;
 mod making;
 mod members;
 mod opening;
@@ -15,14 +16,15 @@ mod outcomes;
 mod pages;
 mod sites;
 
-pub use editions::{add_edition, edition_rows, make_edition};
+pub use editions::{add_edition, drop_editions, edition_rows, make_edition};
 pub use judgements::{
     JudgementRow, add_judgement, drop_judgements, make_judgements, page_judgements,
 };
-pub use making::make_tables;
+pub use languages::{add_language, drop_languages, make_languages, site_languages};
+pub use making::{make_last, make_tables};
 pub use members::{add_member, drop_members, make_members, site_members};
 pub use opening::reopen;
-pub use ours::is_ours;
+pub use ours::{is_older, is_ours};
 pub use outcomes::{OutcomeRow, drop_outcomes, make_outcomes, page_outcomes, put_outcome};
 pub use pages::{drop_page, heads, make_pages, page_row, put_page};
-pub use sites::{make_sites, put_site, site_row};
+pub use sites::{make_sites, put_site, site_names, site_row};

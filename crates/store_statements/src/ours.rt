@@ -1,11 +1,12 @@
 //! Whether a schema is the store's own.
 
-ghost use Rattle.std.specs.Prelude.{◌≡◌, ◌∷◌, [], IsTrue, map, true};
+ghost use Rattle.std.specs.Prelude.{◌≡◌, ◌∷◌, [], IsTrue, map, take, true};
 ghost use Rattle.sqlite_value.specs.Keys.{plain};
-ghost use Rattle.store_statements.specs.Schema.{column_of, table_of, key_index, the_schema, the_tables};
+ghost use Rattle.store_statements.specs.Schema.{column_of, table_of, key_index, the_schema, old_schema, the_tables};
 
 use crate::editions::{is_edition, is_edition_index};
 use crate::judgements::{is_judgements, is_judgements_index};
+use crate::languages::{is_languages, is_languages_index};
 use crate::members::{is_members, is_members_index};
 use crate::outcomes::{is_outcomes, is_outcomes_index};
 use crate::pages::{is_pages, is_pages_index};
@@ -95,8 +96,8 @@ pub(crate) fn is_table(
         && !table.is_counted
 }
 
-fn has_tables(tables: &[Table]) -> bool
-    ensures { IsTrue result → tables.now ≡ the_tables }
+fn has_six_tables(tables: &[Table]) -> bool
+    ensures { IsTrue result → tables.now ≡ take 6 the_tables }
 {
     tables.len() == 6
         && is_sites(&tables[0])
@@ -105,6 +106,16 @@ fn has_tables(tables: &[Table]) -> bool
         && is_judgements(&tables[3])
         && is_outcomes(&tables[4])
         && is_edition(&tables[5])
+}
+
+fn has_tables(tables: &[Table]) -> bool
+    ensures { IsTrue result → tables.now ≡ the_tables }
+{
+    if tables.len() != 7 {
+        return false;
+    }
+    let (six, last) = tables.split_at(6);
+    has_six_tables(six) && is_languages(&last[0])
 }
 
 // Whether it is the index of a key, that SQLite makes itself.
@@ -119,8 +130,8 @@ pub(crate) fn is_index(index: &Index, name: &str, tree: u32, table: u32, key: &[
         && index.is_unique
 }
 
-fn has_indexes(indexes: &[Index]) -> bool
-    ensures { IsTrue result → indexes.now ≡ map key_index the_tables }
+fn has_six_indexes(indexes: &[Index]) -> bool
+    ensures { IsTrue result → indexes.now ≡ map key_index (take 6 the_tables) }
 {
     indexes.len() == 6
         && is_sites_index(&indexes[0])
@@ -131,11 +142,30 @@ fn has_indexes(indexes: &[Index]) -> bool
         && is_edition_index(&indexes[5])
 }
 
-/// Whether a schema is that of a store: its six tables with the indexes of their keys, and nothing else.
+fn has_indexes(indexes: &[Index]) -> bool
+    ensures { IsTrue result → indexes.now ≡ map key_index the_tables }
+{
+    if indexes.len() != 7 {
+        return false;
+    }
+    let (six, last) = indexes.split_at(6);
+    has_six_indexes(six) && is_languages_index(&last[0])
+}
+
+/// Whether a schema is that of a store: its seven tables with the indexes of their keys, and nothing else.
 pub fn is_ours(schema: &Schema) -> bool
     ensures { IsTrue result → schema.now ≡ the_schema }
 {
     has_tables(schema.tables.as_slice())
         && has_indexes(schema.indexes.as_slice())
+        && schema.views.len() == 0
+}
+
+/// Whether a schema is that of a store that was made before languages were kept: the first six tables, and nothing else.
+pub fn is_older(schema: &Schema) -> bool
+    ensures { IsTrue result → schema.now ≡ old_schema }
+{
+    has_six_tables(schema.tables.as_slice())
+        && has_six_indexes(schema.indexes.as_slice())
         && schema.views.len() == 0
 }

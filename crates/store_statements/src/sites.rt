@@ -3,7 +3,7 @@
 ghost use Rattle.std.specs.Prelude.{◌≡◌, IsTrue};
 ghost use Rattle.sql_rows.specs.Inside.{Steps};
 ghost use Rattle.store_statements.specs.Schema.{key_index, sites_table};
-ghost use Rattle.store_statements.specs.Stored.{site_at};
+ghost use Rattle.store_statements.specs.Stored.{names_at, site_at};
 ghost use Rattle.store_statements.specs.Changes.{ShowsInside, MakesInside, PutsSite};
 ghost use Rattle.store_statements.specs.Making.{MakesTableInside};
 
@@ -44,6 +44,18 @@ pub(crate) fn is_sites_index(index: &Index) -> bool
     ensures { IsTrue result → index.now ≡ key_index sites_table }
 {
     is_index(index, "sqlite_autoindex_sites_1", 1, 0, &[1])
+}
+
+/// The names of all sites, in byte order.
+///
+/// # Errors
+///
+/// Those of a query of `sqlite`.
+pub fn site_names<S: Alter>(tx: &mut Transaction<'_, S>) -> Result<Vec<Row>, Error>
+    ensures steps { Steps S.Store tx.old.conn tx.new.conn result }
+    ensures shown { ShowsInside S.Store (λ rows s. rows.items ≡ names_at s) tx.old.conn tx.new.conn result }
+{
+    tx.query_all("SELECT name FROM sites ORDER BY name", params![])
 }
 
 /// The counter of a site, or no row.

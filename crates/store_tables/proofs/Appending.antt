@@ -23,7 +23,7 @@ module _ {T : Type 0} (name : T → List ℕ) where
   put_last row [] above = refl
   put_last row (r ∷ rs) above = rw (above r (inl refl)) (ap (λ l. r ∷ l) (put_last row rs (λ s there. above s (inr there))))
 
-  put_all_last : (xs acc : List T) → IsInOrder name xs → ((a x : T) → Has acc a → Has xs x → names_cmp (name a) (name x) ≡ Less) → put_rows name xs acc ≡ acc ++ xs
+  pub put_all_last : (xs acc : List T) → IsInOrder name xs → ((a x : T) → Has acc a → Has xs x → names_cmp (name a) (name x) ≡ Less) → put_rows name xs acc ≡ acc ++ xs
   put_all_last [] acc up apart = sym (nothing_more acc)
   put_all_last (x ∷ xs) acc up apart =
       ap (put_rows name xs) (put_last x acc (λ a there. turned (name a) (name x) Less (apart a x there (inl refl))))

@@ -1,5 +1,5 @@
 -- What a list of rows is read as whose places are counted.
-use Rattle.std.proofs.Common.{◌≡◌, ℕ, suc, ◌+◌, ◌<◌, min, List, [], ◌∷◌, ◌++◌, length, take, get_or, Option, Some, sym, ap, ◌∙◌, arith}
+use Rattle.std.proofs.Common.{◌≡◌, ℕ, suc, ◌+◌, ◌<◌, min, List, [], ◌∷◌, ◌++◌, length, take, get_or, Option, Some, refl, sym, ap, ◌∙◌, arith}
 use Rattle.std.proofs.lemmas.List.{take_more, length-take}
 use Rattle.sqlite_value.specs.Order.{Row}
 use Rattle.store_tables.specs.Reading.{◌>>=◌, read_counted}
@@ -24,6 +24,26 @@ module _ {X : Type 0} (read : ℕ → Row → Option X) where
       let f = first_counted place q qs ts is in
       let there : read (suc place + length qs) r ≡ Some x = ap (λ n. read n r) (omega arith) ∙ one in
       rw (f.2, counted_more (suc place) qs r f.1 x f.3 there) (ap (λ l. Some (l ++ x ∷ [])) (sym f.4))
+
+  -- a list that reads with others behind it that do
+  pub counted_all : (place : ℕ) (rs qs : List Row) (ts us : List X) → read_counted read place rs ≡ Some ts → read_counted read (place + length rs) qs ≡ Some us
+      → read_counted read place (rs ++ qs) ≡ Some (ts ++ us)
+  counted_all place [] qs ts us is more =
+      ap (λ n. read_counted read n qs) (omega arith) ∙ more ∙ ap (λ l. Some (l ++ us)) (some_same [] ts is)
+  counted_all place (r ∷ rs) qs ts us is more =
+      let f = first_counted place r rs ts is in
+      let later : read_counted read (suc place + length rs) qs ≡ Some us = ap (λ n. read_counted read n qs) (omega arith) ∙ more in
+      rw (f.2, counted_all (suc place) rs qs f.1 us f.3 later) (ap (λ l. Some (l ++ us)) (sym f.4))
+
+  -- a list that reads with others behind it reads without, and so do the others
+  pub counted_split : (place : ℕ) (rs qs : List Row) (ts : List X) → read_counted read place (rs ++ qs) ≡ Some ts
+      → (xs : List X) × (ys : List X) × (read_counted read place rs ≡ Some xs) × (read_counted read (place + length rs) qs ≡ Some ys) × (ts ≡ xs ++ ys)
+  counted_split place [] qs ts is = ([], ts, refl, ap (λ n. read_counted read n qs) (omega arith) ∙ is, refl)
+  counted_split place (r ∷ rs) qs ts is =
+      let f = first_counted place r (rs ++ qs) ts is in
+      let rest = counted_split (suc place) rs qs f.1 f.3 in
+      let later : read_counted read (place + length (r ∷ rs)) qs ≡ Some rest.1 = ap (λ n. read_counted read n qs) (omega arith) ∙ rest.3 in
+      (f.0 ∷ rest.0, rest.1, rw (f.2, rest.2) refl, later, f.4 ∙ ap (λ l. f.0 ∷ l) rest.4)
 
   -- and so a list that is read a row more
   pub counted_stepped : (first place : ℕ) (rows : List Row) (i : ℕ) (r : Row) (ts us : List X) (x : X) → i < length rows → r ≡ get_or rows i r → place ≡ first + i → read_counted read first (take i rows) ≡ Some ts

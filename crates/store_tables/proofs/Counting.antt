@@ -14,13 +14,14 @@ use Rattle.keep_core.specs.declared.page.PagePut.{PagePut}
 use Rattle.keep_core.specs.declared.tables.KeptPage.{KeptPage}
 use Rattle.keep_core.specs.declared.tables.KeptSite.{KeptSite}
 use Rattle.keep_core.specs.declared.change.Change.TheVariants.{PutPages}
-use Rattle.keep_core.specs.Tables.{Tables, site_name, page_name, judgements_in}
-use Rattle.keep_core.specs.Changes.{changed, put_over}
-use Rattle.store_statements.specs.Stored.{Stored, sites_in, site_at, members_at}
+use Rattle.keep_core.specs.Tables.{site_name, page_name, judgements_in}
+use Rattle.store_tables.specs.Told.{Sites}
+use Rattle.keep_core.specs.Changes.{changed_sites, put_over}
+use Rattle.store_statements.specs.Stored.{Stored, sites_in, site_at, members_at, languages_at}
 use Rattle.store_statements.specs.Changes.{PutsSite}
 use Rattle.store_tables.specs.Reading.{read_found}
 use Rattle.store_tables.specs.Sites.{site_from, site_shown}
-use Rattle.store_tables.specs.Told.{OfSite, of_site, read_site, is_site, tables_in}
+use Rattle.store_tables.specs.Told.{OfSite, of_site, read_site, is_site, sites_told}
 use Rattle.store_tables.specs.Batches.{PutsEach, PutsPages}
 use Rattle.store_tables.proofs.Steps.{some_same, some_of, found_reads}
 use Rattle.store_tables.proofs.Each.{ChangesAt}
@@ -45,7 +46,7 @@ module _ (site : List ℕ) (counter : ℕ) where
     elsewhere = λ ts m other up. at_with_row_other site_name site with_counter (λ _ _. refl) m ts other;
   }
 
-  module _ (old : Stored) (ss : List Row) (sites : Changes [] (put_row (name_at 0) cells) old.sites ss) (kept : is_site old site ≡ true) (whole : IsSome (site_shown site (site_at site old) (members_at site old))) where
+  module _ (old : Stored) (ss : List Row) (sites : Changes [] (put_row (name_at 0) cells) old.sites ss) (kept : is_site old site ≡ true) (whole : IsSome (site_shown site (site_at site old) (members_at site old) (languages_at site old))) where
     abbrev counted : Stored
     counted = record old { sites = ss }
 
@@ -56,7 +57,7 @@ module _ (site : List ℕ) (counter : ℕ) where
     row_there = ap (at (name_at 0) site) sites.there ∙ at_put (name_at 0) cells (sites_in old)
 
     houses : Houses counted site → Houses old site
-    houses told = record { members = λ r had its. kept; pages = λ r had its. kept; judgements = told.judgements; outcomes = told.outcomes }
+    houses told = record { members = λ r had its. kept; languages = λ r had its. kept; pages = λ r had its. kept; judgements = told.judgements; outcomes = told.outcomes }
 
     site_back : (x : Option KeptSite) → TellsSite counted site x → (y : Option KeptSite) × TellsSite old site y × (x ≡ option_map with_counter y)
     site_back x told = by (at (name_at 0) site (sites_in old)) refl (at_named (name_at 0) site (sites_in old))
@@ -66,34 +67,35 @@ module _ (site : List ℕ) (counter : ℕ) where
         by (Some r) is named =
             let found = found_reads (read_site mine cells) x (sym (ap (read_found (read_site mine)) row_there) ∙ told.reads) in
             let reads = site_reads mine cells found.0 found.1 in
-            let parts = site_parts site (Int (pos counter)) mine.members found.0.site reads.site in
+            let parts = site_parts site (Int (pos counter)) mine.members mine.languages found.0.site reads.site in
             let counts : found.0.site.counter ≡ counter = number_back MOST_REVISION counter found.0.site.counter parts.0 in
-            let name : found.0.site.name ≡ site = site_from_named site (Int (pos counter)) mine.members found.0.site reads.site in
-            let shown = some_of (site_shown site (site_at site old) (members_at site old)) whole in
-            let row : option_map Some (site_from site (column r 1) mine.members) ≡ Some shown.0 =
-            sym (ap (λ (o : Option Row). site_shown site (option_to_list (option_map (λ r. column r 1 ∷ []) o)) mine.members) is) ∙ shown.1 in
-            let was = found_reads (site_from site (column r 1) mine.members) shown.0 row in
-            let were = site_parts site (column r 1) mine.members was.0 was.1 in
-            let same_name : found.0.site.name ≡ was.0.name = name ∙ sym (site_from_named site (column r 1) mine.members was.0 was.1) in
+            let name : found.0.site.name ≡ site = site_from_named site (Int (pos counter)) mine.members mine.languages found.0.site reads.site in
+            let shown = some_of (site_shown site (site_at site old) (members_at site old) (languages_at site old)) whole in
+            let row : option_map Some (site_from site (column r 1) mine.members mine.languages) ≡ Some shown.0 =
+            sym (ap (λ (o : Option Row). site_shown site (option_to_list (option_map (λ r. column r 1 ∷ []) o)) mine.members mine.languages) is) ∙ shown.1 in
+            let was = found_reads (site_from site (column r 1) mine.members mine.languages) shown.0 row in
+            let were = site_parts site (column r 1) mine.members mine.languages was.0 was.1 in
+            let same_name : found.0.site.name ≡ was.0.name = name ∙ sym (site_from_named site (column r 1) mine.members mine.languages was.0 was.1) in
             let members : found.0.site.members ≡ was.0.members = some_same found.0.site.members was.0.members (sym parts.1 ∙ were.1) in
+            let languages : found.0.site.languages ≡ was.0.languages = some_same found.0.site.languages was.0.languages (sym parts.2 ∙ were.2) in
             let k : KeptSite = record { site = was.0; pages = found.0.pages } in (
               Some k,
               record {
-                reads = ap (read_found (read_site mine)) is ∙ ap (option_map Some) (site_read mine r k (record { site = ap (λ n. site_from n (column r 1) mine.members) named ∙ was.1; pages = reads.pages }));
+                reads = ap (read_found (read_site mine)) is ∙ ap (option_map Some) (site_read mine r k (record { site = ap (λ n. site_from n (column r 1) mine.members mine.languages) named ∙ was.1; pages = reads.pages }));
                 houses = houses told.houses;
               },
-              found.2 ∙ (λ i. Some (record { site = record { name = same_name i; counter = counts i; members = members i }; pages = found.0.pages })),
+              found.2 ∙ (λ i. Some (record { site = record { name = same_name i; counter = counts i; members = members i; languages = languages i }; pages = found.0.pages })),
             )
 
     elsewhere : StaysElsewhere site old counted
     elsewhere = put_site_by site old cells ss refl sites
 
-    counted_told : (t : Tables) → tables_in counted ≡ Some t → (ts : Tables) × (tables_in old ≡ Some ts) × (t ≡ with_row site_name site with_counter ts)
+    counted_told : (t : Sites) → sites_told counted ≡ Some t → (ts : Sites) × (sites_told old ≡ Some ts) × (t ≡ with_row site_name site with_counter ts)
     counted_told t is = tables_turned site (option_map with_counter) (with_row site_name site with_counter) old counted counts_one site_back (tells_elsewhere site old counted elsewhere) t is
 
-  counter_told : (old new : Stored) → PutsSite site (pos counter) old new → is_site old site ≡ true → IsSome (site_shown site (site_at site old) (members_at site old)) → (t : Tables) → tables_in new ≡ Some t
-      → (ts : Tables) × (tables_in old ≡ Some ts) × (t ≡ with_row site_name site with_counter ts)
-  counter_told old new puts kept whole t is = counted_told old new.sites puts.1 kept whole t (sym (ap tables_in puts.0) ∙ is)
+  counter_told : (old new : Stored) → PutsSite site (pos counter) old new → is_site old site ≡ true → IsSome (site_shown site (site_at site old) (members_at site old) (languages_at site old)) → (t : Sites) → sites_told new ≡ Some t
+      → (ts : Sites) × (sites_told old ≡ Some ts) × (t ≡ with_row site_name site with_counter ts)
+  counter_told old new puts kept whole t is = counted_told old new.sites puts.1 kept whole t (sym (ap sites_told puts.0) ∙ is)
 
   pub still_kept : (old new : Stored) → PutsSite site (pos counter) old new → is_site new site ≡ true
   still_kept old new puts = ap (λ (rs : List Row). is_some (at (name_at 0) site rs)) puts.1.there ∙ ap is_some (at_put (name_at 0) cells (sites_in old))
@@ -119,16 +121,16 @@ abbrev pub with_puts : List PagePut → KeptSite → KeptSite
 with_puts puts s = record s { pages = put_rows page_name (map (put_over s.pages) puts) s.pages }
 
 -- a page that is put, and others after it
-pub together : (site : List ℕ) (put : PagePut) (puts : List PagePut) (t : Tables) → with_row site_name site (with_puts puts) (with_row site_name site (λ s. record s { pages = put_in put s.pages }) t) ≡ with_row site_name site (with_puts (put ∷ puts)) t
+pub together : (site : List ℕ) (put : PagePut) (puts : List PagePut) (t : Sites) → with_row site_name site (with_puts puts) (with_row site_name site (λ s. record s { pages = put_in put s.pages }) t) ≡ with_row site_name site (with_puts (put ∷ puts)) t
 together site put puts t =
     let with_one : KeptSite → KeptSite = λ s. record s { pages = put_in put s.pages } in
     with_twice site_name site with_one (with_puts puts) (λ _. refl) t
     ∙ with_alike site_name site (λ s. with_puts puts (with_one s)) (with_puts (put ∷ puts))
     (λ s. ap (λ rows. record s { pages = put_rows page_name rows (put_in put s.pages) }) (over_same put s.pages puts)) t
 
-puts_told : (site : List ℕ) (puts : List PagePut) (old new : Stored) → PutsEach site puts old new → is_site old site ≡ true → (t : Tables) → tables_in new ≡ Some t
-    → (ts : Tables) × (tables_in old ≡ Some ts) × (t ≡ with_row site_name site (with_puts puts) ts)
-puts_told site [] old new same kept t is = (t, ap tables_in (sym same) ∙ is, sym (with_same site_name site t))
+puts_told : (site : List ℕ) (puts : List PagePut) (old new : Stored) → PutsEach site puts old new → is_site old site ≡ true → (t : Sites) → sites_told new ≡ Some t
+    → (ts : Sites) × (sites_told old ≡ Some ts) × (t ≡ with_row site_name site (with_puts puts) ts)
+puts_told site [] old new same kept t is = (t, ap sites_told (sym same) ∙ is, sym (with_same site_name site t))
 puts_told site (put ∷ puts) old new each kept t is =
     let one = each.2 in
     let still : is_site each.0 site ≡ true = ap (λ (s : Stored). is_site s site) one.same ∙ kept in
@@ -140,8 +142,8 @@ puts_told site (put ∷ puts) old new each kept t is =
     )
 
 -- where rows tell tables after pages were put, they told before what that changes to these
-pub pages_told : (site : List ℕ) (counter : ℕ) (puts : List PagePut) (old new : Stored) → PutsPages site counter puts old new → (t : Tables) → tables_in new ≡ Some t
-    → (ts : Tables) × (tables_in old ≡ Some ts) × (t ≡ changed (PutPages site counter puts) ts)
+pub pages_told : (site : List ℕ) (counter : ℕ) (puts : List PagePut) (old new : Stored) → PutsPages site counter puts old new → (t : Sites) → sites_told new ≡ Some t
+    → (ts : Sites) × (sites_told old ≡ Some ts) × (t ≡ changed_sites (PutPages site counter puts) ts)
 pages_told site counter puts old new h t is =
     let later = puts_told site puts h.mid new h.each (still_kept site counter old h.mid h.counts) t is in
     let first = counter_told site counter old h.mid h.counts h.kept h.reads later.0 later.1 in

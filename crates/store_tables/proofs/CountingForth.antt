@@ -14,13 +14,14 @@ use Rattle.keep_core.specs.declared.tables.KeptSite.{KeptSite}
 use Rattle.keep_core.specs.declared.change.Change.TheVariants.{PutPages}
 use Rattle.keep_core.specs.Fits.{FitsPage, FitsPages}
 use Rattle.keep_core.specs.Names.{is_name}
-use Rattle.keep_core.specs.Tables.{Tables, site_name}
-use Rattle.keep_core.specs.Changes.{changed}
+use Rattle.keep_core.specs.Tables.{site_name}
+use Rattle.store_tables.specs.Told.{Sites}
+use Rattle.keep_core.specs.Changes.{changed_sites}
 use Rattle.store_statements.specs.Stored.{Stored, sites_in}
 use Rattle.store_statements.specs.Changes.{PutsSite}
 use Rattle.store_tables.specs.Reading.{read_found}
 use Rattle.store_tables.specs.Sites.{site_from}
-use Rattle.store_tables.specs.Told.{OfSite, of_site, read_site, is_site, tables_in}
+use Rattle.store_tables.specs.Told.{OfSite, of_site, read_site, is_site, sites_told}
 use Rattle.store_tables.specs.Batches.{PutsEach, PutsPages}
 use Rattle.store_tables.specs.Numbers.{HasNumbers}
 use Rattle.store_tables.proofs.Steps.{found_reads}
@@ -47,7 +48,7 @@ module _ (site : List ℕ) (counter : ℕ) (named : IsTrue (is_name site)) (with
     row_there = ap (at (name_at 0) site) sites.there ∙ at_put (name_at 0) (cells site counter) (sites_in old)
 
     houses : Houses old site → Houses counted site
-    houses told = record { members = λ r had its. ap is_some row_there; pages = λ r had its. ap is_some row_there; judgements = told.judgements; outcomes = told.outcomes }
+    houses told = record { members = λ r had its. ap is_some row_there; languages = λ r had its. ap is_some row_there; pages = λ r had its. ap is_some row_there; judgements = told.judgements; outcomes = told.outcomes }
 
     site_on : (y : Option KeptSite) → TellsSite old site y → TellsSite counted site (option_map (with_counter site counter) y)
     site_on y told = by (at (name_at 0) site (sites_in old)) refl (at_named (name_at 0) site (sites_in old)) told.reads
@@ -57,26 +58,27 @@ module _ (site : List ℕ) (counter : ℕ) (named : IsTrue (is_name site)) (with
         by (Some r) is its reads =
             let found = found_reads (read_site mine r) y reads in
             let was = site_reads mine r found.0 found.1 in
-            let name : found.0.site.name ≡ site = site_from_named (name_at 0 r) (column r 1) mine.members found.0.site was.site ∙ its in
-            let members = (site_parts (name_at 0 r) (column r 1) mine.members found.0.site was.site).1 in
-            let shows : site_from site (Int (pos counter)) mine.members ≡ Some (record { name = found.0.site.name; counter = counter; members = found.0.site.members }) =
-            site_shows site counter mine.members found.0.site.members named within members ∙ ap (λ n. Some (record { name = n; counter = counter; members = found.0.site.members })) (sym name) in
+            let name : found.0.site.name ≡ site = site_from_named (name_at 0 r) (column r 1) mine.members mine.languages found.0.site was.site ∙ its in
+            let parts = site_parts (name_at 0 r) (column r 1) mine.members mine.languages found.0.site was.site in
+            let shows : site_from site (Int (pos counter)) mine.members mine.languages ≡ Some (record { name = found.0.site.name; counter = counter; members = found.0.site.members; languages = found.0.site.languages }) =
+            site_shows site counter mine.members mine.languages found.0.site.members found.0.site.languages named within parts.1 parts.2
+            ∙ ap (λ n. Some (record { name = n; counter = counter; members = found.0.site.members; languages = found.0.site.languages })) (sym name) in
             record {
               reads = ap (read_found (read_site mine)) row_there ∙ ap (option_map Some) (site_read mine (cells site counter) (with_counter site counter found.0) (record { site = shows; pages = was.pages }))
                   ∙ ap (λ (o : Option KeptSite). Some (option_map (with_counter site counter) o)) (sym found.2);
               houses = houses told.houses;
             }
 
-    counted_moved : (t : Tables) → tables_in old ≡ Some t → tables_in counted ≡ Some (with_row site_name site (with_counter site counter) t)
+    counted_moved : (t : Sites) → sites_told old ≡ Some t → sites_told counted ≡ Some (with_row site_name site (with_counter site counter) t)
     counted_moved t is =
         tables_moved site (option_map (with_counter site counter)) (with_row site_name site (with_counter site counter)) old counted (counts_one site counter) site_on (tells_elsewhere site counted old (site_undone site old (cells site counter) ss refl sites)) t is
 
-  counter_moved : (old new : Stored) → PutsSite site (pos counter) old new → is_site old site ≡ true → (t : Tables) → tables_in old ≡ Some t → tables_in new ≡ Some (with_row site_name site (with_counter site counter) t)
-  counter_moved old new puts kept t is = ap tables_in puts.0 ∙ counted_moved old new.sites puts.1 kept t is
+  counter_moved : (old new : Stored) → PutsSite site (pos counter) old new → is_site old site ≡ true → (t : Sites) → sites_told old ≡ Some t → sites_told new ≡ Some (with_row site_name site (with_counter site counter) t)
+  counter_moved old new puts kept t is = ap sites_told puts.0 ∙ counted_moved old new.sites puts.1 kept t is
 
 puts_moved : (site : List ℕ) (puts : List PagePut) (old new : Stored) → PutsEach site puts old new → is_site old site ≡ true → All (λ (p : PagePut). FitsPage p.page) puts
-    → All (λ (p : PagePut). All HasNumbers p.outcomes.rows) puts → (t : Tables) → tables_in old ≡ Some t → tables_in new ≡ Some (with_row site_name site (with_puts puts) t)
-puts_moved site [] old new same kept fit numbered t is = ap tables_in same ∙ is ∙ ap Some (sym (with_same site_name site t))
+    → All (λ (p : PagePut). All HasNumbers p.outcomes.rows) puts → (t : Sites) → sites_told old ≡ Some t → sites_told new ≡ Some (with_row site_name site (with_puts puts) t)
+puts_moved site [] old new same kept fit numbered t is = ap sites_told same ∙ is ∙ ap Some (sym (with_same site_name site t))
 puts_moved site (put ∷ puts) old new each kept fit numbered t is =
     let P : PagePut → Type 0 = λ p. FitsPage p.page in
     let Q : PagePut → Type 0 = λ p. All HasNumbers p.outcomes.rows in
@@ -86,7 +88,7 @@ puts_moved site (put ∷ puts) old new each kept fit numbered t is =
 
 -- where tables are told before pages are put that fit, the rows tell afterwards what that changes to these
 pub pages_moved : (site : List ℕ) (counter : ℕ) (puts : List PagePut) (old new : Stored) → PutsPages site counter puts old new → FitsPages site counter puts
-    → All (λ (p : PagePut). All HasNumbers p.outcomes.rows) puts → (t : Tables) → tables_in old ≡ Some t → tables_in new ≡ Some (changed (PutPages site counter puts) t)
+    → All (λ (p : PagePut). All HasNumbers p.outcomes.rows) puts → (t : Sites) → sites_told old ≡ Some t → sites_told new ≡ Some (changed_sites (PutPages site counter puts) t)
 pages_moved site counter puts old new h fits numbered t is =
     let first = counter_moved site counter fits.name fits.within old h.mid h.counts h.kept t is in
     puts_moved site puts h.mid new h.each (still_kept site counter old h.mid h.counts) fits.each numbered (with_row site_name site (with_counter site counter) t) first

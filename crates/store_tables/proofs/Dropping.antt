@@ -13,14 +13,15 @@ use Rattle.sql_rows.proofs.Groups.{other_group, stays}
 use Rattle.keep_core.specs.declared.tables.KeptPage.{KeptPage}
 use Rattle.keep_core.specs.declared.tables.KeptSite.{KeptSite}
 use Rattle.keep_core.specs.declared.change.Change.TheVariants.{DropPage}
-use Rattle.keep_core.specs.Tables.{Tables, site_name, page_name}
-use Rattle.keep_core.specs.Changes.{changed, without_page}
+use Rattle.keep_core.specs.Tables.{site_name, page_name}
+use Rattle.store_tables.specs.Told.{Sites}
+use Rattle.keep_core.specs.Changes.{changed_sites, without_page}
 use Rattle.store_statements.specs.Stored.{Stored, sites_in, page_at, judgements_at, outcomes_at}
 use Rattle.store_tables.specs.Reading.{read_each, read_found}
 use Rattle.store_tables.specs.Pages.{page_from, page_shown}
 use Rattle.store_tables.specs.Judgements.{judgements_shown}
 use Rattle.store_tables.specs.Outcomes.{outcomes_shown}
-use Rattle.store_tables.specs.Told.{OfSite, of_site, read_page, read_site, is_site, is_page, tables_in}
+use Rattle.store_tables.specs.Told.{OfSite, of_site, read_page, read_site, is_site, is_page, sites_told}
 use Rattle.store_tables.specs.Batches.{DropsWhole, ReadsPage}
 use Rattle.store_tables.proofs.Steps.{some_same, some_of, found_reads}
 use Rattle.store_tables.proofs.Each.{ChangesAt, turned}
@@ -136,6 +137,7 @@ module _ (site page : List ℕ) where
     houses told = record {
       members = λ r there mine. kept;
       pages = λ r there mine. kept;
+      languages = λ r there mine. kept;
       judgements = housed (λ r. column r 2 ∷ column r 3 ∷ column r 4 ∷ column r 5 ∷ column r 6 ∷ column r 7 ∷ column r 8 ∷ []) old.judgements js judgements whole.unjudged told.judgements;
       outcomes = housed (λ r. column r 2 ∷ column r 3 ∷ column r 4 ∷ column r 5 ∷ column r 6 ∷ column r 7 ∷ column r 8 ∷ column r 9 ∷ []) old.outcomes os outcomes whole.unaudited told.outcomes;
     }
@@ -162,11 +164,11 @@ module _ (site page : List ℕ) where
         stays_through site old one left (pages_by site old (take_row (name_at 1) page) ps pages)
         (stays_through site one two left (judgements_by site one page (λ _. []) js judgements) (outcomes_by site two page (λ _. []) os outcomes))
 
-    left_told : (t : Tables) → tables_in left ≡ Some t → (ts : Tables) × (tables_in old ≡ Some ts) × (t ≡ changed (DropPage site page) ts)
+    left_told : (t : Sites) → sites_told left ≡ Some t → (ts : Sites) × (sites_told old ≡ Some ts) × (t ≡ changed_sites (DropPage site page) ts)
     left_told t is = tables_turned site (option_map (without_page page)) (with_row site_name site (without_page page)) old left changes_one site_back (tells_elsewhere site old left elsewhere) t is
 
   -- where rows tell tables after a page is dropped that read, they told before what has this page more
-  pub dropped_told : (old new : Stored) → DropsWhole site page old new → is_site old site ≡ true → ReadsPage site page old → (t : Tables) → tables_in new ≡ Some t
-      → (ts : Tables) × (tables_in old ≡ Some ts) × (t ≡ changed (DropPage site page) ts)
+  pub dropped_told : (old new : Stored) → DropsWhole site page old new → is_site old site ≡ true → ReadsPage site page old → (t : Sites) → sites_told new ≡ Some t
+      → (ts : Sites) × (sites_told old ≡ Some ts) × (t ≡ changed_sites (DropPage site page) ts)
   dropped_told old new drops kept whole t is =
-      left_told old new.pages new.judgements new.outcomes drops.pages drops.judgements drops.outcomes kept whole t (sym (ap tables_in drops.same) ∙ is)
+      left_told old new.pages new.judgements new.outcomes drops.pages drops.judgements drops.outcomes kept whole t (sym (ap sites_told drops.same) ∙ is)

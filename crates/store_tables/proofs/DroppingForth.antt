@@ -9,11 +9,12 @@ use Rattle.sql_rows.specs.Changes.{Changes}
 use Rattle.sql_rows.proofs.Groups.{other_group, stays}
 use Rattle.keep_core.specs.declared.tables.KeptPage.{KeptPage}
 use Rattle.keep_core.specs.declared.change.Change.TheVariants.{DropPage}
-use Rattle.keep_core.specs.Tables.{Tables, page_name}
-use Rattle.keep_core.specs.Changes.{changed}
+use Rattle.keep_core.specs.Tables.{page_name}
+use Rattle.store_tables.specs.Told.{Sites}
+use Rattle.keep_core.specs.Changes.{changed_sites}
 use Rattle.store_statements.specs.Stored.{Stored}
 use Rattle.store_tables.specs.Reading.{read_found}
-use Rattle.store_tables.specs.Told.{OfSite, of_site, read_page, is_site, is_page, tables_in}
+use Rattle.store_tables.specs.Told.{OfSite, of_site, read_page, is_site, is_page, sites_told}
 use Rattle.store_tables.specs.Batches.{DropsWhole}
 use Rattle.store_tables.proofs.Housing.{pages_in_order}
 use Rattle.store_tables.proofs.Groups.{none_had, led_by_page, not_led_by_page}
@@ -46,6 +47,7 @@ module _ (site page : List ℕ) where
     beside = record {
       sites = refl;
       members = refl;
+      languages = refl;
       row = λ m other. sym (ap (at (name_at 1) m) pages.there ∙ at_take_other (name_at 1) page m before.pages other (pages_in_order site old));
       judgements = λ m other. ap (map shown_judgement) (other_group (site ∷ page ∷ []) js old.judgements judged_undone (site ∷ m ∷ []) refl (other_page site page m other));
       outcomes = λ m other. ap (map shown_outcome) (other_group (site ∷ page ∷ []) os old.outcomes audited_undone (site ∷ m ∷ []) refl (other_page site page m other));
@@ -75,9 +77,9 @@ module _ (site page : List ℕ) where
         (stays_through site one two old (judgements_by site one page (λ _. rows_of (site ∷ page ∷ []) old.judgements) old.judgements judged_undone)
         (outcomes_by site two page (λ _. rows_of (site ∷ page ∷ []) old.outcomes) old.outcomes audited_undone))
 
-    left_moved : (t : Tables) → tables_in old ≡ Some t → tables_in left ≡ Some (changed (DropPage site page) t)
+    left_moved : (t : Sites) → sites_told old ≡ Some t → sites_told left ≡ Some (changed_sites (DropPage site page) t)
     left_moved t is = page_moved site page (λ _. None) (take_row page_name page) old left (takes_one site page) beside kept there elsewhere t is
 
   -- where tables are told before a page is dropped, the rows tell afterwards what is without it
-  pub dropped_moved : (old new : Stored) → DropsWhole site page old new → is_site old site ≡ true → (t : Tables) → tables_in old ≡ Some t → tables_in new ≡ Some (changed (DropPage site page) t)
-  dropped_moved old new drops kept t is = ap tables_in drops.same ∙ left_moved old new.pages new.judgements new.outcomes drops.pages drops.judgements drops.outcomes kept t is
+  pub dropped_moved : (old new : Stored) → DropsWhole site page old new → is_site old site ≡ true → (t : Sites) → sites_told old ≡ Some t → sites_told new ≡ Some (changed_sites (DropPage site page) t)
+  dropped_moved old new drops kept t is = ap sites_told drops.same ∙ left_moved old new.pages new.judgements new.outcomes drops.pages drops.judgements drops.outcomes kept t is

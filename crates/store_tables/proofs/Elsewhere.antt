@@ -9,7 +9,7 @@ use Rattle.sql_rows.specs.Changes.{Changes}
 use Rattle.sql_rows.proofs.Groups.{other_group, stays}
 use Rattle.keep_core.specs.declared.tables.KeptSite.{KeptSite}
 use Rattle.store_statements.specs.Stored.{Stored, sites_in, judgements_at, outcomes_at}
-use Rattle.store_statements.specs.Changes.{ChangesSites, ChangesMembers, ChangesPages, ChangesJudgements, ChangesOutcomes}
+use Rattle.store_statements.specs.Changes.{ChangesSites, ChangesMembers, ChangesLanguages, ChangesPages, ChangesJudgements, ChangesOutcomes}
 use Rattle.store_tables.specs.Reading.{read_found}
 use Rattle.store_tables.specs.Told.{OfSite, of_site, read_site, is_page}
 use Rattle.store_tables.proofs.Groups.{not_led_by_site}
@@ -23,6 +23,7 @@ pub record StaysElsewhere (site : List ℕ) (old new : Stored) : Type 0 where
   pub pages : (r : Row) → (name_at 0 r ≡ site → ⊥) → Has old.pages r → Has new.pages r
   pub judgements : (r : Row) → (name_at 0 r ≡ site → ⊥) → Has old.judgements r → Has new.judgements r
   pub outcomes : (r : Row) → (name_at 0 r ≡ site → ⊥) → Has old.outcomes r → Has new.outcomes r
+  pub languages : (r : Row) → (name_at 0 r ≡ site → ⊥) → Has old.languages r → Has new.languages r
 
 pub stays_through : (site : List ℕ) (a b c : Stored) → StaysElsewhere site a b → StaysElsewhere site b c → StaysElsewhere site a c
 stays_through site a b c first second = record {
@@ -32,6 +33,7 @@ stays_through site a b c first second = record {
   pages = λ r other there. second.pages r other (first.pages r other there);
   judgements = λ r other there. second.judgements r other (first.judgements r other there);
   outcomes = λ r other there. second.outcomes r other (first.outcomes r other there);
+  languages = λ r other there. second.languages r other (first.languages r other there);
 }
 
 -- what is told of another site after such a change was told of it before
@@ -44,6 +46,7 @@ tells_elsewhere site old new same m other x told = record {
     pages = λ r there mine. kept (told.houses.pages r (same.pages r (apart r mine) there) mine);
     judgements = λ r there mine. kept_page (name_at 1 r) (told.houses.judgements r (same.judgements r (apart r mine) there) mine);
     outcomes = λ r there mine. kept_page (name_at 1 r) (told.houses.outcomes r (same.outcomes r (apart r mine) there) mine);
+    languages = λ r there mine. kept (told.houses.languages r (same.languages r (apart r mine) there) mine);
   };
 }
   where
@@ -73,6 +76,7 @@ module _ (site : List ℕ) (old : Stored) where
     pages = λ r other there. there;
     judgements = λ r other there. there;
     outcomes = λ r other there. there;
+    languages = λ r other there. there;
   }
 
   pub members_by : (f : List Row → List Row) (rows : List Row) → Changes (site ∷ []) f old.members rows → StaysElsewhere site old (record old { members = rows })
@@ -83,6 +87,18 @@ module _ (site : List ℕ) (old : Stored) where
     pages = λ r other there. there;
     judgements = λ r other there. there;
     outcomes = λ r other there. there;
+    languages = λ r other there. there;
+  }
+
+  pub languages_by : (f : List Row → List Row) (rows : List Row) → Changes (site ∷ []) f old.languages rows → StaysElsewhere site old (record old { languages = rows })
+  languages_by f rows change = record {
+    row = λ m other. refl;
+    rows = λ m other. ap (λ (rs : List Row). record (of_site m old) { languages = map (λ r. column r 1 ∷ column r 2 ∷ []) rs }) (other_group (site ∷ []) old.languages rows change (m ∷ []) refl (site_apart m site other));
+    members = λ r other there. there;
+    pages = λ r other there. there;
+    judgements = λ r other there. there;
+    outcomes = λ r other there. there;
+    languages = λ r other there. stays (site ∷ []) old.languages rows change r (not_led_by_site site [] r other) there;
   }
 
   pub pages_by : (f : List Row → List Row) (rows : List Row) → Changes (site ∷ []) f old.pages rows → StaysElsewhere site old (record old { pages = rows })
@@ -93,6 +109,7 @@ module _ (site : List ℕ) (old : Stored) where
     pages = λ r other there. stays (site ∷ []) old.pages rows change r (not_led_by_site site [] r other) there;
     judgements = λ r other there. there;
     outcomes = λ r other there. there;
+    languages = λ r other there. there;
   }
 
   pub judgements_by : (page : List ℕ) (f : List Row → List Row) (rows : List Row) → Changes (site ∷ page ∷ []) f old.judgements rows → StaysElsewhere site old (record old { judgements = rows })
@@ -103,6 +120,7 @@ module _ (site : List ℕ) (old : Stored) where
     pages = λ r other there. there;
     judgements = λ r other there. stays (site ∷ page ∷ []) old.judgements rows change r (not_led_by_site site (page ∷ []) r other) there;
     outcomes = λ r other there. there;
+    languages = λ r other there. there;
   }
     where
       each : (m : List ℕ) → (m ≡ site → ⊥) → (p : List ℕ) → judgements_at m p (record old { judgements = rows }) ≡ judgements_at m p old
@@ -118,6 +136,7 @@ module _ (site : List ℕ) (old : Stored) where
     pages = λ r other there. there;
     judgements = λ r other there. there;
     outcomes = λ r other there. stays (site ∷ page ∷ []) old.outcomes rows change r (not_led_by_site site (page ∷ []) r other) there;
+    languages = λ r other there. there;
   }
     where
       each : (m : List ℕ) → (m ≡ site → ⊥) → (p : List ℕ) → outcomes_at m p (record old { outcomes = rows }) ≡ outcomes_at m p old
@@ -131,6 +150,9 @@ module _ (site : List ℕ) (old : Stored) where
 
     pub members_stay : (f : List Row → List Row) → ChangesMembers site f old new → StaysElsewhere site old new
     members_stay f change = subst (StaysElsewhere site old) (sym change.0) (members_by f new.members change.1)
+
+    pub languages_stay : (f : List Row → List Row) → ChangesLanguages site f old new → StaysElsewhere site old new
+    languages_stay f change = subst (StaysElsewhere site old) (sym change.0) (languages_by f new.languages change.1)
 
     pub pages_stay : (f : List Row → List Row) → ChangesPages site f old new → StaysElsewhere site old new
     pages_stay f change = subst (StaysElsewhere site old) (sym change.0) (pages_by f new.pages change.1)

@@ -7,10 +7,11 @@ use Rattle.sql_rows.specs.Tables.{name_at}
 use Rattle.sql_rows.proofs.Canon.{same_or_not, same_rows}
 use Rattle.sql_rows.proofs.Sorting.{all_had}
 use Rattle.keep_core.specs.declared.tables.KeptSite.{KeptSite}
-use Rattle.keep_core.specs.Tables.{Tables, site_name}
+use Rattle.keep_core.specs.Tables.{site_name}
+use Rattle.store_tables.specs.Told.{Sites}
 use Rattle.store_statements.specs.Stored.{Stored, sites_in}
 use Rattle.store_tables.specs.Reading.{read_each, read_found}
-use Rattle.store_tables.specs.Told.{tables_in}
+use Rattle.store_tables.specs.Told.{sites_told}
 use Rattle.store_tables.proofs.Steps.{some_same, found_reads}
 use Rattle.store_tables.proofs.Each.{all_read, reads_at, reads_in_order, ChangesAt}
 use Rattle.store_tables.proofs.Housing.{told_parts, sites_in_order}
@@ -51,11 +52,11 @@ module _ {X : Type 0} (of : Row → List ℕ) (name : X → List ℕ) (n : List 
             some_same (at name m ts) (at name m ss) (sym (after_at m) ∙ on.elsewhere m other (at name m ss) (before_at m)) ∙ sym (changes.elsewhere ss m other order)
 
 -- a change of what is told of one site, before which tables are told, makes the change of these
-pub tables_moved : (site : List ℕ) (change : Option KeptSite → Option KeptSite) (changed : Tables → Tables) (old new : Stored)
+pub tables_moved : (site : List ℕ) (change : Option KeptSite → Option KeptSite) (changed : Sites → Sites) (old new : Stored)
     → ChangesAt (name_at 0) site_name site change changed
     → ((y : Option KeptSite) → TellsSite old site y → TellsSite new site (change y))
     → ((other : List ℕ) → (other ≡ site → ⊥) → (x : Option KeptSite) → TellsSite old other x → TellsSite new other x)
-    → (t : Tables) → tables_in old ≡ Some t → tables_in new ≡ Some (changed t)
+    → (t : Sites) → sites_told old ≡ Some t → sites_told new ≡ Some (changed t)
 tables_moved site change changed old new changes there elsewhere t is =
     told_from new (λ n. houses n (same_or_not n site)) (changed t)
     (moved (name_at 0) site_name site change changed (read_row old) (read_row new) (sites_in old) (sites_in new) (row_named old) (row_named new) changes

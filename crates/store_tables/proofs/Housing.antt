@@ -9,33 +9,36 @@ use Rattle.named_rows.specs.ByName.{IsInOrder}
 use Rattle.sql_rows.specs.InOrder.{in_order}
 use Rattle.sql_rows.specs.Tables.{name_at, same_name, leads, name_in, rows_of}
 use Rattle.sql_rows.proofs.Canon.{name_is, is_in_order}
-use Rattle.keep_core.specs.Tables.{Tables}
+use Rattle.store_tables.specs.Told.{Sites}
 use Rattle.store_statements.specs.Stored.{Stored, sites_in, pages_of}
 use Rattle.store_tables.specs.Reading.{read_each}
-use Rattle.store_tables.specs.Told.{of_site, read_site, is_site, is_page, has_site, has_page, are_housed, tables_in}
+use Rattle.store_tables.specs.Told.{of_site, read_site, is_site, is_page, has_site, has_page, are_housed, sites_told}
 use Rattle.store_tables.proofs.Steps.{none_some}
 
 -- rows that tell tables are of sites and pages that are kept, and read
-pub record AreTold (s : Stored) (t : Tables) : Type 0 where
+pub record AreTold (s : Stored) (t : Sites) : Type 0 where
   pub members : list_all (has_site s) s.members ≡ true
   pub pages : list_all (has_site s) s.pages ≡ true
   pub judgements : list_all (has_page s) s.judgements ≡ true
   pub outcomes : list_all (has_page s) s.outcomes ≡ true
+  pub languages : list_all (has_site s) s.languages ≡ true
   pub reads : read_each (λ r. read_site (of_site (name_at 0 r) s) r) (sites_in s) ≡ Some t
 
-pub told_parts : (s : Stored) (t : Tables) → tables_in s ≡ Some t → AreTold s t
+pub told_parts : (s : Stored) (t : Sites) → sites_told s ≡ Some t → AreTold s t
 told_parts s t is = by (are_housed s) refl
   where
     by : (b : Bool) → are_housed s ≡ b → AreTold s t
     by false none = absurd (none_some t (rw none at is))
     by true housed =
-        let two = and_parts (list_all (has_site s) s.members && list_all (has_site s) s.pages) (list_all (has_page s) s.judgements && list_all (has_page s) s.outcomes) housed in
+        let both = (list_all (has_site s) s.members && list_all (has_site s) s.pages) && (list_all (has_page s) s.judgements && list_all (has_page s) s.outcomes) in
+        let all = and_parts both (list_all (has_site s) s.languages) housed in
+        let two = and_parts (list_all (has_site s) s.members && list_all (has_site s) s.pages) (list_all (has_page s) s.judgements && list_all (has_page s) s.outcomes) all.0 in
         let a = and_parts (list_all (has_site s) s.members) (list_all (has_site s) s.pages) two.0 in
         let b = and_parts (list_all (has_page s) s.judgements) (list_all (has_page s) s.outcomes) two.1 in
-        record { members = a.0; pages = a.1; judgements = b.0; outcomes = b.1; reads = rw housed at is }
+        record { members = a.0; pages = a.1; judgements = b.0; outcomes = b.1; languages = all.1; reads = rw housed at is }
 
-pub told_by : (s : Stored) (t : Tables) → AreTold s t → tables_in s ≡ Some t
-told_by s t h = rw (h.members, h.pages, h.judgements, h.outcomes) h.reads
+pub told_by : (s : Stored) (t : Sites) → AreTold s t → sites_told s ≡ Some t
+told_by s t h = rw (h.members, h.pages, h.judgements, h.outcomes, h.languages) h.reads
 
 -- ---- rows in order
 

@@ -6,6 +6,7 @@ pub mod Named
 pub mod Housing
 pub mod Groups
 pub mod Appending
+pub mod Places
 pub mod Telling
 pub mod Shown
 pub mod Elsewhere
@@ -31,3 +32,12 @@ pub mod Tells
 pub mod Stepping
 pub mod Rewritten
 pub mod Remembered
+pub mod TablesTold
+pub mod EditionStays
+pub mod EditionSet
+pub mod Audited
+pub mod Refreshed
+pub mod RefreshedForth
+pub mod LanguageRows
+pub mod Relisted
+pub mod RelistedForth

@@ -14,6 +14,7 @@ use Rattle.sql_rows.specs.Tables.{name_at}
 use Rattle.store_tables.specs.Reading.{◌>>=◌, read_each}
 use Rattle.store_tables.specs.Cells.{number_in, text_in, named, tree_in}
 use Rattle.store_tables.specs.Members.{member_from}
+use Rattle.store_tables.specs.Languages.{languages_shown}
 use Rattle.store_tables.specs.Sites.{site_from}
 use Rattle.store_tables.specs.Pages.{head_from, page_from}
 use Rattle.store_tables.specs.Judgements.{judgements_shown}
@@ -28,13 +29,14 @@ named_same text name is = by (is_name text) is
     by true is = sym (some_same text name is)
     by false is = absurd (none_some name is)
 
-pub site_from_named : (name : List ℕ) (counter : Value) (members : List Row) (x : Site) → site_from name counter members ≡ Some x → x.name ≡ name
+pub site_from_named : (name : List ℕ) (counter : Value) (members languages : List Row) (x : Site) → site_from name counter members languages ≡ Some x → x.name ≡ name
 unfolding site_from
-site_from_named name counter members x is =
-    let a = both_read {B = Site} (named name) (λ n. number_in MOST_REVISION counter >>= (λ k. read_each member_from members >>= (λ ms. Some (record { name = n; counter = k; members = ms })))) x is in
-    let b = both_read {B = Site} (number_in MOST_REVISION counter) (λ k. read_each member_from members >>= (λ ms. Some (record { name = a.0; counter = k; members = ms }))) x a.2 in
-    let c = both_read {B = Site} (read_each member_from members) (λ ms. Some (record { name = a.0; counter = b.0; members = ms })) x b.2 in
-    ap (λ (s : Site). s.name) (sym (some_same {A = Site} (record { name = a.0; counter = b.0; members = c.0 }) x c.2)) ∙ named_same name a.0 a.1
+site_from_named name counter members languages x is =
+    let a = both_read {B = Site} (named name) (λ n. number_in MOST_REVISION counter >>= (λ k. read_each member_from members >>= (λ ms. languages_shown languages >>= (λ ls. Some (record { name = n; counter = k; members = ms; languages = ls }))))) x is in
+    let b = both_read {B = Site} (number_in MOST_REVISION counter) (λ k. read_each member_from members >>= (λ ms. languages_shown languages >>= (λ ls. Some (record { name = a.0; counter = k; members = ms; languages = ls })))) x a.2 in
+    let c = both_read {B = Site} (read_each member_from members) (λ ms. languages_shown languages >>= (λ ls. Some (record { name = a.0; counter = b.0; members = ms; languages = ls }))) x b.2 in
+    let d = both_read {B = Site} (languages_shown languages) (λ ls. Some (record { name = a.0; counter = b.0; members = c.0; languages = ls })) x c.2 in
+    ap (λ (s : Site). s.name) (sym (some_same {A = Site} (record { name = a.0; counter = b.0; members = c.0; languages = d.0 }) x d.2)) ∙ named_same name a.0 a.1
 
 pub head_from_named : (page : List ℕ) (rev hand : Value) (x : PageHead) → head_from page rev hand ≡ Some x → x.page ≡ page
 unfolding head_from
@@ -60,7 +62,7 @@ pub record PageReads (o : OfSite) (r : Row) (p : KeptPage) : Type 0 where
   pub outcomes : outcomes_shown (o.outcomes (name_at 1 r)) ≡ Some p.outcomes
 
 pub record SiteReads (o : OfSite) (r : Row) (s : KeptSite) : Type 0 where
-  pub site : site_from (name_at 0 r) (column r 1) o.members ≡ Some s.site
+  pub site : site_from (name_at 0 r) (column r 1) o.members o.languages ≡ Some s.site
   pub pages : read_each (read_page o) o.pages ≡ Some s.pages
 
 pub page_reads : (o : OfSite) (r : Row) (p : KeptPage) → read_page o r ≡ Some p → PageReads o r p
@@ -83,7 +85,7 @@ page_read o r p reads = rw (reads.page, reads.judgements, reads.outcomes) refl
 pub site_reads : (o : OfSite) (r : Row) (s : KeptSite) → read_site o r ≡ Some s → SiteReads o r s
 unfolding read_site
 site_reads o r s is =
-    let a = both_read {B = KeptSite} (site_from (name_at 0 r) (column r 1) o.members) (λ site. read_each (read_page o) o.pages >>= (λ pages. Some (record { site = site; pages = pages }))) s is in
+    let a = both_read {B = KeptSite} (site_from (name_at 0 r) (column r 1) o.members o.languages) (λ site. read_each (read_page o) o.pages >>= (λ pages. Some (record { site = site; pages = pages }))) s is in
     let b = both_read {B = KeptSite} (read_each (read_page o) o.pages) (λ pages. Some (record { site = a.0; pages = pages })) s a.2 in
     let same : record { site = a.0; pages = b.0 } ≡ s = some_same {A = KeptSite} (record { site = a.0; pages = b.0 }) s b.2 in
     record { site = a.1 ∙ ap (λ (k : KeptSite). Some k.site) same; pages = b.1 ∙ ap (λ (k : KeptSite). Some k.pages) same }
@@ -93,7 +95,18 @@ unfolding read_site
 site_read o r s reads = rw (reads.site, reads.pages) refl
 
 pub site_named : (o : OfSite) (r : Row) (s : KeptSite) → read_site o r ≡ Some s → site_name s ≡ name_at 0 r
-site_named o r s is = site_from_named (name_at 0 r) (column r 1) o.members s.site (site_reads o r s is).site
+site_named o r s is = site_from_named (name_at 0 r) (column r 1) o.members o.languages s.site (site_reads o r s is).site
 
 pub page_named : (o : OfSite) (r : Row) (p : KeptPage) → read_page o r ≡ Some p → page_name p ≡ name_at 1 r
 page_named o r p is = head_from_named (name_at 1 r) (column r 2) (column r 3) p.page.head (page_parts (name_at 1 r) (column r 2) (column r 3) (column r 4) p.page (page_reads o r p is).page).0
+
+-- the name that is read is one of the form
+pub site_from_reads : (name : List ℕ) (counter : Value) (members languages : List Row) (x : Site) → site_from name counter members languages ≡ Some x → named name ≡ Some x.name
+unfolding site_from
+site_from_reads name counter members languages x is =
+    let a = both_read {B = Site} (named name) (λ n. number_in MOST_REVISION counter >>= (λ k. read_each member_from members >>= (λ ms. languages_shown languages >>= (λ ls. Some (record { name = n; counter = k; members = ms; languages = ls }))))) x is in
+    let same : a.0 ≡ x.name = named_same name a.0 a.1 ∙ sym (site_from_named name counter members languages x is) in
+    a.1 ∙ ap (λ n. Some n) same
+
+pub site_row_named : (o : OfSite) (r : Row) (s : KeptSite) → read_site o r ≡ Some s → named (name_at 0 r) ≡ Some (site_name s)
+site_row_named o r s is = site_from_reads (name_at 0 r) (column r 1) o.members o.languages s.site (site_reads o r s is).site

@@ -9,13 +9,14 @@ use Rattle.sql_rows.specs.Tables.{name_at}
 use Rattle.sql_rows.proofs.Canon.{same_or_not}
 use Rattle.keep_core.specs.declared.tables.KeptPage.{KeptPage}
 use Rattle.keep_core.specs.declared.tables.KeptSite.{KeptSite}
-use Rattle.keep_core.specs.Tables.{Tables, site_name, page_name}
-use Rattle.store_statements.specs.Stored.{Stored, sites_in, members_at, pages_of, judgements_at, outcomes_at}
+use Rattle.keep_core.specs.Tables.{site_name, page_name}
+use Rattle.store_tables.specs.Told.{Sites}
+use Rattle.store_statements.specs.Stored.{Stored, sites_in, members_at, languages_at, pages_of, judgements_at, outcomes_at}
 use Rattle.store_tables.specs.Reading.{read_each, read_found}
 use Rattle.store_tables.specs.Sites.{site_from}
 use Rattle.store_tables.specs.Judgements.{judgements_shown}
 use Rattle.store_tables.specs.Outcomes.{outcomes_shown}
-use Rattle.store_tables.specs.Told.{OfSite, of_site, read_page, read_site, is_site, is_page, tables_in}
+use Rattle.store_tables.specs.Told.{OfSite, of_site, read_page, read_site, is_site, is_page, sites_told}
 use Rattle.store_tables.proofs.Steps.{found_reads}
 use Rattle.store_tables.proofs.Each.{ChangesAt, reads_at, turned}
 use Rattle.store_tables.proofs.Named.{page_reads, page_read, page_named, site_reads, site_read}
@@ -30,10 +31,11 @@ module _ (site page : List ℕ) where
     pub judgements : (r : Row) → Has s.judgements r → name_at 0 r ≡ site → name_at 1 r ≡ page → is_page s site page ≡ true
     pub outcomes : (r : Row) → Has s.outcomes r → name_at 0 r ≡ site → name_at 1 r ≡ page → is_page s site page ≡ true
 
-  -- the rows of every other page of the site stay, and so do its own and those of its members
+  -- the rows of every other page of the site stay, and so do its own and those of its members and languages
   pub record StaysBeside (old new : Stored) : Type 0 where
     pub sites : sites_in new ≡ sites_in old
     pub members : members_at site new ≡ members_at site old
+    pub languages : languages_at site new ≡ languages_at site old
     pub row : (m : List ℕ) → (m ≡ page → ⊥) → at (name_at 1) m (pages_of site new) ≡ at (name_at 1) m (pages_of site old)
     pub judgements : (m : List ℕ) → (m ≡ page → ⊥) → judgements_at site m new ≡ judgements_at site m old
     pub outcomes : (m : List ℕ) → (m ≡ page → ⊥) → outcomes_at site m new ≡ outcomes_at site m old
@@ -71,6 +73,7 @@ module _ (site page : List ℕ) where
     pub houses_back : is_site old site ≡ true → Houses new site → (y : Option KeptPage) → TellsPage old y → Houses old site
     houses_back kept told y was = record {
       members = λ r had mine. kept;
+      languages = λ r had mine. kept;
       pages = λ r had mine. kept;
       judgements = λ r had mine. judged r had mine (same_or_not (name_at 1 r) page);
       outcomes = λ r had mine. audited r had mine (same_or_not (name_at 1 r) page);
@@ -122,16 +125,19 @@ module _ (site page : List ℕ) where
               let found = found_reads (read_site after r) x reads in
               let parts = site_reads after r found.0 found.1 in
               let were = pages_back told.houses found.0.pages parts.pages in
+              let row_back : site_from (name_at 0 r) (column r 1) before.members before.languages ≡ Some found.0.site =
+              ap (λ (ms : List Row). site_from (name_at 0 r) (column r 1) ms before.languages) (sym beside.members)
+              ∙ ap (λ (ls : List Row). site_from (name_at 0 r) (column r 1) after.members ls) (sym beside.languages) ∙ parts.site in
               let its = there (at page_name page found.0.pages) (told_page new told.houses (at page_name page found.0.pages) (reads_at (read_page after) (name_at 1) page_name (page_named after) after.pages found.0.pages parts.pages page)) in
               let k : KeptSite = record { site = found.0.site; pages = were.0 } in (
                 Some k,
                 record {
                   reads = ap (read_found (read_site before)) is
-                      ∙ ap (option_map Some) (site_read before r k (record { site = ap (site_from (name_at 0 r) (column r 1)) (sym beside.members) ∙ parts.site; pages = were.1 }));
+                      ∙ ap (option_map Some) (site_read before r k (record { site = row_back; pages = were.1 }));
                   houses = houses_back old new beside kept told.houses its.0 its.1;
                 },
                 found.2 ∙ ap (λ (l : List KeptPage). Some (record found.0 { pages = l })) were.2,
               )
 
-      pub page_turned : StaysElsewhere site old new → (t : Tables) → tables_in new ≡ Some t → (ts : Tables) × (tables_in old ≡ Some ts) × (t ≡ with_row site_name site with_changed ts)
+      pub page_turned : StaysElsewhere site old new → (t : Sites) → sites_told new ≡ Some t → (ts : Sites) × (sites_told old ≡ Some ts) × (t ≡ with_row site_name site with_changed ts)
       page_turned elsewhere t is = tables_turned site (option_map with_changed) (with_row site_name site with_changed) old new changes_one site_back (tells_elsewhere site old new elsewhere) t is

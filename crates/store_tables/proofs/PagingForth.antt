@@ -6,11 +6,12 @@ use Rattle.named_rows.proofs.Lookups.{at_named}
 use Rattle.sql_rows.specs.Tables.{name_at}
 use Rattle.keep_core.specs.declared.tables.KeptPage.{KeptPage}
 use Rattle.keep_core.specs.declared.tables.KeptSite.{KeptSite}
-use Rattle.keep_core.specs.Tables.{Tables, site_name, page_name}
+use Rattle.keep_core.specs.Tables.{site_name, page_name}
+use Rattle.store_tables.specs.Told.{Sites}
 use Rattle.store_statements.specs.Stored.{Stored, sites_in}
 use Rattle.store_tables.specs.Reading.{read_each, read_found}
 use Rattle.store_tables.specs.Sites.{site_from}
-use Rattle.store_tables.specs.Told.{OfSite, of_site, read_page, read_site, is_site, tables_in}
+use Rattle.store_tables.specs.Told.{OfSite, of_site, read_page, read_site, is_site, sites_told}
 use Rattle.store_tables.proofs.Steps.{found_reads}
 use Rattle.store_tables.proofs.Each.{ChangesAt, reads_at}
 use Rattle.store_tables.proofs.Named.{page_named, site_reads, site_read}
@@ -52,14 +53,17 @@ module _ (site page : List ℕ) (change : Option KeptPage → Option KeptPage) (
           let pages = pages_on told.houses found.0.pages parts.pages in
           let was = at page_name page found.0.pages in
           let its = there was (told_page site page old told.houses was (reads_at (read_page before) (name_at 1) page_name (page_named before) before.pages found.0.pages parts.pages page)) in
+          let row_on : site_from (name_at 0 r) (column r 1) after.members after.languages ≡ Some found.0.site =
+          ap (λ (ms : List Row). site_from (name_at 0 r) (column r 1) ms after.languages) (sym beside.members)
+          ∙ ap (λ (ls : List Row). site_from (name_at 0 r) (column r 1) before.members ls) (sym beside.languages) ∙ parts.site in
           let k : KeptSite = record { site = found.0.site; pages = changed found.0.pages } in
           record {
             reads = ap (λ (rs : List Row). read_found (read_site after) (at (name_at 0) site rs)) (sym beside.sites) ∙ ap (read_found (read_site after)) is
-                ∙ ap (option_map Some) (site_read after r k (record { site = ap (site_from (name_at 0 r) (column r 1)) (sym beside.members) ∙ parts.site; pages = pages }))
+                ∙ ap (option_map Some) (site_read after r k (record { site = row_on; pages = pages }))
                 ∙ ap (λ (o : Option KeptSite). Some (option_map (with_changed site page change changed) o)) (sym found.2);
             houses = houses_back site page new old beside still told.houses (change was) its;
           }
 
-  pub page_moved : StaysElsewhere site new old → (t : Tables) → tables_in old ≡ Some t → tables_in new ≡ Some (with_row site_name site (with_changed site page change changed) t)
+  pub page_moved : StaysElsewhere site new old → (t : Sites) → sites_told old ≡ Some t → sites_told new ≡ Some (with_row site_name site (with_changed site page change changed) t)
   page_moved elsewhere t is =
       tables_moved site (option_map (with_changed site page change changed)) (with_row site_name site (with_changed site page change changed)) old new (changes_one site page change changed) site_on (tells_elsewhere site new old elsewhere) t is

@@ -15,14 +15,15 @@ use Rattle.judge_core.specs.declared.outcomes.OutRow.{OutRow}
 use Rattle.judge_core.specs.declared.outcomes.Outcomes.{Outcomes}
 use Rattle.keep_core.specs.declared.page.PagePut.{PagePut}
 use Rattle.keep_core.specs.declared.tables.KeptPage.{KeptPage}
-use Rattle.keep_core.specs.Tables.{Tables, site_name, page_name, judgements_in}
+use Rattle.keep_core.specs.Tables.{site_name, page_name, judgements_in}
+use Rattle.store_tables.specs.Told.{Sites}
 use Rattle.keep_core.specs.Changes.{put_over}
 use Rattle.store_statements.specs.Stored.{Stored, page_at, judgements_at, outcomes_at}
 use Rattle.store_tables.specs.Reading.{read_counted, read_found}
 use Rattle.store_tables.specs.Pages.{page_from, page_shown, page_cells}
 use Rattle.store_tables.specs.Outcomes.{outcome_from, outcomes_shown, outcome_rows}
 use Rattle.store_tables.specs.Judgements.{judgements_shown}
-use Rattle.store_tables.specs.Told.{OfSite, of_site, read_page, is_site, is_page, tables_in}
+use Rattle.store_tables.specs.Told.{OfSite, of_site, read_page, is_site, is_page, sites_told}
 use Rattle.store_tables.specs.Batches.{PutsOne, ReadsPage}
 use Rattle.store_tables.proofs.Steps.{some_same, some_of, found_reads}
 use Rattle.store_tables.proofs.Each.{ChangesAt}
@@ -71,6 +72,7 @@ module _ (site : List ℕ) (put : PagePut) where
     beside = record {
       sites = refl;
       members = refl;
+      languages = refl;
       row = λ m other. ap (at (name_at 1) m) pages.there ∙ at_put_other (name_at 1) m (page_cells site put.page bytes) before.pages other;
       judgements = λ m other. refl;
       outcomes = λ m other. ap (map shown_outcome) (other_group (site ∷ page ∷ []) old.outcomes os outcomes (site ∷ m ∷ []) refl (other_page m other));
@@ -148,11 +150,11 @@ module _ (site : List ℕ) (put : PagePut) where
         stays_through site old one made (pages_by site old (put_row (name_at 1) (page_cells site put.page bytes)) ps pages)
         (outcomes_by site one page (λ _. outcome_rows site page put.outcomes) os outcomes)
 
-    made_told : (t : Tables) → tables_in made ≡ Some t → (ts : Tables) × (tables_in old ≡ Some ts) × (t ≡ with_row site_name site (with_changed site page change (put_in put)) ts)
+    made_told : (t : Sites) → sites_told made ≡ Some t → (ts : Sites) × (sites_told old ≡ Some ts) × (t ≡ with_row site_name site (with_changed site page change (put_in put)) ts)
     made_told t is = page_turned site page change (put_in put) old made puts_one beside kept there elsewhere t is
 
   -- where rows tell tables after a page is put over one that read, they told before what that changes to these
-  pub put_one_told : (old new : Stored) → PutsOne site put old new → is_site old site ≡ true → ReadsPage site page old → (t : Tables) → tables_in new ≡ Some t
-      → (ts : Tables) × (tables_in old ≡ Some ts) × (t ≡ with_row site_name site (λ s. record s { pages = put_in put s.pages }) ts)
+  pub put_one_told : (old new : Stored) → PutsOne site put old new → is_site old site ≡ true → ReadsPage site page old → (t : Sites) → sites_told new ≡ Some t
+      → (ts : Sites) × (sites_told old ≡ Some ts) × (t ≡ with_row site_name site (λ s. record s { pages = put_in put s.pages }) ts)
   put_one_told old new puts kept whole t is =
-      made_told old new.pages new.outcomes puts.bytes puts.written puts.pages puts.outcomes kept whole t (sym (ap tables_in puts.same) ∙ is)
+      made_told old new.pages new.outcomes puts.bytes puts.written puts.pages puts.outcomes kept whole t (sym (ap sites_told puts.same) ∙ is)

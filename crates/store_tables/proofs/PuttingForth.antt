@@ -10,12 +10,13 @@ use Rattle.sql_rows.proofs.Groups.{other_group, stays}
 use Rattle.keep_core.specs.declared.page.PagePut.{PagePut}
 use Rattle.keep_core.specs.declared.tables.KeptPage.{KeptPage}
 use Rattle.keep_core.specs.Fits.{FitsPage}
-use Rattle.keep_core.specs.Tables.{Tables, site_name, judgements_in}
+use Rattle.keep_core.specs.Tables.{site_name, judgements_in}
+use Rattle.store_tables.specs.Told.{Sites}
 use Rattle.store_statements.specs.Stored.{Stored, judgements_at}
 use Rattle.store_tables.specs.Reading.{read_found}
 use Rattle.store_tables.specs.Judgements.{judgements_shown}
 use Rattle.store_tables.specs.Outcomes.{outcomes_shown, outcome_rows}
-use Rattle.store_tables.specs.Told.{OfSite, of_site, read_page, is_site, tables_in}
+use Rattle.store_tables.specs.Told.{OfSite, of_site, read_page, is_site, sites_told}
 use Rattle.store_tables.specs.Pages.{page_cells}
 use Rattle.store_tables.specs.Batches.{PutsOne, ReadsPage}
 use Rattle.store_tables.specs.Numbers.{HasNumbers}
@@ -57,6 +58,7 @@ module _ (site : List ℕ) (put : PagePut) where
     beside = record {
       sites = refl;
       members = refl;
+      languages = refl;
       row = λ m other. sym (ap (at (name_at 1) m) pages.there ∙ at_put_other (name_at 1) m (page_cells site put.page bytes) before.pages other);
       judgements = λ m other. refl;
       outcomes = λ m other. ap (map shown_outcome) (other_group (site ∷ mine ∷ []) os old.outcomes outcomes_undone (site ∷ m ∷ []) refl (other_page site put m other));
@@ -95,11 +97,11 @@ module _ (site : List ℕ) (put : PagePut) where
         (pages_by site made (λ _. rows_of (site ∷ []) old.pages) old.pages (undone (site ∷ []) (put_row (name_at 1) (page_cells site put.page bytes)) old.pages ps pages))
         (outcomes_by site one mine (λ _. rows_of (site ∷ mine ∷ []) old.outcomes) old.outcomes outcomes_undone)
 
-    made_moved : (t : Tables) → tables_in old ≡ Some t → tables_in made ≡ Some (with_row site_name site (λ s. record s { pages = put_in put s.pages }) t)
+    made_moved : (t : Sites) → sites_told old ≡ Some t → sites_told made ≡ Some (with_row site_name site (λ s. record s { pages = put_in put s.pages }) t)
     made_moved t is = page_moved site mine (change site put) (put_in put) old made (puts_one site put) beside kept there elsewhere t is
 
   -- where tables are told before a page is put that fits, the rows tell afterwards what that changes to these
   pub put_one_moved : (old new : Stored) → PutsOne site put old new → is_site old site ≡ true → ReadsPage site put.page.head.page old → FitsPage put.page → All HasNumbers put.outcomes.rows
-      → (t : Tables) → tables_in old ≡ Some t → tables_in new ≡ Some (with_row site_name site (λ s. record s { pages = put_in put s.pages }) t)
+      → (t : Sites) → sites_told old ≡ Some t → sites_told new ≡ Some (with_row site_name site (λ s. record s { pages = put_in put s.pages }) t)
   put_one_moved old new puts kept whole fits numbered t is =
-      ap tables_in puts.same ∙ made_moved old new.pages new.outcomes puts.bytes puts.written puts.pages puts.outcomes kept whole fits numbered t is
+      ap sites_told puts.same ∙ made_moved old new.pages new.outcomes puts.bytes puts.written puts.pages puts.outcomes kept whole fits numbered t is

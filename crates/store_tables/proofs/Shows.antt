@@ -22,15 +22,17 @@ use Rattle.sql_rows.specs.Tables.{name_at}
 use Rattle.store_tables.specs.Reading.{read_each, read_counted}
 use Rattle.store_tables.specs.Cells.{auto_of, auto_number}
 use Rattle.store_tables.specs.Members.{member_from}
+use Rattle.store_tables.specs.Languages.{languages_shown}
 use Rattle.store_tables.specs.Sites.{site_from}
 use Rattle.store_tables.specs.Pages.{head_from, page_from}
 use Rattle.store_tables.specs.Judgements.{judgement_from, judgement_cells}
 use Rattle.store_tables.specs.Outcomes.{outcome_from, outcomes_shown, outcome_cells, outcomes_cells, outcome_rows}
+use Rattle.store_tables.specs.Batches.{judgements_cells}
 use Rattle.store_tables.specs.Numbers.{AreNumbers, HasNumbers}
 use Rattle.store_tables.proofs.Written.{shown_judgement, shown_outcome, cells_in_order}
 use Rattle.store_tables.proofs.Appending.{in_order_same}
 
-at_most : (n most : ℕ) → n ≤ most → nat_le n most ≡ true
+pub at_most : (n most : ℕ) → n ≤ most → nat_le n most ≡ true
 at_most n most within = grind (arith, nat_tests)
 
 itself : (n : ℕ) → (n == n) ≡ true
@@ -43,10 +45,10 @@ auto_shows CantTell = refl
 
 -- ---- a site
 
-pub site_shows : (name : List ℕ) (counter : ℕ) (rows : List Row) (members : List Member) → IsTrue (is_name name) → counter ≤ MOST_REVISION → read_each member_from rows ≡ Some members
-    → site_from name (Int (pos counter)) rows ≡ Some (record { name = name; counter = counter; members = members })
+pub site_shows : (name : List ℕ) (counter : ℕ) (rows tongues : List Row) (members : List Member) (languages : List (List ℕ)) → IsTrue (is_name name) → counter ≤ MOST_REVISION → read_each member_from rows ≡ Some members
+    → languages_shown tongues ≡ Some languages → site_from name (Int (pos counter)) rows tongues ≡ Some (record { name = name; counter = counter; members = members; languages = languages })
 unfolding site_from
-site_shows name counter rows members named within reads = rw (named, at_most counter MOST_REVISION within, reads) refl
+site_shows name counter rows tongues members languages named within reads tells = rw (named, at_most counter MOST_REVISION within, reads, tells) refl
 
 -- ---- a page
 
@@ -63,6 +65,15 @@ page_shows p bytes fits written = rw (head_shows p.head fits, written) refl
 pub judgement_shows : (site page : List ℕ) (place : ℕ) (j : Judgement) → AreNumbers j.rule.0 j.node.0 → judgement_from place (shown_judgement (judgement_cells site page place j)) ≡ Some j
 unfolding judgement_from
 judgement_shows site page place j within = rw (itself place, at_most j.rule.0 65535 within.rule, at_most j.node.0 4294967295 within.node, auto_shows j.verdict) refl
+
+-- the rule and the node of a judgement have their numbers
+abbrev pub HasPlace : Judgement → Type 0
+HasPlace j = AreNumbers j.rule.0 j.node.0
+
+pub judgements_show : (site page : List ℕ) (place : ℕ) (js : List Judgement) → All HasPlace js → read_counted judgement_from place (map shown_judgement (judgements_cells site page place js)) ≡ Some js
+judgements_show site page place [] within = refl
+judgements_show site page place (j ∷ js) within =
+    rw (judgement_shows site page place j (All-head HasPlace j js within), judgements_show site page (suc place) js (All-tail HasPlace j js within)) refl
 
 -- ---- outcomes
 

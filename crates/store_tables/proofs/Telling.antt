@@ -8,10 +8,11 @@ use Rattle.named_rows.proofs.Lookups.{at_named}
 use Rattle.sql_rows.specs.Tables.{name_at}
 use Rattle.sql_rows.proofs.Canon.{same_or_not}
 use Rattle.keep_core.specs.declared.tables.KeptSite.{KeptSite}
-use Rattle.keep_core.specs.Tables.{Tables, site_name}
+use Rattle.keep_core.specs.Tables.{site_name}
+use Rattle.store_tables.specs.Told.{Sites}
 use Rattle.store_statements.specs.Stored.{Stored, sites_in}
 use Rattle.store_tables.specs.Reading.{read_each, read_found}
-use Rattle.store_tables.specs.Told.{of_site, read_site, is_site, is_page, has_site, has_page, tables_in}
+use Rattle.store_tables.specs.Told.{of_site, read_site, is_site, is_page, has_site, has_page, sites_told}
 use Rattle.store_tables.proofs.Each.{reads_at, ChangesAt, turned}
 use Rattle.store_tables.proofs.Named.{site_named}
 use Rattle.store_tables.proofs.Housing.{told_parts, told_by, sites_in_order}
@@ -22,6 +23,7 @@ pub record Houses (s : Stored) (site : List ℕ) : Type 0 where
   pub pages : (r : Row) → Has s.pages r → name_at 0 r ≡ site → is_site s site ≡ true
   pub judgements : (r : Row) → Has s.judgements r → name_at 0 r ≡ site → is_page s site (name_at 1 r) ≡ true
   pub outcomes : (r : Row) → Has s.outcomes r → name_at 0 r ≡ site → is_page s site (name_at 1 r) ≡ true
+  pub languages : (r : Row) → Has s.languages r → name_at 0 r ≡ site → is_site s site ≡ true
 
 -- the site as it is kept, or that it isn't
 pub record TellsSite (s : Stored) (site : List ℕ) (kept : Option KeptSite) : Type 0 where
@@ -43,7 +45,7 @@ module _ (s : Stored) where
   row_named r k is = site_named (of_site (name_at 0 r) s) r k is
 
   -- tables tell of each site what the rows do
-  pub told_site : (t : Tables) → tables_in s ≡ Some t → (site : List ℕ) → TellsSite s site (at site_name site t)
+  pub told_site : (t : Sites) → sites_told s ≡ Some t → (site : List ℕ) → TellsSite s site (at site_name site t)
   told_site t is site =
       let told = told_parts s t is in
       record {
@@ -53,25 +55,27 @@ module _ (s : Stored) where
           pages = λ r there same. ap (is_site s) (sym same) ∙ test_has (has_site s) s.pages r told.pages there;
           judgements = λ r there same. ap (λ n. is_page s n (name_at 1 r)) (sym same) ∙ test_has (has_page s) s.judgements r told.judgements there;
           outcomes = λ r there same. ap (λ n. is_page s n (name_at 1 r)) (sym same) ∙ test_has (has_page s) s.outcomes r told.outcomes there;
+          languages = λ r there same. ap (is_site s) (sym same) ∙ test_has (has_site s) s.languages r told.languages there;
         };
       }
 
   -- rows that read, each of a site that is kept, tell tables
-  pub told_from : ((site : List ℕ) → Houses s site) → (t : Tables) → read_each read_row (sites_in s) ≡ Some t → tables_in s ≡ Some t
+  pub told_from : ((site : List ℕ) → Houses s site) → (t : Sites) → read_each read_row (sites_in s) ≡ Some t → sites_told s ≡ Some t
   told_from houses t reads = told_by s t (record {
     members = test_from (has_site s) s.members (λ r there. (houses (name_at 0 r)).members r there refl);
     pages = test_from (has_site s) s.pages (λ r there. (houses (name_at 0 r)).pages r there refl);
     judgements = test_from (has_page s) s.judgements (λ r there. (houses (name_at 0 r)).judgements r there refl);
     outcomes = test_from (has_page s) s.outcomes (λ r there. (houses (name_at 0 r)).outcomes r there refl);
+    languages = test_from (has_site s) s.languages (λ r there. (houses (name_at 0 r)).languages r there refl);
     reads = reads;
   })
 
 -- a change of what is told of one site, after which tables are told, is a change of tables that were told
-pub tables_turned : (site : List ℕ) (change : Option KeptSite → Option KeptSite) (changed : Tables → Tables) (old new : Stored)
+pub tables_turned : (site : List ℕ) (change : Option KeptSite → Option KeptSite) (changed : Sites → Sites) (old new : Stored)
     → ChangesAt (name_at 0) site_name site change changed
     → ((x : Option KeptSite) → TellsSite new site x → (y : Option KeptSite) × TellsSite old site y × (x ≡ change y))
     → ((other : List ℕ) → (other ≡ site → ⊥) → (x : Option KeptSite) → TellsSite new other x → TellsSite old other x)
-    → (t : Tables) → tables_in new ≡ Some t → (ts : Tables) × (tables_in old ≡ Some ts) × (t ≡ changed ts)
+    → (t : Sites) → sites_told new ≡ Some t → (ts : Sites) × (sites_told old ≡ Some ts) × (t ≡ changed ts)
 tables_turned site change changed old new changes there elsewhere t is =
     let ts = turned (name_at 0) site_name site change changed (read_row old) (read_row new) (sites_in old) (sites_in new) (row_named old) (row_named new) changes
     (sites_in_order old) (sites_in_order new) (record { there = here; elsewhere = other_site }) t (told_parts new t is).reads in

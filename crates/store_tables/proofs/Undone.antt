@@ -22,4 +22,5 @@ site_undone site old cells rows named change =
       pages = λ r other there. there;
       judgements = λ r other there. there;
       outcomes = λ r other there. there;
+      languages = λ r other there. there;
     }

@@ -1,5 +1,5 @@
 -- Rows of which the one of a name is changed, once, twice, and not at all.
-use Rattle.std.proofs.Common.{◌≡◌, ℕ, List, [], ◌∷◌, Some, None, refl, ap, ◌∙◌}
+use Rattle.std.proofs.Common.{◌≡◌, ℕ, List, [], ◌∷◌, Some, None, refl, sym, ap, ◌∙◌}
 use Rattle.std.specs.declared.cmp.Ordering.{Ordering}
 use Rattle.std.specs.declared.cmp.Ordering.TheVariants.{Less, Equal, Greater}
 use Rattle.std.specs.Ordering.{match_ordering}
@@ -41,3 +41,14 @@ module _ {T : Type 0} (name : T → List ℕ) (n : List ℕ) where
   -- changes that change each row alike
   pub with_alike : (f g : T → T) → ((r : T) → f r ≡ g r) → (rows : List T) → with_row name n f rows ≡ with_row name n g rows
   with_alike f g same rows = λ i. with_row name n (λ r. same r i) rows
+
+  -- a row that a change leaves as it is
+  pub with_kept : (f : T → T) (r : T) → f r ≡ r → (rows : List T) → at name n rows ≡ Some r → with_row name n f rows ≡ rows
+  with_kept f r keeps [] is = refl
+  with_kept f r keeps (s ∷ rs) is = by (names_cmp n (name s)) is (with_kept f r keeps rs)
+    where
+      by : (o : Ordering) → match_ordering o None (Some s) (at name n rs) ≡ Some r → (at name n rs ≡ Some r → with_row name n f rs ≡ rs)
+          → match_ordering o (s ∷ rs) (f s ∷ rs) (s ∷ with_row name n f rs) ≡ s ∷ rs
+      by Less is below = refl
+      by Equal is below = let same : s ≡ r = cc in ap (λ u. u ∷ rs) (ap f same ∙ keeps ∙ sym same)
+      by Greater is below = ap (λ l. s ∷ l) (below is)

@@ -1,8 +1,7 @@
 -- What is written of a page, a judgement and outcomes is read back.
-use Rattle.std.proofs.Common.{◌≡◌, inl, inr, ℕ, suc, pos, ◌<◌, ◌≤◌, ◌+◌, List, [], ◌∷◌, map, length, Bool, true, false, cond, nat_le, Option, Some, None, IfSome, Ok, refl, sym, ap, ap₂, ◌∙◌, arith, int_cmp, Less, Greater, All}
+use Rattle.std.proofs.Common.{◌≡◌, inl, inr, ℕ, suc, pos, ◌<◌, ◌≤◌, ◌+◌, List, [], ◌∷◌, map, length, Bool, true, false, cond, nat_le, Option, Some, None, IfSome, Ok, refl, sym, ap, ap₂, ◌∙◌, arith, Less, Greater, All}
 use Rattle.std.specs.Prelude.{negsuc, ◌==◌}
 use Rattle.std.proofs.lemmas.Bool.Decides.{nat_tests}
-use Rattle.std.proofs.lemmas.Int.{ints}
 use Rattle.std.proofs.lemmas.List.Elements.{All-cons, All-nil}
 use Rattle.sqlite_value.specs.declared.value.Value.{Value}
 use Rattle.sqlite_value.specs.declared.value.Value.TheVariants.{Null, Int, Real, Text, Blob}
@@ -25,18 +24,19 @@ use Rattle.keep_core.specs.declared.limits.TheConstants.{MOST_REVISION}
 use Rattle.keep_core.specs.declared.page.PageHead.{PageHead}
 use Rattle.keep_core.specs.declared.page.Page.{Page}
 use Rattle.sql_rows.specs.Tables.{name_at, number_letters, letters}
-use Rattle.sql_rows.proofs.Letters.{numbers_rise}
 pub use Rattle.store_statements.proofs.OutcomeRows.{shown_outcome}
 use Rattle.store_tables.specs.Reading.{◌>>=◌, read_counted}
 use Rattle.store_tables.specs.Cells.{number_in, place_in, named, auto_in, auto_number, reason_in, read_back}
 use Rattle.store_tables.specs.Pages.{head_from, page_from}
 use Rattle.store_tables.specs.Judgements.{judgement_from, judgement_cells}
+use Rattle.store_tables.specs.Batches.{judgements_cells}
 use Rattle.store_tables.specs.Outcomes.{outcome_from, outcome_cells, outcomes_cells, outcome_rows}
 use Rattle.store_tables.proofs.Steps.{some_same, none_some, both_read}
 use Rattle.store_tables.proofs.Counted.{first_counted}
 use Rattle.store_tables.proofs.Named.{named_same, page_parts}
 use Rattle.store_tables.proofs.Siting.{number_back}
 use Rattle.store_tables.proofs.Appending.{in_order_same}
+use Rattle.store_tables.proofs.Places.{letters_below}
 
 -- ---- values
 
@@ -111,9 +111,6 @@ judgement_place : (place : ℕ) (c : Row) (j : Judgement) → judgement_from pla
 unfolding judgement_from
 judgement_place place c j is = let a = both_read (place_in place (column c 0)) _ j is in place_is place (column c 0) a.0 a.1
 
-letters_below : (m n : ℕ) → m < n → names_cmp (number_letters (pos m)) (number_letters (pos n)) ≡ Less
-letters_below m n less = let below : int_cmp (pos m) (pos n) ≡ Less = grind (arith, ints, nat_tests, less) in numbers_rise (pos m) (pos n) ∙ below
-
 -- judgements that read stand below a place behind theirs
 pub behind_all : (place : ℕ) (rs : List Row) (ts : List Judgement) → read_counted judgement_from place (map shown_judgement rs) ≡ Some ts → (n : ℕ) → place + length rs ≤ n → (r : Row) → Has rs r
     → names_cmp (number_letters (pos n)) (name_at 2 r) ≡ Greater
@@ -126,6 +123,30 @@ behind_all place (q ∷ rs) ts is n far r (inl same) =
 behind_all place (q ∷ rs) ts is n far r (inr there) =
     let f = first_counted judgement_from place (shown_judgement q) (map shown_judgement rs) ts is in
     behind_all (suc place) rs f.1 f.3 n (omega (arith, far)) r there
+
+-- judgements that are written one after another, the first at this place
+pub cell_place : (site page : List ℕ) (place : ℕ) (js : List Judgement) (x : Row) → Has (judgements_cells site page place js) x → (n : ℕ) × (place ≤ n) × (name_at 2 x ≡ number_letters (pos n))
+cell_place site page place [] x there = absurd there
+cell_place site page place (j ∷ js) x (inl same) = (place, omega arith, ap (name_at 2) same)
+cell_place site page place (j ∷ js) x (inr there) = let c = cell_place site page (suc place) js x there in (c.0, omega (arith, c.1), c.2)
+
+judgements_above : (site page : List ℕ) (r : Row) (k : ℕ) → name_at 2 r ≡ number_letters (pos k) → (place : ℕ) → k < place → (js : List Judgement) → All (IsBelow (name_at 2) r) (judgements_cells site page place js)
+judgements_above site page r k named place less [] = All-nil (IsBelow (name_at 2) r)
+judgements_above site page r k named place less (j ∷ js) =
+    All-cons (IsBelow (name_at 2) r) (judgement_cells site page place j) (judgements_cells site page (suc place) js) (ap (λ n. names_cmp n (number_letters (pos place))) named ∙ letters_below k place less)
+    (judgements_above site page r k named (suc place) (omega (arith, less)) js)
+
+pub judgements_in_order : (site page : List ℕ) (place : ℕ) (js : List Judgement) → IsInOrder (name_at 2) (judgements_cells site page place js)
+judgements_in_order site page place [] = in_order_none (name_at 2)
+judgements_in_order site page place (j ∷ js) =
+    in_order_cons (name_at 2) (judgement_cells site page place j) (judgements_cells site page (suc place) js) (judgements_above site page (judgement_cells site page place j) place refl (suc place) (omega arith) js)
+    (judgements_in_order site page (suc place) js)
+
+pub judgements_back : (site page : List ℕ) (place : ℕ) (js ks : List Judgement) → read_counted judgement_from place (map shown_judgement (judgements_cells site page place js)) ≡ Some ks → ks ≡ js
+judgements_back site page place [] ks is = sym (some_same [] ks is)
+judgements_back site page place (j ∷ js) ks is =
+    let f = first_counted judgement_from place (shown_judgement (judgement_cells site page place j)) (map shown_judgement (judgements_cells site page (suc place) js)) ks is in
+    f.4 ∙ ap₂ (λ x xs. x ∷ xs) (judgement_back site page place j f.0 f.2) (judgements_back site page (suc place) js f.1 f.3)
 
 -- ---- outcomes
 

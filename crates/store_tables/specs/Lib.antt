@@ -1,6 +1,7 @@
 pub mod Reading
 pub mod Cells
 pub mod Members
+pub mod Languages
 pub mod Sites
 pub mod Pages
 pub mod Judgements

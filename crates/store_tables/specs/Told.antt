@@ -5,11 +5,12 @@ use Rattle.sqlite_value.specs.Order.{Row, column}
 use Rattle.named_rows.specs.ByName.{at}
 use Rattle.keep_core.specs.declared.tables.KeptPage.{KeptPage}
 use Rattle.keep_core.specs.declared.tables.KeptSite.{KeptSite}
-use Rattle.keep_core.specs.Tables.{Tables}
+use Rattle.keep_core.specs.declared.tables.Tables.{Tables}
 use Rattle.sql_rows.specs.Tables.{name_at}
-use Rattle.store_statements.specs.Stored.{Stored, sites_in, members_at, pages_of, judgements_at, outcomes_at}
+use Rattle.store_statements.specs.Stored.{Stored, sites_in, members_at, pages_of, judgements_at, outcomes_at, languages_at, editions_at}
 use Rattle.store_tables.specs.Reading.{◌>>=◌, read_each}
 use Rattle.store_tables.specs.Sites.{site_from}
+use Rattle.store_tables.specs.Editions.{kept_edition}
 use Rattle.store_tables.specs.Pages.{page_from}
 use Rattle.store_tables.specs.Judgements.{judgements_shown}
 use Rattle.store_tables.specs.Outcomes.{outcomes_shown}
@@ -19,13 +20,14 @@ use Rattle.store_tables.specs.Outcomes.{outcomes_shown}
 pub record OfSite : Type 0 where
   -- as they are shown
   pub members : List Row
+  pub languages : List Row
   pub pages : List Row
   -- of each page, as they are shown
   pub judgements : List ℕ → List Row
   pub outcomes : List ℕ → List Row
 
 abbrev pub of_site : List ℕ → Stored → OfSite
-of_site site s = record { members = members_at site s; pages = pages_of site s; judgements = λ page. judgements_at site page s; outcomes = λ page. outcomes_at site page s }
+of_site site s = record { members = members_at site s; languages = languages_at site s; pages = pages_of site s; judgements = λ page. judgements_at site page s; outcomes = λ page. outcomes_at site page s }
 
 unfoldable pub read_page : OfSite → Row → Option KeptPage
 read_page o r = do
@@ -36,7 +38,7 @@ read_page o r = do
 
 unfoldable pub read_site : OfSite → Row → Option KeptSite
 read_site o r = do
-  site ← site_from (name_at 0 r) (column r 1) o.members
+  site ← site_from (name_at 0 r) (column r 1) o.members o.languages
   pages ← read_each (read_page o) o.pages
   Some (record { site = site; pages = pages })
 
@@ -55,9 +57,20 @@ abbrev pub has_page : Stored → Row → Bool
 has_page s r = is_page s (name_at 0 r) (name_at 1 r)
 
 abbrev pub are_housed : Stored → Bool
-are_housed s = (list_all (has_site s) s.members && list_all (has_site s) s.pages) && (list_all (has_page s) s.judgements && list_all (has_page s) s.outcomes)
+are_housed s =
+    ((list_all (has_site s) s.members && list_all (has_site s) s.pages) && (list_all (has_page s) s.judgements && list_all (has_page s) s.outcomes))
+    && list_all (has_site s) s.languages
 
 -- ---- the tables
 
-abbrev pub tables_in : Stored → Option Tables
-tables_in s = if are_housed s then read_each (λ r. read_site (of_site (name_at 0 r) s) r) (sites_in s) else None
+abbrev pub Sites : Type 0
+Sites = List KeptSite
+
+abbrev pub sites_told : Stored → Option Sites
+sites_told s = if are_housed s then read_each (λ r. read_site (of_site (name_at 0 r) s) r) (sites_in s) else None
+
+unfoldable pub tables_in : Stored → Option Tables
+tables_in s = do
+  edition ← kept_edition (editions_at s)
+  sites ← sites_told s
+  Some (record { edition = edition; sites = sites })

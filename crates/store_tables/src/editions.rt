@@ -1,7 +1,7 @@
 //! The table of editions: how its rows are read. What is written is a number as it stands.
 
 ghost use Rattle.std.specs.Prelude.{◌≡◌, Some, IfOk};
-ghost use Rattle.store_tables.specs.Editions.{last_number, edition_shown};
+ghost use Rattle.store_tables.specs.Editions.{last_number, edition_shown, kept_edition};
 
 use crate::cells;
 use crate::fault::StoreFault;
@@ -23,4 +23,12 @@ pub fn read_edition(rows: &[Row]) -> Result<Option<u64>, StoreFault>
     ensures { IfOk result (λ found. edition_shown rows.now ≡ Some found) }
 {
     last_number(None, rows)
+}
+
+/// The edition that is kept: the greatest that is noted, and 0 where none is.
+pub fn read_kept_edition(rows: &[Row]) -> Result<u64, StoreFault>
+    ensures { IfOk result (λ number. kept_edition rows.now ≡ Some number) }
+{
+    let found = read_edition(rows)?;
+    Ok(found.unwrap_or(0))
 }

@@ -3,10 +3,12 @@
 
 ghost use Rattle.std.specs.List.{All};
 ghost use Rattle.keep_core.specs.declared.page.PagePut.{PagePut};
+ghost use Rattle.keep_core.specs.declared.page.PageOutcomes.{PageOutcomes};
+ghost use Rattle.judge_core.specs.declared.judgement.Judgement.{Judgement};
 ghost use Rattle.store_tables.specs.Numbers.{AreNumbers, HasNumbers, IsNumbered};
 
-use judge_core::OutRow;
-use keep_core::{Change, PagePut};
+use judge_core::{Judgement, OutRow};
+use keep_core::{Change, PageOutcomes, PagePut};
 use rule_core::RuleNo;
 use snap_tree::NodeId;
 
@@ -33,20 +35,39 @@ fn see_pages(puts: &[PagePut])
     }
 }
 
+fn see_judgements(js: &[Judgement])
+    ensures { All (λ (j : Judgement). AreNumbers j.rule.0 j.node.0) js.now }
+{
+    for j in js {
+        see(j.rule, j.node);
+    }
+}
+
+fn see_outcomes(pages: &[PageOutcomes])
+    ensures { All (λ (o : PageOutcomes). All HasNumbers o.outcomes.rows) pages.now }
+{
+    for page in pages {
+        see_rows(page.outcomes.rows.as_slice());
+    }
+}
+
 /// Reads the rules and nodes of a change, which have their numbers.
 pub fn see_numbers(change: &Change)
     ensures { IsNumbered change.now }
 {
     match change {
         Change::PutPages { pages, .. } => see_pages(pages.as_slice()),
-        Change::AddJudgement {
-            judgement,
+        Change::AddJudgements {
+            judgements,
             outcomes,
             ..
         } => {
-            see(judgement.rule, judgement.node);
+            see_judgements(judgements.as_slice());
             see_rows(outcomes.rows.as_slice());
         }
-        Change::PutSite { .. } | Change::DropPage { .. } => {}
+        Change::PutLanguages { pages, .. } | Change::Refresh { pages, .. } => {
+            see_outcomes(pages.as_slice());
+        }
+        Change::PutSite { .. } | Change::DropPage { .. } | Change::SetEdition { .. } => {}
     }
 }

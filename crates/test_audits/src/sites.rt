@@ -136,7 +136,7 @@ static RECORDED: [Row; 5] = [
         Auto::Passed,
         "\u{416}\r\n\u{540d}\u{524d}",
     ),
-    (31, 1, Auto::Failed, Reason::NoName, Auto::Failed, ""),
+    (41, 1, Auto::Failed, Reason::NoName, Auto::Failed, ""),
 ];
 
 // (the name and the form are what `tools/read-reports` looks for)

@@ -30,6 +30,7 @@ fn line_of(alloc: Global, command: Option<ProgramCommand>) -> Result<String, All
         Some(ProgramCommand::Generate(Generating { number, pages })) => {
             format!(in alloc; "number {number} pages {pages}")
         }
+        Some(ProgramCommand::Cases) => String::from_str(alloc, "cases"),
         Some(ProgramCommand::Show(Showing { form, site })) => {
             let form = form.word();
             let site = site.as_str();
@@ -39,7 +40,7 @@ fn line_of(alloc: Global, command: Option<ProgramCommand>) -> Result<String, All
 }
 
 // Words with one space between, and the command that they are.
-static WORDS: [(&str, &str); 38] = [
+static WORDS: [(&str, &str); 42] = [
     ("", ""),
     ("audit", "audit"),
     ("audit --", "audit"),
@@ -86,6 +87,10 @@ static WORDS: [(&str, &str); 38] = [
     ("generate 1 65", ""),
     ("generate 1", ""),
     ("generate 1 2 3", ""),
+    ("cases", "cases"),
+    ("cases --", "cases"),
+    ("cases x", ""),
+    ("Cases", ""),
     ("report acme", "report of acme"),
     ("earl a.b", "earl of a.b"),
     ("csv -- --x", "csv of --x"),

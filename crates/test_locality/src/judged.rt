@@ -1,7 +1,7 @@
 use crate::reach::{Less, Place, add_class};
 use crate::values::{Key, add_part, value};
+use book_forty::{Forty, infos_forty};
 use fixture_sketches::Trouble;
-use rule_book::{Thirty, infos};
 use rule_core::{Auto, Class, RuleBook, RuleInfo, Verdict};
 use snap_tree::{NodeId, Tree};
 use std::alloc::Global;
@@ -26,7 +26,7 @@ fn shown(alloc: Global, verdict: &Option<Verdict>) -> Result<String, Trouble> {
 
 // What a rule says of a node, as a text; no character where it isn't a target.
 fn said(alloc: Global, info: &RuleInfo, tree: &Tree, n: NodeId) -> Result<String, Trouble> {
-    let mut book = Thirty::new();
+    let mut book = Forty::new();
     let verdict = book.judge(alloc, tree, info.no, n)?;
     shown(alloc, &verdict)
 }
@@ -122,6 +122,55 @@ fn expects(info: &RuleInfo, less: Less) -> Class {
     }
 }
 
+// Whether two pages agree on what a class looks at, of one node, for each class that was asked for.
+type Answers = Vec<(Class, bool)>;
+
+fn known(answers: &[(Class, bool)], class: Class) -> Option<bool> {
+    for (asked, answer) in answers {
+        if *asked == class {
+            return Some(*answer);
+        }
+    }
+    None
+}
+
+// Whether two pages agree on what a class looks at, of the node of these answers.
+fn agree_on(
+    alloc: Global,
+    answers: &mut Answers,
+    pair: &Pair<'_>,
+    class: Class,
+    n: NodeId,
+) -> Result<bool, Trouble> {
+    if let Some(answer) = known(answers.as_slice(), class) {
+        return Ok(answer);
+    }
+    let mut keys = Vec::new(alloc);
+    add_class(&mut keys, pair.old, class, n)?;
+    let answer = agree(alloc, pair, keys.as_slice())?;
+    answers.push((class, answer))?;
+    Ok(answer)
+}
+
+// Whether two pages agree on all that a rule looks at, of the node of these answers. What its expectations look at counts
+// where the node is a target.
+fn agrees_by(
+    alloc: Global,
+    answers: &mut Answers,
+    info: &RuleInfo,
+    pair: &Pair<'_>,
+    n: NodeId,
+) -> Result<bool, Trouble> {
+    let Place { tree, less } = pair.old;
+    if !agree_on(alloc, answers, pair, applies(info, less), n)? {
+        return Ok(false);
+    }
+    if agree_on(alloc, answers, pair, expects(info, less), n)? {
+        return Ok(true);
+    }
+    Ok(said(alloc, info, tree, n)?.is_empty())
+}
+
 /// Whether two pages agree on all that a rule looks at, of a node.
 pub(crate) fn agrees(
     alloc: Global,
@@ -129,13 +178,8 @@ pub(crate) fn agrees(
     pair: &Pair<'_>,
     n: NodeId,
 ) -> Result<bool, Trouble> {
-    let place = pair.old;
-    let mut keys = Vec::new(alloc);
-    add_class(&mut keys, place, applies(info, place.less), n)?;
-    if !said(alloc, info, place.tree, n)?.is_empty() {
-        add_class(&mut keys, place, expects(info, place.less), n)?;
-    }
-    agree(alloc, pair, keys.as_slice())
+    let mut answers = Vec::new(alloc);
+    agrees_by(alloc, &mut answers, info, pair, n)
 }
 
 /// Whether a rule says the same of a node on both pages, where they agree on what it looks at.
@@ -154,7 +198,7 @@ pub(crate) fn keeps(
 }
 
 fn all_keep(alloc: Global, pair: &Pair<'_>, n: NodeId) -> Result<bool, Trouble> {
-    for info in infos() {
+    for info in infos_forty() {
         if !keeps(alloc, info, pair, n)? {
             return Ok(false);
         }
@@ -175,7 +219,7 @@ pub(crate) fn pages_keep(alloc: Global, old: &Tree, new: &Tree) -> Result<bool, 
 
 /// What the rule of a number says of itself.
 pub(crate) fn info_of(number: u32) -> Result<RuleInfo, Trouble> {
-    for info in infos() {
+    for info in infos_forty() {
         if u32::from(info.no.0) == number {
             return Ok(*info);
         }
@@ -191,28 +235,35 @@ pub(crate) fn whole(tree: &Tree) -> Place<'_> {
     }
 }
 
-fn is_affected(
+// By how many atomic rules a node of the new page is affected.
+fn affected_at(
     alloc: Global,
-    info: &RuleInfo,
+    infos: &[RuleInfo],
     pair: &Pair<'_>,
     n: NodeId,
-) -> Result<bool, Trouble> {
-    if pair.old.tree.node(n).is_none() {
-        return Ok(true);
+) -> Result<u64, Trouble> {
+    let is_new = pair.old.tree.node(n).is_none();
+    let mut answers = Vec::new(alloc);
+    let mut count: u64 = 0;
+    for info in infos {
+        if info.is_atomic() && (is_new || !agrees_by(alloc, &mut answers, info, pair, n)?) {
+            count = count.saturating_add(1);
+        }
     }
-    Ok(!agrees(alloc, info, pair, n)?)
+    Ok(count)
 }
 
-/// How many pairs of an atomic rule and a node of the new page an edit affects.
-pub(crate) fn affected(alloc: Global, old: &Tree, new: &Tree) -> Result<u64, Trouble> {
+/// How many pairs of an atomic rule, of those that say this of themselves, and a node of the new page an edit affects.
+pub(crate) fn affected(
+    alloc: Global,
+    infos: &[RuleInfo],
+    old: &Tree,
+    new: &Tree,
+) -> Result<u64, Trouble> {
     let pair = compared(alloc, whole(old), new)?;
     let mut count: u64 = 0;
-    for info in infos() {
-        for row in new.rows() {
-            if info.is_atomic() && is_affected(alloc, info, &pair, row.id)? {
-                count = count.saturating_add(1);
-            }
-        }
+    for row in new.rows() {
+        count = count.saturating_add(affected_at(alloc, infos, &pair, row.id)?);
     }
     Ok(count)
 }

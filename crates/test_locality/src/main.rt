@@ -6,6 +6,7 @@
 #![tactic(auto)]
 
 mod again;
+mod books;
 mod cases;
 mod judged;
 mod random;
@@ -20,7 +21,9 @@ use fixture_sketches::{Trouble, cut};
 use std::process::ExitCode;
 use std::{fs, io};
 
-static FILES: [&str; 6] = ["costs", "keeps", "limits", "lists", "random", "untrue"];
+static FILES: [&str; 7] = [
+    "costs", "forty", "keeps", "limits", "lists", "random", "untrue",
+];
 
 /// How many lines held, and how many didn't.
 #[derive(Clone, Copy)]

@@ -3,6 +3,7 @@
 ghost use Rattle.std.specs.Prelude.{◌≡◌, IfOk, IfSome};
 
 use crate::again::audited_again;
+use crate::books::Book;
 use crate::cases::{page, relisted};
 use crate::judged::affected;
 use crate::steps::{Told, held};
@@ -23,7 +24,12 @@ const MOST_NODES: u32 = 14;
 const MOST_EDITS: u64 = 3;
 
 // What a page begins with: a root, and an element that owns others where their ids are there.
-static ROOTS: [&str; 3] = ["1 0 html", "1 0 html lang=gsw-CH", "1 0 html lang=xxx"];
+static ROOTS: [&str; 4] = [
+    "1 0 html",
+    "1 0 html lang=gsw-CH",
+    "1 0 html lang=xxx",
+    "1 0 html lang=gsw xml:lang=gsw-CH",
+];
 
 static OWNERS: [&str; 6] = [
     "2 1 div role=list aria-owns=a~b",
@@ -39,7 +45,7 @@ static TAGS: [&str; 16] = [
     "img", "main", "svg:svg",
 ];
 
-static ATTRIBUTES: [&str; 28] = [
+static ATTRIBUTES: [&str; 29] = [
     "id=a",
     "id=a",
     "id=a",
@@ -56,6 +62,7 @@ static ATTRIBUTES: [&str; 28] = [
     "title=t",
     "role=list",
     "role=listitem",
+    "role=menuitem",
     "role=none",
     "aria-hidden=true",
     "aria-label=n",
@@ -89,8 +96,8 @@ static NAMES: [&str; 15] = [
     "aria-owns",
 ];
 
-static VALUES: [&str; 10] = [
-    "a", "b", "a b", "b c a", "true", "list", "gsw", "xx", "5", "",
+static VALUES: [&str; 11] = [
+    "a", "b", "a b", "b c a", "true", "list", "menuitem", "gsw", "xx", "5", "",
 ];
 
 static WORDS: [&str; 4] = ["One", "Two", "Go", ""];
@@ -226,13 +233,36 @@ fn edits(alloc: Global, dice: &mut Dice, old: &Tree) -> Result<Vec<Edit>, Troubl
 
 static LISTS: [&str; 4] = ["", "gsw", "haw gsw", "haw"];
 
+/// By which book pages are judged, and whether the site's list of language subtags may be another one beside the edits.
+#[derive(Clone, Copy)]
+struct Trial {
+    book: Book,
+    has_lists: bool,
+}
+
+// What the words behind a seed say.
+fn trial_of(words: &str) -> Result<Trial, Trouble> {
+    let (book, rest) = match words.strip_prefix("forty") {
+        Some(rest) => (Book::Forty, rest.trim_start()),
+        None => (Book::Thirty, words),
+    };
+    match rest {
+        "" | "lists" => Ok(Trial {
+            book,
+            has_lists: !rest.is_empty(),
+        }),
+        _ => Err(Trouble::NotInForm),
+    }
+}
+
 // The language subtags that a page's site accepts.
 fn list(dice: &mut Dice, has_lists: bool) -> &'static str {
     if has_lists { dice.pick(&LISTS, "") } else { "" }
 }
 
 // Whether a page was edited, beside which its list may be another one; None where the audit after that isn't as it has to be.
-fn is_edited(alloc: Global, dice: &mut Dice, has_lists: bool) -> Result<Option<bool>, Trouble> {
+fn is_edited(alloc: Global, dice: &mut Dice, trial: Trial) -> Result<Option<bool>, Trouble> {
+    let Trial { book, has_lists } = trial;
     let text = page_text(alloc, dice)?;
     let old = page(alloc, text.as_str())?;
     let old = relisted(alloc, &old, list(dice, has_lists))?;
@@ -241,16 +271,16 @@ fn is_edited(alloc: Global, dice: &mut Dice, has_lists: bool) -> Result<Option<b
         return Ok(Some(false));
     };
     let new = relisted(alloc, &new, list(dice, has_lists))?;
-    let (cost, same) = audited_again(alloc, &old, &new)?;
-    let holds = same & (cost == affected(alloc, &old, &new)?);
+    let (cost, same) = audited_again(alloc, book, &old, &new)?;
+    let holds = same & (cost == affected(alloc, book.infos(), &old, &new)?);
     Ok(holds.then_some(!edits.is_empty()))
 }
 
-fn pages_are_edited(alloc: Global, seed: u64, has_lists: bool) -> Result<Told, Trouble> {
+fn pages_are_edited(alloc: Global, seed: u64, trial: Trial) -> Result<Told, Trouble> {
     let mut dice = Dice::new(seed);
     let mut count: u64 = 0;
     for place in 0..PAGES {
-        match is_edited(alloc, &mut dice, has_lists)? {
+        match is_edited(alloc, &mut dice, trial)? {
             Some(is) => count = count.saturating_add(u64::from(is)),
             None => return Ok(Told::Fails("wrong after its edits is page", u64::from(place))),
         }
@@ -261,5 +291,5 @@ fn pages_are_edited(alloc: Global, seed: u64, has_lists: bool) -> Result<Told, T
 /// Tries edits at random of a seed's pages.
 pub(crate) fn at_random(alloc: Global, words: &str) -> Result<Told, Trouble> {
     let (seed, more) = cut(words, ' ');
-    pages_are_edited(alloc, u64::from(number(seed)?), more == "lists")
+    pages_are_edited(alloc, u64::from(number(seed)?), trial_of(more)?)
 }

@@ -5,15 +5,17 @@
 //! | `page TEXT` | the lines behind it speak of this page |
 //! | `langs BEFORE > AFTER` | its site accepts these language subtags, before and after |
 //! | `costs SUM \| TEXT` | the audit after the edit to this page judges so many pairs, as a plain program finds affected, with the outcomes of a full one |
+//! | `forty SUM \| TEXT` | the same by the book of forty |
 //! | `keeps TEXT` | each rule says the same of each node of this page, where the pages agree on what it looks at |
 //! | `agrees RULE NODE \| TEXT`, `differs ..` | whether this page agrees on what a rule looks at, of a node |
 //! | `untrue RULE NODE LESS \| TEXT` | the rule says another thing of the node, although this page agrees on its reach where that is smaller |
-//! | `random SEED`, `random SEED lists` | edits at random judge what they affect |
+//! | `random SEED`, `random SEED lists`, `random SEED forty`, `random SEED forty lists` | edits at random judge what they affect |
 //!
 //! A page is written as `fixture_pages` says, and `{1 9 a}` in it stands for the text once for each of these numbers: $n is
 //! the number, $m the one before it.
 
 use crate::again::audited_again;
+use crate::books::Book;
 use crate::cases::{Case, pair};
 use crate::judged::{affected, agrees, compared, info_of, keeps, pages_keep, whole};
 use crate::random::at_random;
@@ -46,7 +48,8 @@ pub(crate) fn held(holds: bool, wrong: &'static str, number: u64) -> Told {
 pub(crate) fn said(alloc: Global, case: Case<'_>, word: &str, rest: &str) -> Result<Told, Trouble> {
     match word {
         "" | "#" | "page" | "langs" => Ok(Told::Nothing),
-        "costs" => costs(alloc, case, rest),
+        "costs" => costs(alloc, Book::Thirty, case, rest),
+        "forty" => costs(alloc, Book::Forty, case, rest),
         "keeps" => each_keeps(alloc, case, rest),
         "agrees" => agreed(alloc, case, rest, true),
         "differs" => agreed(alloc, case, rest, false),
@@ -62,12 +65,12 @@ fn parts(line: &str) -> (&str, &str) {
     (asked, text.trim_start())
 }
 
-fn costs(alloc: Global, case: Case<'_>, line: &str) -> Result<Told, Trouble> {
+fn costs(alloc: Global, book: Book, case: Case<'_>, line: &str) -> Result<Told, Trouble> {
     let (due, text) = parts(line);
     let due = sum(due)?;
     let (old, new) = pair(alloc, case, text)?;
-    let (cost, same) = audited_again(alloc, &old, &new)?;
-    let pairs = affected(alloc, &old, &new)?;
+    let (cost, same) = audited_again(alloc, book, &old, &new)?;
+    let pairs = affected(alloc, book.infos(), &old, &new)?;
     let holds = same & (cost == due) & (pairs == due);
     Ok(held(holds, "other outcomes, or so many pairs:", cost))
 }

@@ -3,9 +3,9 @@
 //! | step | answer |
 //! |---|---|
 //! | `rule ID` | a line for each target: node, outcome, reason, evidence |
-//! | `book` | the same for all rules, behind their numbers, and how many judgings that took |
-//! | `judge RULE NODE, ..` | the number of judgings so far, and what the rule of a number says of a node |
-//! | `rules` | what each rule says of itself |
+//! | `book`, `book forty` | the same for all rules of a book, behind their numbers, and how many judgings that took |
+//! | `judge RULE NODE, ..`, `judge forty RULE NODE, ..` | the number of judgings so far, and what the rule of a number says of a node |
+//! | `rules`, `rules forty` | what each rule of a book says of itself |
 //! | `gives` | the page, as it is written after `page` |
 //! | `refused` | the fault of the page, or the index and the fault of an edit |
 //! | `name N`, `named N` | the name and its source; whether there is one within the limits |
@@ -50,7 +50,7 @@ pub(crate) fn answer(
         return one(alloc, line);
     }
     match word {
-        "rules" => table(alloc),
+        "rules" => table(alloc, rest),
         _ => of_page(alloc, state.tree()?, word, rest),
     }
 }
@@ -106,7 +106,7 @@ fn of_page(alloc: Global, tree: &Tree, word: &str, rest: &str) -> Result<Vec<Str
         "gives" => page_lines(alloc, tree),
         "rule" => rule(alloc, tree, rest),
         "cells" => cells(alloc, tree, rest),
-        "book" => book(alloc, tree),
+        "book" => book(alloc, tree, rest),
         "judge" => judge(alloc, tree, rest),
         _ => looked_up(alloc, tree, word, rest),
     }

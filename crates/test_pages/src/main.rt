@@ -1,7 +1,8 @@
 //! Judges pages that are written as text, against what is expected of them: what rules say, names, roles, edits,
 //! snapshots. Each file `NAME.pages` of the folder that it runs in has cases, or each that is named as a word of the
-//! command. A line is printed for each expectation that doesn't hold, and at the end how many held and how many didn't.
-//! Start with `try_file` of `cases.rt`; the words of a case are those of `answers.rt` and `sources.rt`.
+//! command, and its last line says how many expectations it has. A line is printed for each expectation that doesn't
+//! hold and for each file of another count, and at the end how many there were. Start with `try_file` of `cases.rt`; the
+//! words of a case are those of `answers.rt` and `sources.rt`.
 #![tactic(auto)]
 
 mod answers;
@@ -47,38 +48,37 @@ fn files(rt: &HostRuntime) -> io::Result<Vec<String>> {
     Ok(files)
 }
 
-/// How many expectations held, and how many didn't.
-#[derive(Clone, Copy)]
-struct Count {
-    passed: u64,
-    failed: u64,
+// How many expectations a file has by its last line.
+fn stated(text: &str) -> Option<u64> {
+    let last = text.lines().last()?;
+    let count = last.strip_prefix("# ")?.strip_suffix(" expectations")?;
+    count.parse().ok()
 }
 
-// Tries the cases of a file, and prints what doesn't hold.
-fn try_named(rt: &HostRuntime, file: &str, count: Count) -> io::Result<Count> {
+// Tries the cases of a file, and prints what doesn't hold: how many lines it printed.
+fn try_named(rt: &HostRuntime, file: &str) -> io::Result<u64> {
     let text = fs::read_to_string(rt, file)?;
     let mut tally = Tally::new(rt.alloc());
-    let mut failed = count.failed;
+    let mut failed = 0;
     if try_file(rt.alloc(), &mut tally, file, text.as_str()).is_err() {
         println!(rt; "{file}: out of memory")?;
-        failed = failed.saturating_add(1);
+        failed = 1;
     }
     print!(rt; "{}", tally.said)?;
-    Ok(Count {
-        passed: count.passed.saturating_add(tally.passed),
-        failed: failed.saturating_add(tally.failed),
-    })
+    let count = tally.passed.saturating_add(tally.failed);
+    if stated(text.as_str()) != Some(count) {
+        println!(rt; "{file}: {count} expectations, which its last line doesn't say")?;
+        failed = 1;
+    }
+    Ok(tally.failed.saturating_add(failed))
 }
 
 fn main(rt: HostRuntime) -> io::Result<ExitCode> {
-    let mut count = Count {
-        passed: 0,
-        failed: 0,
-    };
-    for file in files(&rt)? {
-        count = try_named(&rt, file.as_str(), count)?;
+    let files = files(&rt)?;
+    let mut failed = u64::from(files.is_empty());
+    for file in files {
+        failed = failed.saturating_add(try_named(&rt, file.as_str())?);
     }
-    let Count { passed, failed } = count;
-    println!(rt; "{passed} passed, {failed} failed")?;
+    println!(rt; "{failed} failed")?;
     Ok(ExitCode::from(u8::from(failed > 0)))
 }

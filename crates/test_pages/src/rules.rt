@@ -1,5 +1,6 @@
 //! What rules say of a page.
 
+use book_forty::{Forty, infos_forty};
 use fixture_sketches::{Trouble, cut, number, push_quoted};
 use rule_book::{Thirty, infos};
 use rule_core::{Auto, NodeVerdict, RuleBook, RuleInfo, RuleNo, Verdict};
@@ -8,8 +9,8 @@ use std::alloc::Global;
 
 /// What the rule of an id says of a page: a line for each target, as `3 passed ok "button\nGo"`.
 pub(crate) fn rule(alloc: Global, tree: &Tree, id: &str) -> Result<Vec<String>, Trouble> {
-    let mut book = Thirty::new();
-    for info in infos() {
+    let mut book = Forty::new();
+    for info in infos_forty() {
         if info.id.as_slice() == id.as_bytes() {
             return judged(alloc, &mut book, tree, info.no);
         }
@@ -17,14 +18,26 @@ pub(crate) fn rule(alloc: Global, tree: &Tree, id: &str) -> Result<Vec<String>, 
     Err(Trouble::NotInForm)
 }
 
-/// What all rules of the book say of a page, each line behind the rule's number; at the end how many judgings
+/// What all rules of a book say of a page, each line behind the rule's number; at the end how many judgings
 /// that took, by nodes and by pages.
-pub(crate) fn book(alloc: Global, tree: &Tree) -> Result<Vec<String>, Trouble> {
-    let mut nodes = Thirty::new();
+pub(crate) fn book(alloc: Global, tree: &Tree, named: &str) -> Result<Vec<String>, Trouble> {
+    match named {
+        "" => all_said(alloc, &mut Thirty::new(), infos(), tree),
+        "forty" => all_said(alloc, &mut Forty::new(), infos_forty(), tree),
+        _ => Err(Trouble::NotInForm),
+    }
+}
+
+fn all_said<B: RuleBook>(
+    alloc: Global,
+    nodes: &mut B,
+    infos: &[RuleInfo],
+    tree: &Tree,
+) -> Result<Vec<String>, Trouble> {
     let mut lines = Vec::new(alloc);
-    for info in infos() {
+    for info in infos {
         let no = info.no.0;
-        for line in by_nodes(alloc, &mut nodes, tree, info.no)? {
+        for line in by_nodes(alloc, nodes, tree, info.no)? {
             lines.push(format!(in alloc; "{no}: {line}")?)?;
         }
     }
@@ -33,12 +46,24 @@ pub(crate) fn book(alloc: Global, tree: &Tree) -> Result<Vec<String>, Trouble> {
     Ok(lines)
 }
 
-/// What rules say of nodes by their numbers, as `30 1`, with the number of judgings of one book so far.
+/// What rules say of nodes by their numbers, as `30 1`, with the number of judgings of one book so far; of the book of
+/// forty behind `forty`.
 pub(crate) fn judge(alloc: Global, tree: &Tree, asked: &str) -> Result<Vec<String>, Trouble> {
-    let mut book = Thirty::new();
+    match asked.strip_prefix("forty ") {
+        Some(asked) => judgings(alloc, &mut Forty::new(), tree, asked),
+        None => judgings(alloc, &mut Thirty::new(), tree, asked),
+    }
+}
+
+fn judgings<B: RuleBook>(
+    alloc: Global,
+    book: &mut B,
+    tree: &Tree,
+    asked: &str,
+) -> Result<Vec<String>, Trouble> {
     let mut lines = Vec::new(alloc);
     for ask in asked.split(',') {
-        lines.push(judging(alloc, &mut book, tree, ask.trim())?)?;
+        lines.push(judging(alloc, book, tree, ask.trim())?)?;
     }
     Ok(lines)
 }
@@ -50,7 +75,12 @@ fn pair_of(ask: &str) -> Result<(RuleNo, NodeId), Trouble> {
     Ok((RuleNo(rule), NodeId(number(node)?)))
 }
 
-fn judging(alloc: Global, book: &mut Thirty, tree: &Tree, ask: &str) -> Result<String, Trouble> {
+fn judging<B: RuleBook>(
+    alloc: Global,
+    book: &mut B,
+    tree: &Tree,
+    ask: &str,
+) -> Result<String, Trouble> {
     let (rule, node) = pair_of(ask)?;
     let verdict = book.judge(alloc, tree, rule, node)?;
     let calls = book.calls();
@@ -64,9 +94,9 @@ fn judging(alloc: Global, book: &mut Thirty, tree: &Tree, ask: &str) -> Result<S
 
 // What a rule says of each node of a page by itself, of numbers that are no nodes, and of the page as a whole,
 // where that is something else.
-fn judged(
+fn judged<B: RuleBook>(
     alloc: Global,
-    book: &mut Thirty,
+    book: &mut B,
     tree: &Tree,
     rule: RuleNo,
 ) -> Result<Vec<String>, Trouble> {
@@ -88,9 +118,9 @@ fn push_all(alloc: Global, lines: &mut Vec<String>, of_page: Vec<String>) -> Res
     Ok(())
 }
 
-fn by_nodes(
+fn by_nodes<B: RuleBook>(
     alloc: Global,
-    book: &mut Thirty,
+    book: &mut B,
     tree: &Tree,
     rule: RuleNo,
 ) -> Result<Vec<String>, Trouble> {
@@ -101,10 +131,10 @@ fn by_nodes(
     Ok(lines)
 }
 
-fn add(
+fn add<B: RuleBook>(
     alloc: Global,
     lines: &mut Vec<String>,
-    book: &mut Thirty,
+    book: &mut B,
     tree: &Tree,
     rule: RuleNo,
     node: NodeId,
@@ -115,9 +145,9 @@ fn add(
     Ok(())
 }
 
-fn by_page(
+fn by_page<B: RuleBook>(
     alloc: Global,
-    book: &mut Thirty,
+    book: &mut B,
     tree: &Tree,
     rule: RuleNo,
 ) -> Result<Vec<String>, Trouble> {
@@ -159,15 +189,27 @@ pub(crate) fn outcome(auto: Auto) -> &'static str {
     }
 }
 
-/// What all rules say of themselves: the number, the id, what applicability and expectations look at, and the inputs.
-pub(crate) fn table(alloc: Global) -> Result<Vec<String>, Trouble> {
-    let book = Thirty::new();
+/// What all rules of a book say of themselves: the number, the id, what applicability and expectations look at, and the
+/// inputs.
+pub(crate) fn table(alloc: Global, named: &str) -> Result<Vec<String>, Trouble> {
+    match named {
+        "" => all_infos(alloc, &Thirty::new(), infos()),
+        "forty" => all_infos(alloc, &Forty::new(), infos_forty()),
+        _ => Err(Trouble::NotInForm),
+    }
+}
+
+fn all_infos<B: RuleBook>(
+    alloc: Global,
+    book: &B,
+    infos: &[RuleInfo],
+) -> Result<Vec<String>, Trouble> {
     let mut lines = Vec::new(alloc);
-    for place in 0..infos().len().saturating_add(1) {
+    for place in 0..infos.len().saturating_add(1) {
         if let Some(info) = book.info(place) {
             lines.push(info_line(alloc, &info)?)?;
         }
-        if book.info(place) != infos().get(place).copied() {
+        if book.info(place) != infos.get(place).copied() {
             lines.push(String::from_str(alloc, "but the book has another")?)?;
         }
     }

@@ -1,7 +1,7 @@
-//! The words that a program's arguments give after the store's name, or the status that it ends with by them.
+//! The book, the store and the words that a program's arguments name, or the status that it ends with by them.
 
-use desk_run::{Found, Status, status_of, words_in};
-use snap_tree::{List, OutOfMemory, Text};
+use desk_run::{BookName, Found, Status, Task, read_arguments, status_of};
+use snap_tree::OutOfMemory;
 use std::alloc::Global;
 use std::env;
 use std::env::FillError;
@@ -33,36 +33,84 @@ impl Env for Arguments {
     }
 }
 
-// Arguments, and the status that the program ends with by them; none where they have the words of a
-// command.
-static ARGUMENTS: [(Arguments, Option<Status>); 6] = [
-    (Arguments(&[b"act_desk", b"-", b"audit"]), None),
-    (Arguments(&[b"act_desk", b"-", b"audit", b"x"]), None),
-    (Arguments(&[]), Some(Status::UsageFault)),
-    (Arguments(&[b"act_desk"]), Some(Status::UsageFault)),
-    (Arguments(&[b"act_desk", b"-"]), Some(Status::UsageFault)),
+// Arguments, and the book that they name with how many words stand behind the store's name, or the status that the program
+// ends with by them.
+static ARGUMENTS: [(Arguments, Result<(BookName, usize), Status>); 16] = [
+    (
+        Arguments(&[b"act_desk", b"-", b"audit"]),
+        Ok((BookName::Thirty, 1)),
+    ),
+    (
+        Arguments(&[b"act_desk", b"-", b"audit", b"x"]),
+        Ok((BookName::Thirty, 2)),
+    ),
+    (Arguments(&[]), Err(Status::UsageFault)),
+    (Arguments(&[b"act_desk"]), Err(Status::UsageFault)),
+    (Arguments(&[b"act_desk", b"-"]), Err(Status::UsageFault)),
     (
         Arguments(&[b"act_desk", b"-", b"\xff"]),
-        Some(Status::UsageFault),
+        Err(Status::UsageFault),
+    ),
+    (
+        Arguments(&[b"act_desk", b"\xff", b"audit"]),
+        Err(Status::StoreFault),
+    ),
+    (
+        Arguments(&[b"act_desk", b"forty", b"-", b"audit"]),
+        Ok((BookName::Forty, 1)),
+    ),
+    (
+        Arguments(&[b"act_desk", b"forty", b"a.db", b"csv", b"acme"]),
+        Ok((BookName::Forty, 2)),
+    ),
+    (
+        Arguments(&[b"act_desk", b"./forty", b"audit"]),
+        Ok((BookName::Thirty, 1)),
+    ),
+    (
+        Arguments(&[b"act_desk", b"Forty", b"audit"]),
+        Ok((BookName::Thirty, 1)),
+    ),
+    (
+        Arguments(&[b"act_desk", b"fort", b"audit"]),
+        Ok((BookName::Thirty, 1)),
+    ),
+    (
+        Arguments(&[b"act_desk", b"forty", b"forty", b"audit"]),
+        Ok((BookName::Forty, 1)),
+    ),
+    (Arguments(&[b"act_desk", b"forty"]), Err(Status::UsageFault)),
+    (
+        Arguments(&[b"act_desk", b"forty", b"-"]),
+        Err(Status::UsageFault),
+    ),
+    (
+        Arguments(&[b"act_desk", b"forty", b"\xff", b"audit"]),
+        Err(Status::StoreFault),
     ),
 ];
 
-fn words<R: Env + AllocGlobal>(rt: &R) -> Result<List<Text>, Found> {
-    words_in(rt.alloc(), env::args(rt)?)
-}
-
-fn status_by(alloc: Global, arguments: &Arguments) -> Result<Option<Status>, Fail> {
-    match words(&(arguments, alloc)) {
-        Ok(_) => Ok(None),
+fn asked_by(
+    alloc: Global,
+    arguments: &Arguments,
+) -> Result<Result<(BookName, usize), Status>, Fail> {
+    match read_arguments(&(arguments, alloc)) {
+        Ok(
+            Task {
+                book,
+                store: _,
+                words,
+            },
+        ) => Ok(Ok((book, words.len()))),
         Err(Found::NoMemory) => Err(Fail::from(OutOfMemory)),
-        Err(found) => Ok(Some(status_of(&found))),
+        Err(found) => Ok(Err(status_of(&found))),
     }
 }
 
 #[test]
-fn arguments_give_words_or_a_status(rt: HostRuntime) -> Result<(), Fail> {
+fn arguments_give_a_book_and_words_or_a_status(rt: HostRuntime) -> Result<(), Fail> {
     for (arguments, wanted) in ARGUMENTS.as_slice() {
-        assert_eq!(rt; status_by(rt.alloc(), arguments)?, *wanted);
+        assert_eq!(rt; asked_by(rt.alloc(), arguments)?, *wanted);
     }
     Ok(())
 }

@@ -8,6 +8,8 @@ use std::alloc::Global;
 /// A call of a keeper.
 #[derive(Clone, Copy, Debug, PartialEq, Eq)]
 pub enum Call {
+    Edition,
+    Sites,
     Site,
     Load,
     List,
@@ -16,7 +18,7 @@ pub enum Call {
     Apply,
 }
 
-/// Which calls came: the last one, and all since the trail was looked at, a digit to the base eight for each.
+/// Which calls came: the last one, and all since the trail was looked at, a digit to the base sixteen for each.
 #[derive(Clone, Copy)]
 struct Noted {
     last: Option<Call>,
@@ -41,8 +43,10 @@ pub fn trail_with(trail: u64, call: Call) -> u64 {
         Call::Judgements => 4,
         Call::Outcomes => 5,
         Call::Apply => 6,
+        Call::Edition => 7,
+        Call::Sites => 8,
     };
-    trail.wrapping_mul(8).wrapping_add(digit)
+    trail.wrapping_mul(16).wrapping_add(digit)
 }
 
 /// A keeper over one in memory that tells its tables until its first fault, as a store does that is shut
@@ -81,6 +85,16 @@ impl Keeper for Doubtful {
     ghost tables = { λ k. told_until_fault k.memory.faults k.memory.tables };
 
     ghost faults = { λ k. k.memory.faults };
+
+    fn edition(&mut self, alloc: Global) -> Result<u64, KeepFault> {
+        self.noted = self.noted.and(Call::Edition);
+        self.memory.edition(alloc)
+    }
+
+    fn sites(&mut self, alloc: Global) -> Result<List<Text>, KeepFault> {
+        self.noted = self.noted.and(Call::Sites);
+        self.memory.sites(alloc)
+    }
 
     fn site(&mut self, alloc: Global, site: &Text) -> Result<Option<Site>, KeepFault> {
         self.noted = self.noted.and(Call::Site);

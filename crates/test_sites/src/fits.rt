@@ -1,12 +1,13 @@
-//! Names, and a site, that fit a change of what is kept.
+//! Names, lists of languages and a site that fit a change of what is kept.
 
 ghost use Rattle.std.specs.Prelude.{◌≡◌, ◌∷◌, [], IsTrue, IfOk};
+ghost use Rattle.snap_tree.specs.Langs.{AreLangs};
 ghost use Rattle.keep_core.specs.Fits.{FitsSite};
 ghost use Rattle.keep_core.specs.Names.{is_name};
 ghost use Rattle.keep_core.specs.declared.member.MemberRole.TheVariants.{Owner};
 
 use keep_core::{Member, MemberRole, Site, is_name};
-use snap_tree::{List, OutOfMemory, Text};
+use snap_tree::{List, OutOfMemory, Text, langs_fault};
 use std::alloc::Global;
 use std::test::Fail;
 
@@ -20,6 +21,13 @@ pub fn named(alloc: Global, text: &str) -> Result<Text, Fail>
         return Err(Fail::from("no name"));
     }
     Ok(name)
+}
+
+/// Whether a list is one of languages.
+pub fn are_langs(languages: &List<Text>) -> bool
+    ensures { IsTrue result → AreLangs languages.now }
+{
+    langs_fault(languages).is_none()
 }
 
 fn owners(alloc: Global, user: Text) -> Result<List<Member>, OutOfMemory>
@@ -42,5 +50,6 @@ pub fn site(alloc: Global) -> Result<Site, Fail>
         name,
         counter: 0,
         members,
+        languages: List::from_vec(Vec::new(alloc)),
     })
 }

@@ -1,16 +1,19 @@
 //! What a keeper answers of what it keeps.
 
-ghost use Rattle.std.specs.Prelude.{◌≡◌, ◌∷◌, [], IfOk};
+ghost use Rattle.std.specs.Prelude.{◌≡◌, ◌∷◌, [], IfOk, IsTrue};
+ghost use Rattle.snap_tree.specs.Langs.{AreLangs};
 ghost use Rattle.keep_core.specs.Fits.{Fits, FitsPage};
+ghost use Rattle.keep_core.specs.Names.{is_name};
 
 use crate::asked::keeper_failing;
 use crate::doubtful::Doubtful;
-use crate::fits::{named, site};
+use crate::fits::{are_langs, named, site};
 use crate::soundness::is_sound;
 use fixture_pages::Node::Html;
 use judge_core::{Judgement, OutRow, Outcomes};
 use keep_core::{
-    Batch, Change, Keeper, MemoryKeeper, Page, PageHead, PagePut, SitePage, laws_of_changes,
+    Batch, Change, Keeper, MOST_REVISION, MemoryKeeper, Page, PageHead, PageOutcomes, PagePut,
+    SitePage, laws_of_changes,
 };
 use rule_core::Auto::{CantTell, Passed};
 use rule_core::{Reason, RuleNo};
@@ -20,7 +23,7 @@ use std::process::Abort;
 use std::test::Fail;
 use web_address::is_web_address;
 
-// Changes of the site s and its page p.
+// Changes of the site s and its page p, and of the edition.
 #[derive(Clone, Copy, Debug)]
 enum Step {
     Site,
@@ -28,6 +31,11 @@ enum Step {
     Page(u16),
     // A judgement, with no outcomes.
     Judgement,
+    // So many languages of the site, with no outcomes of the page.
+    Languages(usize),
+    // So many rows of outcomes.
+    Refresh(u32),
+    Edition(u64),
     Drop,
 }
 
@@ -35,15 +43,39 @@ enum Step {
 // and how many judgements and rows of outcomes the page has.
 type Seen = (Option<u64>, Option<u64>, usize, usize, usize);
 
+// How many languages the site has, how many sites there are, and the edition.
+type Beside = (usize, usize, u64);
+
 // Changes one after another, and what is seen after each.
-static STEPS: [(Step, Seen); 7] = [
-    (Step::Site, (Some(0), None, 0, 0, 0)),
-    (Step::Page(1), (Some(1), Some(1), 1, 0, 1)),
-    (Step::Judgement, (Some(1), Some(1), 1, 1, 0)),
-    (Step::Judgement, (Some(1), Some(1), 1, 2, 0)),
-    (Step::Page(2), (Some(2), Some(2), 1, 2, 1)),
-    (Step::Site, (Some(0), Some(2), 1, 2, 1)),
-    (Step::Drop, (Some(0), None, 0, 0, 0)),
+static STEPS: [(Step, Seen, Beside); 16] = [
+    (Step::Refresh(2), (None, None, 0, 0, 0), (0, 0, 0)),
+    (Step::Site, (Some(0), None, 0, 0, 0), (0, 1, 0)),
+    (Step::Page(1), (Some(1), Some(1), 1, 0, 1), (0, 1, 0)),
+    (Step::Judgement, (Some(1), Some(1), 1, 1, 0), (0, 1, 0)),
+    (Step::Judgement, (Some(1), Some(1), 1, 2, 0), (0, 1, 0)),
+    (Step::Refresh(2), (Some(1), Some(1), 1, 2, 2), (0, 1, 0)),
+    (
+        Step::Edition(3_003),
+        (Some(1), Some(1), 1, 2, 2),
+        (0, 1, 3_003),
+    ),
+    (
+        Step::Languages(2),
+        (Some(1), Some(1), 1, 2, 0),
+        (2, 1, 3_003),
+    ),
+    (Step::Page(2), (Some(2), Some(2), 1, 2, 1), (2, 1, 3_003)),
+    (
+        Step::Languages(1),
+        (Some(2), Some(2), 1, 2, 0),
+        (1, 1, 3_003),
+    ),
+    (Step::Refresh(1), (Some(2), Some(2), 1, 2, 1), (1, 1, 3_003)),
+    (Step::Site, (Some(0), Some(2), 1, 2, 1), (0, 1, 3_003)),
+    (Step::Drop, (Some(0), None, 0, 0, 0), (0, 1, 3_003)),
+    (Step::Refresh(2), (Some(0), None, 0, 0, 0), (0, 1, 3_003)),
+    (Step::Languages(2), (Some(0), None, 0, 0, 0), (2, 1, 3_003)),
+    (Step::Edition(0), (Some(0), None, 0, 0, 0), (2, 1, 0)),
 ];
 
 // A list of one item.
@@ -68,17 +100,25 @@ fn page(rt: &impl Abort, alloc: Global, rev: u16) -> Result<Page, Fail>
     Ok(Page { head, tree })
 }
 
-fn outcomes(alloc: Global) -> Result<Outcomes, OutOfMemory> {
-    let row = OutRow {
+fn row(alloc: Global, node: u32) -> Result<OutRow, OutOfMemory> {
+    Ok(OutRow {
         rule: RuleNo(16),
-        node: NodeId(1),
+        node: NodeId(node.saturating_add(1)),
         auto: CantTell,
         reason: Reason::JudgeHeading,
         evidence: Text::from_str(alloc, "Hours")?,
         last: CantTell,
         hand: Text::new(alloc),
-    };
-    let rows = one(alloc, row)?;
+    })
+}
+
+// So many rows of outcomes.
+fn outcomes(alloc: Global, count: u32) -> Result<Outcomes, OutOfMemory> {
+    let mut rows = Vec::new(alloc);
+    for node in 0..count {
+        rows.push(row(alloc, node)?)?;
+    }
+    let rows = List::from_vec(rows);
     Ok(Outcomes { rows })
 }
 
@@ -86,7 +126,7 @@ fn page_put(rt: &impl Abort, alloc: Global, rev: u16) -> Result<PagePut, Fail>
     ensures { IfOk result (λ put. FitsPage put.page) }
 {
     let page = page(rt, alloc, rev)?;
-    let outcomes = outcomes(alloc)?;
+    let outcomes = outcomes(alloc, 1)?;
     Ok(PagePut { page, outcomes })
 }
 
@@ -123,15 +163,72 @@ fn add_judgement(alloc: Global) -> Result<Change, Fail>
         note: Text::new(alloc),
         evidence: Text::from_str(alloc, "Hours")?,
     };
-    let outcomes = Outcomes {
-        rows: List::from_vec(Vec::new(alloc)),
-    };
-    Ok(Change::AddJudgement {
+    let outcomes = outcomes(alloc, 0)?;
+    let judgements = one(alloc, judgement)?;
+    Ok(Change::AddJudgements {
         site,
         page,
-        judgement,
+        judgements,
         outcomes,
     })
+}
+
+static LANGUAGES: [&str; 2] = ["gsw", "haw"];
+
+// The first so many languages.
+fn languages(alloc: Global, count: usize) -> Result<List<Text>, Fail>
+    ensures { IfOk result AreLangs }
+{
+    let mut all = Vec::new(alloc);
+    for language in LANGUAGES.iter().take(count) {
+        all.push(Text::from_str(alloc, language)?)?;
+    }
+    let all = List::from_vec(all);
+    if !are_langs(&all) {
+        return Err(Fail::from("no languages"));
+    }
+    Ok(all)
+}
+
+// So many rows of outcomes of the page p.
+fn page_outcomes(alloc: Global, count: u32) -> Result<PageOutcomes, Fail>
+    ensures { IfOk result (λ found. IsTrue (is_name found.page)) }
+{
+    let page = named(alloc, "p")?;
+    let outcomes = outcomes(alloc, count)?;
+    Ok(PageOutcomes { page, outcomes })
+}
+
+fn put_languages(alloc: Global, count: usize) -> Result<Change, Fail>
+    ensures { IfOk result Fits }
+{
+    let site = named(alloc, "s")?;
+    let languages = languages(alloc, count)?;
+    let outcomes = page_outcomes(alloc, 0)?;
+    let pages = one(alloc, outcomes)?;
+    Ok(Change::PutLanguages {
+        site,
+        languages,
+        pages,
+    })
+}
+
+fn refresh(alloc: Global, count: u32) -> Result<Change, Fail>
+    ensures { IfOk result Fits }
+{
+    let site = named(alloc, "s")?;
+    let outcomes = page_outcomes(alloc, count)?;
+    let pages = one(alloc, outcomes)?;
+    Ok(Change::Refresh { site, pages })
+}
+
+fn set_edition(number: u64) -> Result<Change, Fail>
+    ensures { IfOk result Fits }
+{
+    if MOST_REVISION < number {
+        return Err(Fail::from("no edition"));
+    }
+    Ok(Change::SetEdition { number })
 }
 
 fn drop_page(alloc: Global) -> Result<Change, Fail>
@@ -149,6 +246,9 @@ fn change(rt: &impl Abort, alloc: Global, step: Step) -> Result<Change, Fail>
         Step::Site => put_site(alloc),
         Step::Page(rev) => put_pages(rt, alloc, rev),
         Step::Judgement => add_judgement(alloc),
+        Step::Languages(count) => put_languages(alloc, count),
+        Step::Refresh(count) => refresh(alloc, count),
+        Step::Edition(number) => set_edition(number),
         Step::Drop => drop_page(alloc),
     }
 }
@@ -165,6 +265,16 @@ fn look<K: Keeper>(alloc: Global, keeper: &mut K, site: &str, page: &str) -> Res
     Ok((counter, rev, pages, judgements, rows))
 }
 
+// What it answers beside that.
+fn look_beside<K: Keeper>(alloc: Global, keeper: &mut K, site: &str) -> Result<Beside, Fail> {
+    let site = Text::from_str(alloc, site)?;
+    let languages = keeper
+        .site(alloc, &site)?
+        .map_or(0, |site| site.languages.len());
+    let sites = keeper.sites(alloc)?.len();
+    Ok((languages, sites, keeper.edition(alloc)?))
+}
+
 fn make(rt: &impl Abort, alloc: Global, keeper: &mut MemoryKeeper, step: Step) -> Result<(), Fail> {
     let change = change(rt, alloc, step)?;
     keeper.apply(alloc, &Batch { change })?;
@@ -175,9 +285,10 @@ fn make(rt: &impl Abort, alloc: Global, keeper: &mut MemoryKeeper, step: Step) -
 fn each_change_is_seen(rt: HostRuntime) -> Result<(), Fail> {
     let alloc = rt.alloc();
     let mut keeper = keeper_failing(alloc, &[])?;
-    for (step, wanted) in STEPS.as_slice() {
+    for (step, wanted, beside) in STEPS.as_slice() {
         make(&rt, alloc, &mut keeper, *step)?;
-        if look(alloc, &mut keeper, "s", "p")? != *wanted {
+        let is_so = look(alloc, &mut keeper, "s", "p")? == *wanted;
+        if !is_so || look_beside(alloc, &mut keeper, "s")? != *beside {
             return Err(Fail::from(*step));
         }
     }
@@ -241,6 +352,6 @@ fn a_keeper_may_cease_to_tell(rt: HostRuntime) -> Result<(), Fail> {
     let mut keeper = Doubtful::over(memory);
     let site = Text::from_str(alloc, "s")?;
     assert!(rt; keeper.site(alloc, &site).is_err());
-    assert_eq!(rt; look(alloc, &mut keeper, "s", "p")?, STEPS[0].1);
+    assert_eq!(rt; look(alloc, &mut keeper, "s", "p")?, STEPS[1].1);
     Ok(())
 }

@@ -103,6 +103,18 @@ fn judging(alloc: Global, dice: &mut Dice, site: &str, page: &str) -> Result<Str
     Ok(text)
 }
 
+// Lists of languages: the last but one isn't of the form.
+static LISTS: [&str; 4] = ["", "\"gsw\"", "\"gsw\",\"gsw\"", "\"haw\",\"gsw\""];
+
+fn languages(alloc: Global, dice: &mut Dice, site: &str) -> Result<String, AllocError> {
+    let mut text = String::from_str(alloc, "PUT /sites/")?;
+    text.push_str(site)?;
+    text.push_str("/languages\n{\"languages\":[")?;
+    text.push_str(dice.pick(&LISTS, ""))?;
+    text.push_str("]}")?;
+    Ok(text)
+}
+
 // What is asked of a page at this revision.
 fn drawn(
     alloc: Global,
@@ -178,11 +190,12 @@ fn request(
     site: &str,
 ) -> Result<String, Fail> {
     let page = dice.pick(&PAGES, "home");
-    match dice.below(12) {
+    match dice.below(13) {
         0 => Ok(made(alloc, site)?),
         1 => Ok(member(alloc, dice, site)?),
         2..=4 => importing(alloc, dice, keeper, site),
         5 | 6 => Ok(judging(alloc, dice, site, page)?),
+        7 => Ok(languages(alloc, dice, site)?),
         _ => {
             let rev = seen(alloc, dice, keeper, site, page)?;
             Ok(drawn(alloc, dice, site, page, rev.as_str())?)

@@ -21,13 +21,22 @@ const JUDGES: &[Call] = &[
     Call::Apply,
 ];
 
+const RELISTS: &[Call] = &[
+    Call::Site,
+    Call::List,
+    Call::Load,
+    Call::Judgements,
+    Call::Outcomes,
+    Call::Apply,
+];
+
 const LOADS: &[Call] = &[Call::Site, Call::Load];
 
 const SHOWS: &[Call] = &[Call::Site, Call::Load, Call::Outcomes];
 
 const SHOWS_SITE: &[Call] = &[Call::Site, Call::List, Call::Load, Call::Outcomes];
 
-static READINGS: [Reading; 15] = [
+static READINGS: [Reading; 16] = [
     ("ann", "PUT /sites/acme", CHANGES_MEMBERS),
     (
         "ann",
@@ -62,6 +71,11 @@ static READINGS: [Reading; 15] = [
     ("bob", "GET /sites/acme/report", SHOWS_SITE),
     ("bob", "GET /sites/acme/earl", SHOWS_SITE),
     ("bob", "GET /sites/acme/csv", SHOWS_SITE),
+    (
+        "ann",
+        "PUT /sites/acme/languages\n{\"languages\":[\"gsw\"]}",
+        RELISTS,
+    ),
     (
         "ann",
         "DELETE /sites/acme/pages/home\nx-rev: 3",

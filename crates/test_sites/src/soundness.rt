@@ -1,11 +1,12 @@
 //! Whether what is kept of a site is sound, found by looking at it anew.
 
+use crate::fits::are_langs;
 use audit::audit_page;
 use fixture_rules::Marks;
 use judge_core::{Judgement, Outcomes};
 use keep_core::{Keeper, Member, MemberRole, PageHead, Site, is_name};
 use named_rows::Named;
-use snap_tree::{OutOfMemory, Text, Tree, tree_fault};
+use snap_tree::{List, OutOfMemory, Text, Tree, tree_fault};
 use std::alloc::Global;
 use std::test::Fail;
 use web_address::is_web_address;
@@ -49,6 +50,7 @@ fn are_sound_rows(name: &Text, site: &Site, heads: &[PageHead]) -> bool {
     site.name == *name
         && is_name(name)
         && has_owner(members)
+        && are_langs(&site.languages)
         && are_in_order(members)
         && are_in_order(heads)
         && heads.len() <= MOST
@@ -58,11 +60,19 @@ fn have_hands(judgements: &[Judgement]) -> bool {
     judgements.iter().all(|judgement| is_name(&judgement.hand))
 }
 
-// Whether a page's rows make a tree at a web address.
+// Whether a page's rows make a tree at a web address, which has no languages of its own.
 fn is_page(alloc: Global, tree: &Tree) -> Result<bool, Fail> {
     let is_at_web = is_web_address(alloc, tree.address().as_str())?;
     let fault = tree_fault(alloc, tree.rows())?;
-    Ok(is_at_web && fault.is_none())
+    Ok(is_at_web && fault.is_none() && tree.langs().len() == 0)
+}
+
+// The tree with its site's languages.
+fn spoken(alloc: Global, tree: &Tree, languages: &List<Text>) -> Result<Tree, Fail> {
+    if !are_langs(languages) {
+        return Err(Fail::from("no languages"));
+    }
+    Ok(tree.with_langs(alloc, languages)?)
 }
 
 // Whether a page's outcomes are those that it has when it is audited anew.
@@ -78,19 +88,20 @@ fn is_audited(
 }
 
 // Whether a page is kept under its head, its rows make a tree at a web address, and its outcomes are those
-// that it has when it is audited anew.
+// that it has when it is audited anew under its site's languages.
 fn is_sound_page<K: Keeper>(
     alloc: Global,
     keeper: &mut K,
-    site: &Text,
+    site: &Site,
     head: &PageHead,
 ) -> Result<bool, Fail> {
-    let Some(kept) = keeper.load(alloc, site, &head.page)? else {
+    let Some(kept) = keeper.load(alloc, &site.name, &head.page)? else {
         return Ok(false);
     };
-    let judgements = keeper.judgements(alloc, site, &head.page)?;
-    let outcomes = keeper.outcomes(alloc, site, &head.page)?;
-    let is_audited = is_audited(alloc, &kept.tree, judgements.as_slice(), &outcomes)?;
+    let judgements = keeper.judgements(alloc, &site.name, &head.page)?;
+    let outcomes = keeper.outcomes(alloc, &site.name, &head.page)?;
+    let tree = spoken(alloc, &kept.tree, &site.languages)?;
+    let is_audited = is_audited(alloc, &tree, judgements.as_slice(), &outcomes)?;
     Ok(kept.head == *head && is_audited && is_page(alloc, &kept.tree)?)
 }
 
@@ -101,7 +112,7 @@ pub fn is_sound<K: Keeper>(alloc: Global, keeper: &mut K, name: &Text) -> Result
     };
     let heads = keeper.list(alloc, name)?;
     for head in heads.as_slice() {
-        if !is_sound_page(alloc, keeper, name, head)? {
+        if !is_sound_page(alloc, keeper, &site, head)? {
             return Ok(false);
         }
     }

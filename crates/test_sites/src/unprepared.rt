@@ -13,12 +13,12 @@ use sqlite::Alter;
 use std::alloc::Global;
 use std::test::Fail;
 
-// Which of the five calls that read fail, of the site acme and its page home, in the order of the trait.
-type Failing = [bool; 5];
+// Which of the calls that read fail, of the site acme and its page home: the five that name these, and the two that don't.
+type Failing = [bool; 7];
 
-const ALL: Failing = [true, true, true, true, true];
+const ALL: Failing = [true; 7];
 
-const NONE: Failing = [false, false, false, false, false];
+const NONE: Failing = [false; 7];
 
 fn drop_home(alloc: Global) -> Result<Change, Fail>
     ensures { IfOk result Fits }

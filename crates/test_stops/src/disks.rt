@@ -19,7 +19,7 @@ pub fn new_disks(alloc: Global, log: u64, db: u64) -> Disks {
 }
 
 // The log is copied into the database every few changes, so that a disk stops amid that too.
-fn options() -> Options {
+pub fn options() -> Options {
     let mut options = Options::new(7);
     options.checkpoint_frames = 16;
     options
@@ -39,6 +39,23 @@ pub fn opened(alloc: Global, disks: Disks) -> Result<DiskKeeper, Disks> {
             }
         }
         Err((_, left)) => Err(left.into_files()),
+    }
+}
+
+/// The disk that stops.
+#[derive(Clone, Copy, Debug)]
+pub enum Fused {
+    Log,
+    Db,
+}
+
+impl Fused {
+    /// After how many calls the log stops, and the database.
+    pub fn calls(self, calls: u64) -> (u64, u64) {
+        match self {
+            Fused::Log => (calls, u64::MAX),
+            Fused::Db => (u64::MAX, calls),
+        }
     }
 }
 
@@ -111,10 +128,15 @@ impl Stopped {
 
     /// A disk that is started again, with what the stop left.
     pub fn started(&self, alloc: Global, left: Left) -> Result<Fuse<Memory>, Fail> {
+        self.started_for(alloc, left, u64::MAX)
+    }
+
+    /// The same, which stops after so many calls.
+    pub fn started_for(&self, alloc: Global, left: Left, calls: u64) -> Result<Fuse<Memory>, Fail> {
         let bytes = self.bytes(alloc, left)?;
         let mut disk = Memory::new(alloc);
         disk.write_at(0, bytes.as_slice())?;
         disk.sync()?;
-        Ok(Fuse::new(disk, u64::MAX))
+        Ok(Fuse::new(disk, calls))
     }
 }

@@ -30,8 +30,8 @@ pub static REQUESTS: [&str; 8] = [
     "POST /sites/acme/pages/home/edits HTTP/1.1\r\nx-caller: ann\r\nx-rev: 4\r\ncontent-length: 36\r\n\r\n{\"edits\":[{\"op\":\"remove\",\"node\":7}]}",
 ];
 
-// Whether a keeper's desk accepts a request.
-fn is_accepted<R: Threads + Sync, K: Keeper>(
+/// Whether a keeper's desk accepts a request.
+pub fn is_accepted<R: Threads + Sync, K: Keeper>(
     rt: &R,
     alloc: Global,
     keeper: &mut K,
@@ -56,11 +56,16 @@ pub fn accepted<R: Threads + Sync, K: Keeper>(
     Ok(REQUESTS.len())
 }
 
-/// What a keeper answers of the site and the page that are put, in lines.
-pub fn kept_now<K: Keeper>(alloc: Global, keeper: &mut K) -> Result<String, Wrong> {
+/// What a keeper answers of a site and its page home, in lines.
+pub fn kept_of<K: Keeper>(alloc: Global, keeper: &mut K, site: &str) -> Result<String, Wrong> {
     let mut pages = Vec::new(alloc);
     pages.push(String::from_str(alloc, "home")?)?;
-    kept_lines(alloc, keeper, "acme", pages.as_slice())
+    kept_lines(alloc, keeper, site, pages.as_slice())
+}
+
+/// What a keeper answers of the site and the page that are put, in lines.
+pub fn kept_now<K: Keeper>(alloc: Global, keeper: &mut K) -> Result<String, Wrong> {
+    kept_of(alloc, keeper, "acme")
 }
 
 // What this keeper keeps before the first request, and after each.

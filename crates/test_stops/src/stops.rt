@@ -1,6 +1,6 @@
 //! Wherever a disk stops, the store holds, once it is opened again, what was kept before the request under way or after it.
 
-use crate::disks::{Disks, Stopped, has_stopped, new_disks, opened, ways};
+use crate::disks::{Disks, Fused, Stopped, has_stopped, new_disks, opened, ways};
 use crate::requests::{REQUESTS, accepted, kept_now, states};
 use keep_sql::{Prepared, SqlKeeper};
 use sqlite::{Alter, Files};
@@ -92,18 +92,9 @@ fn keeps_near(
     Ok(true)
 }
 
-// The disk that stops.
-#[derive(Clone, Copy, Debug)]
-enum Fused {
-    Log,
-    Db,
-}
-
 fn fused_disks(alloc: Global, fused: Fused, calls: u64) -> Disks {
-    match fused {
-        Fused::Log => new_disks(alloc, calls, u64::MAX),
-        Fused::Db => new_disks(alloc, u64::MAX, calls),
-    }
+    let (log, db) = fused.calls(calls);
+    new_disks(alloc, log, db)
 }
 
 // Whether it stops in a run, after so many calls. Fails where anything else is kept then, or where the run is one without

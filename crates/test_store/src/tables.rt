@@ -4,9 +4,10 @@ use sqlite_disk::Memory;
 use std::alloc::Global;
 use std::test::Fail;
 use store_statements::{
-    JudgementRow, OutcomeRow, add_edition, add_judgement, add_member, drop_judgements,
-    drop_members, drop_outcomes, drop_page, edition_rows, heads, make_tables, page_judgements,
-    page_outcomes, page_row, put_outcome, put_page, put_site, site_members, site_row,
+    JudgementRow, OutcomeRow, add_edition, add_judgement, add_language, add_member, drop_editions,
+    drop_judgements, drop_languages, drop_members, drop_outcomes, drop_page, edition_rows, heads,
+    make_tables, page_judgements, page_outcomes, page_row, put_outcome, put_page, put_site,
+    site_languages, site_members, site_names, site_row,
 };
 
 fn opened(alloc: Global) -> Result<Connection<FileStore<Memory>>, Error> {
@@ -33,10 +34,13 @@ enum Write {
     Outcome(&'static str, &'static str, i64),
     NoOutcomes(&'static str, &'static str),
     Edition(i64),
+    NoEditions,
+    Language(&'static str, i64, &'static str),
+    NoLanguages(&'static str),
 }
 
 // One after another. Sites, pages and an outcome are put again, and groups are dropped beside others that stay.
-static WRITES: [Write; 24] = [
+static WRITES: [Write; 30] = [
     Write::Site("acme", 1),
     Write::Site("zeta", 5),
     Write::Site("acme", 2),
@@ -44,8 +48,14 @@ static WRITES: [Write; 24] = [
     Write::Member("zeta", "eve", 1),
     Write::NoMembers("zeta"),
     Write::Member("acme", "eve", 0),
+    Write::Edition(7),
+    Write::NoEditions,
     Write::Edition(3),
     Write::Edition(-1),
+    Write::Language("acme", 2, "gsw"),
+    Write::Language("zeta", 1, "haw"),
+    Write::Language("acme", 1, "nds"),
+    Write::NoLanguages("zeta"),
     Write::Page("acme", "news", 1, "eve", b"{}"),
     Write::Page("acme", "home", 2, "kim", b"{ }"),
     Write::Page("zeta", "home", 9, "kim", b""),
@@ -67,7 +77,9 @@ static WRITES: [Write; 24] = [
 #[derive(Clone, Copy)]
 enum Read {
     Site(&'static str),
+    Sites,
     Members(&'static str),
+    Languages(&'static str),
     Editions,
     Heads(&'static str),
     Page(&'static str, &'static str),
@@ -76,11 +88,14 @@ enum Read {
 }
 
 // What is shown after them: numbers in digits, texts as they are and blobs as their lengths.
-static SHOWN: [(Read, &str); 12] = [
+static SHOWN: [(Read, &str); 15] = [
     (Read::Site("acme"), "2|;"),
     (Read::Site("acm"), ""),
+    (Read::Sites, "acme|;zeta|;"),
     (Read::Members("acme"), "eve|0|;kim|3|;"),
     (Read::Members("zeta"), ""),
+    (Read::Languages("acme"), "1|nds|;2|gsw|;"),
+    (Read::Languages("zeta"), ""),
     (Read::Editions, "-1|;3|;"),
     (Read::Heads("acme"), "home|2|kim|;news|3|kim|;"),
     (Read::Page("acme", "news"), "3|kim|4|;"),
@@ -136,13 +151,18 @@ fn written<S: Alter>(tx: &mut Transaction<'_, S>, write: Write) -> Result<usize,
         Write::Outcome(site, page, seq) => put_outcome(tx, site, page, &outcome(seq)),
         Write::NoOutcomes(site, page) => drop_outcomes(tx, site, page),
         Write::Edition(number) => add_edition(tx, number),
+        Write::NoEditions => drop_editions(tx),
+        Write::Language(site, seq, tag) => add_language(tx, site, seq, tag),
+        Write::NoLanguages(site) => drop_languages(tx, site),
     }
 }
 
 fn rows<S: Alter>(tx: &mut Transaction<'_, S>, read: Read) -> Result<Vec<Row>, Error> {
     match read {
         Read::Site(site) => site_row(tx, site),
+        Read::Sites => site_names(tx),
         Read::Members(site) => site_members(tx, site),
+        Read::Languages(site) => site_languages(tx, site),
         Read::Editions => edition_rows(tx),
         Read::Heads(site) => heads(tx, site),
         Read::Page(site, page) => page_row(tx, site, page),

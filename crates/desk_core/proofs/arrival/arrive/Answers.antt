@@ -15,6 +15,7 @@ returns g c = record {
     failed = λ e. cc;
   };
   listed = c.in_ok-placed.ensures.listed;
+  languages = c.in_ok-entered.ensures.fits.languages;
   found =
       λ t told.
       let site = c.args.site.now in
@@ -24,8 +25,9 @@ returns g c = record {
         c.in_ok-entered.entered,
         c.in_ok-entered.ensures.found t (c.in_ok-heads.ensures.reads.stays t listed),
         refl,
+        refl,
         c.len.ensures ∙ (ap length heads ∙ length-map (pages_of site t) (λ (p : KeptPage). p.page.head)),
-        c.in_ok-placed.ensures.told t told ∙ (ap (λ (hs : List PageHead). map (read_place hs site t) entries) heads ∙ sym (places_read site t entries)),
+        c.in_ok-placed.ensures.told t told ∙ (ap (λ (hs : List PageHead). map (read_place hs site t) entries) heads ∙ sym (places_read c.in_ok-entered.entered.languages site t entries)),
       );
   refused = tt;
 }

@@ -15,9 +15,6 @@ use Rattle.desk_core.proofs.edit_page.edit_there.Goals as goal
 pub edited-requires-clause-address : goal.edited-requires-clause-address
 edited-requires-clause-address g c = sym (ap (λ (d : Document). d.address) c.in_ok-tree.ensures.kept)
 
-pub edited-requires-clause-langs : goal.edited-requires-clause-langs
-edited-requires-clause-langs g c = sym (ap (λ (d : Document). d.langs) c.in_ok-tree.ensures.kept)
-
 pub returns-clause-decided : goal.returns-clause-decided
 returns-clause-decided g c =
     λ holds.

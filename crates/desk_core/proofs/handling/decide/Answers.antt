@@ -1,4 +1,4 @@
-use Rattle.desk_core.proofs.Arms.{fits_at, decides_at, costs_at, import_at}
+use Rattle.desk_core.proofs.Arms.{fits_at, decides_at, costs_at, import_at, languages_at}
 use Rattle.desk_core.proofs.Costing.{costs_put, costs_import}
 use Rattle.desk_core.proofs.handling.decide.Goals as goal
 
@@ -19,6 +19,21 @@ put_member-requires-clause-site g c = (fits_at c.in-PutMember.is c.requires.fits
 
 pub put_member-requires-clause-user : goal.put_member-requires-clause-user
 put_member-requires-clause-user g c = (fits_at c.in-PutMember.is c.requires.fits).parts
+
+pub returns-in-PutLanguages-clause-decided : goal.returns-in-PutLanguages-clause-decided
+returns-in-PutLanguages-clause-decided g c = decides_at c.in-PutLanguages.is c.put_languages.ensures.decides
+
+pub put_languages-requires-clause-site : goal.put_languages-requires-clause-site
+put_languages-requires-clause-site g c = λ _. λ _. (fits_at c.in-PutLanguages.is c.requires.fits).site
+
+pub put_languages-requires-clause-languages : goal.put_languages-requires-clause-languages
+put_languages-requires-clause-languages g c = λ _. λ _. (fits_at c.in-PutLanguages.is c.requires.fits).parts
+
+pub returns-in-PutLanguages-clause-counted : goal.returns-in-PutLanguages-clause-counted
+returns-in-PutLanguages-clause-counted g c = costs_at c.in-PutLanguages.is c.put_languages.ensures.costs
+
+pub returns-in-PutLanguages-clause-others : goal.returns-in-PutLanguages-clause-others
+returns-in-PutLanguages-clause-others g c = λ no. absurd (no (languages_at c.in-PutLanguages.is))
 
 pub returns-in-PutPage-clause-decided : goal.returns-in-PutPage-clause-decided
 returns-in-PutPage-clause-decided g c = decides_at c.in-PutPage.is c.put_page.ensures.decides

@@ -8,7 +8,7 @@ use Rattle.desk_core.specs.Placing.{import_placed}
 use Rattle.desk_core.proofs.Onward.{decides_by, read_as, decides_so}
 use Rattle.desk_core.proofs.ImportLaws.{arrived}
 use Rattle.desk_core.proofs.Accepting.{import_placed_accepts}
-use Rattle.desk_core.proofs.ImportFits.{import_placed_fits}
+use Rattle.desk_core.proofs.ImportFits.{import_placed_fits, import_placed_keeps}
 use Rattle.desk_core.proofs.import.import.Goals as goal
 
 pub returns-clause-decides : goal.returns-clause-decides
@@ -17,13 +17,14 @@ returns-clause-decides g c =
     let a = c.args in
     let at = c.in_ok-arrival.arrival in
     let request : Request = record { caller = a.caller.now; command = command.Import a.site a.entries } in
-    decides_by book request _ _ _ c.decide.result (import_placed book a.site a.caller.now at.counter at.pages at.placed)
+    decides_by book request _ _ _ c.decide.result (import_placed book a.site at.languages a.caller.now at.counter at.pages at.placed)
     c.in_ok-arrival.ensures.reads c.decide.ensures.decided
-    (import_placed_fits book a.caller.now a.site at.counter at.pages at.placed c.requires.site (subst FitsEntries (sym c.in_ok-arrival.ensures.listed) c.requires.entries))
-    (import_placed_accepts book a.site a.caller.now at.counter at.pages at.placed)
+    (import_placed_fits book at.languages a.caller.now a.site at.counter at.pages at.placed c.requires.site (subst FitsEntries (sym c.in_ok-arrival.ensures.listed) c.requires.entries))
+    (import_placed_keeps book at.languages a.caller.now a.site at.counter at.pages at.placed)
+    (import_placed_accepts book a.site at.languages a.caller.now at.counter at.pages at.placed)
     (λ t told.
     let f = c.in_ok-arrival.ensures.found t told in
-    arrived book a.caller.now a.site a.entries t f.0 at.counter at.pages at.placed f.1 f.2 f.3 f.4)
+    arrived book a.caller.now a.site a.entries t f.0 at.counter at.languages at.pages at.placed f.1 f.2 f.3 f.4 f.5)
 
 pub returns-clause-counted : goal.returns-clause-counted
 returns-clause-counted g c =
@@ -38,5 +39,6 @@ returns-in_err-arrival-clause-decides g c = decides_so c.in_err-arrival.field-0.
       fits = tt;
       there = tt;
       accepted = tt;
+      edition = tt;
       firm = tt;
     })

@@ -12,7 +12,7 @@ returns-clause-decided g c =
     let at = c.args.arrival in
     let built = subst (λ ws. Builds ws (Ok c.in_ok-works.works)) (c.from_vec-placed.ensures.items ∙ c.into_vec.ensures) c.in_ok-works.ensures in
     let heads = c.in_ok-heads.ensures ∙ ap (heads_from c.args.caller.now at.counter) c.as_slice.ensures in
-    agrees_there book c.args.site c.args.caller.now at.counter at.pages at.placed c.store_all.result _ c.in_ok-heads.heads c.from_vec-works.result
+    agrees_there book c.args.site at.languages c.args.caller.now at.counter at.pages at.placed c.store_all.result _ c.in_ok-heads.heads c.from_vec-works.result
     c.requires.room c.requires.revisions c.requires.fresh built.whole (ap (λ n. at.counter + n) c.len.ensures) heads (c.from_vec-works.ensures ∙ built.works)
     c.store_all.ensures.decided
 
@@ -28,4 +28,4 @@ returns-in_err-works-clause-decided g c =
     let at = c.args.arrival in
     let built = subst (λ ws. Builds ws (Err c.in_err-works.field-0.0)) (c.from_vec-placed.ensures.items ∙ c.into_vec.ensures) c.in_err-works.ensures in
     agrees_so ⊥ c.from_residual-in_err-works.result _ c.in_err-works.field-0.0 c.from_residual-in_err-works.ensures.1
-    (refused_fault book c.args.site c.args.caller.now at.counter at.pages at.placed c.in_err-works.field-0.0 c.requires.room c.requires.revisions c.requires.fresh built.refused)
+    (refused_fault book c.args.site at.languages c.args.caller.now at.counter at.pages at.placed c.in_err-works.field-0.0 c.requires.room c.requires.revisions c.requires.fresh built.refused)

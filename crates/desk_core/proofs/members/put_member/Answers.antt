@@ -4,7 +4,7 @@ use Rattle.desk_core.specs.declared.refusal.Needed.TheVariants.{Owner}
 use Rattle.desk_core.specs.Steps.{Request}
 use Rattle.desk_core.specs.State.{SiteState}
 use Rattle.desk_core.specs.Members.{put_member}
-use Rattle.desk_core.proofs.Fitted.{put_member_fits}
+use Rattle.desk_core.proofs.Fitted.{put_member_fits, put_member_keeps}
 use Rattle.desk_core.proofs.Accepting.{put_member_accepts}
 use Rattle.desk_core.proofs.Ways.{entered}
 use Rattle.desk_core.proofs.Onward.{decides_by, read_as, decides_so}
@@ -17,6 +17,7 @@ returns g c =
     let request : Request = record { caller = a.caller.now; command = PutMember a.name a.user a.role } in
     decides_by book request _ _ _ c.decide.result (put_member a.name a.caller.now a.user a.role c.in_ok-site.site) c.in_ok-site.ensures.reads c.decide.ensures
     (put_member_fits a.name a.caller.now a.user a.role c.in_ok-site.site c.requires.site c.requires.user c.in_ok-site.ensures.fits)
+    (put_member_keeps a.name a.caller.now a.user a.role c.in_ok-site.site)
     (put_member_accepts a.name a.caller.now a.user a.role c.in_ok-site.site)
     (λ t told.
     entered Owner a.caller.now a.name t c.in_ok-site.site (λ (s : SiteState). put_member a.name a.caller.now a.user a.role s.site) _ (c.in_ok-site.ensures.found t told)
@@ -31,5 +32,6 @@ returns-in_err-site g c =
       fits = tt;
       there = tt;
       accepted = tt;
+      edition = tt;
       firm = tt;
     })

@@ -6,7 +6,7 @@ use Rattle.desk_core.specs.Steps.{Request}
 use Rattle.desk_core.specs.Members.{put_site}
 use Rattle.desk_core.specs.Told.{told_of}
 use Rattle.desk_core.specs.Serving.{OnlyReads}
-use Rattle.desk_core.proofs.Fitted.{put_site_fits}
+use Rattle.desk_core.proofs.Fitted.{put_site_fits, put_site_keeps}
 use Rattle.desk_core.proofs.MemberLaws.{site_is_there, site_is_new}
 use Rattle.desk_core.proofs.Accepting.{put_site_accepts}
 use Rattle.desk_core.proofs.Onward.{decides_by}
@@ -20,7 +20,7 @@ returns-in-None g c =
     let reads : OnlyReads (told_of g.K.Keeper c.args.keeper.now) (told_of g.K.Keeper c.site.new.self) none =
     record { stays = c.in_ok-site.ensures.reads.stays; never_falls = c.in_ok-site.ensures.faults.never_falls; failed = λ e. cc } in
     decides_by book request _ _ none c.new_site.result (put_site c.args.name c.args.caller.now None) reads c.new_site.ensures
-    (put_site_fits c.args.name c.args.caller.now None c.requires.site c.requires.caller) (put_site_accepts c.args.name c.args.caller.now None)
+    (put_site_fits c.args.name c.args.caller.now None c.requires.site c.requires.caller) (put_site_keeps c.args.name c.args.caller.now None) (put_site_accepts c.args.name c.args.caller.now None)
     (λ t told. site_is_new c.args.name c.args.caller.now t (sym (c.in_ok-site.ensures.reads.answers t told) ∙ c.in-None.is))
 
 pub returns-in-Some : goal.returns-in-Some
@@ -31,5 +31,6 @@ returns-in-Some g c =
       fits = tt;
       there = tt;
       accepted = tt;
+      edition = tt;
       firm = tt;
     }

@@ -13,7 +13,7 @@ returns g c =
     λ book.
     let request : Request = record { caller = c.args.caller.now; command = GetNames c.args.site.now c.args.page.now } in
     decides_page book request Reader c.args.site.now c.args.page.now (λ p. answered (reply.Names p.tree)) (λ t. refl) _ _
-    c.in_ok-found.found (Ok c.names_of.result) c.in_ok-found.ensures (ap Ok (sym c.names_of.ensures)) tt tt
+    c.in_ok-found.found (Ok c.names_of.result) c.in_ok-found.ensures (ap Ok (sym c.names_of.ensures)) tt tt tt
 
 pub returns-in_err-found : goal.returns-in_err-found
 returns-in_err-found g c =

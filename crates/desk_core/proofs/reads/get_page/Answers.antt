@@ -13,7 +13,7 @@ returns g c =
     λ book.
     let request : Request = record { caller = c.args.caller.now; command = GetPage c.args.site.now c.args.page.now } in
     decides_page book request Reader c.args.site.now c.args.page.now (λ p. answered (reply.Page p)) (λ t. refl) _ _
-    c.in_ok-found.found (Ok c.answered.result) c.in_ok-found.ensures (ap Ok (sym c.answered.ensures)) tt tt
+    c.in_ok-found.found (Ok c.answered.result) c.in_ok-found.ensures (ap Ok (sym c.answered.ensures)) tt tt tt
 
 pub returns-in_err-found : goal.returns-in_err-found
 returns-in_err-found g c =

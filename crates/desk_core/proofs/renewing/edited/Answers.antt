@@ -17,6 +17,6 @@ pub returns-clause-edits : goal.returns-clause-edits
 returns-clause-edits g c =
     let book : Book = g.B.RuleBook.book in
     edits_by book c.args.sent.site c.args.sent.page c.in_ok-put.put c.storing.result c.requires.names.site
-    (edited_fits c.args.sent.page c.args.caller.now _ c.args.tree c.args.kept.now.page _ c.requires.names.page (omega arith) c.requires.address c.requires.langs c.requires.fits c.in_ok-put.ensures.page)
+    (edited_fits c.args.sent.page c.args.caller.now _ c.args.tree c.args.kept.now.page _ c.requires.names.page (omega arith) c.requires.address c.requires.fits c.in_ok-put.ensures.page)
     (ap (λ (p : Page). p.head.page) c.in_ok-put.ensures.page)
     c.storing.ensures

@@ -17,7 +17,7 @@ loop-table-init g c =
     let book : Book = g.B.RuleBook.book in
     record {
       served = door_none book (desk_with link.wire link.faults (door.told c.args.door.now) (door.log c.args.door.now) (beside c.args.keeper.now c.args.books.now));
-      sound = λ t is. (t, is, λ sound. sound);
+      sound = λ t is. (t, is, refl, λ sound. sound);
       heard = refl;
       given_back = refl;
       kept = omega arith;

@@ -17,7 +17,7 @@ loop-held-init g c =
     let book : Book = g.B.RuleBook.book in
     record {
       served = begins book c.new-held.result.items (link.wire c.args.link.now) (beside c.args.keeper.now c.args.books.now) c.new-held.ensures.items;
-      sound = λ t is. (t, is, λ sound. sound);
+      sound = λ t is. (t, is, refl, λ sound. sound);
       faults = refl;
       kept = omega arith;
     }

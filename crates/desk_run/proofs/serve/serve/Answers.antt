@@ -1,21 +1,34 @@
-use Rattle.std.proofs.Common.{arith, refl, inr}
+use Rattle.std.proofs.Common.{arith, refl}
 use Rattle.std.proofs.lemmas.List.{length-map}
-use Rattle.counts.proofs.CountLaws.{rose_after}
-use Rattle.desk_run.proofs.Served.{served}
+use Rattle.desk_run.proofs.Served.{fresh_serves}
 use Rattle.desk_run.proofs.serve.serve.Goals as goal
 
-pub returns-in-Ok-serve_by : goal.returns-in-Ok-serve_by
-returns-in-Ok-serve_by g c = (
-  served _ _ _ _ _ _ (omega (arith, c.if-serving-books.false, length-map c.args.books.now g.B.RuleBook.calls)) c.in-Ok.ensures.listens c.in-Ok.ensures.log c.in-Ok.ensures.counts.same
-      c.serve_by.ensures.heard c.serve_by.ensures.given_back c.serve_by.ensures.served c.serve_by.ensures.sound c.serve_by.ensures.spares,
-  c.in-Ok-serve_by.ensures.all,
+pub returns-in-Ok : goal.returns-in-Ok
+returns-in-Ok g c =
+    fresh_serves _ _ _ _ _ _ _
+    (record {
+      enough = omega (arith, c.if-serving-books.false, length-map c.args.books.now g.B.RuleBook.calls);
+      same = record { door = refl; log = refl };
+      refreshed = c.in-Ok.ensures;
+    })
+    c.serve_fresh.ensures
+
+pub returns-in-Err-Failed : goal.returns-in-Err-Failed
+returns-in-Err-Failed g c = (
+  record {
+    enough = omega (arith, c.if-serving-books.false, length-map c.args.books.now g.B.RuleBook.calls);
+    same = record { door = refl; log = refl };
+    refreshed = rw c.in-Err-Failed.field-0-is at c.in-Err-Failed.ensures;
+  },
   refl,
 )
 
-pub returns-in-Err : goal.returns-in-Err
-returns-in-Err g c = (
-  rose_after _ _ _ c.in-Ok.ensures.counts.never_falls c.in-Err.ensures.counts.rose,
-  inr (served _ _ _ _ _ _ (omega (arith, c.if-serving-books.false, length-map c.args.books.now g.B.RuleBook.calls)) c.in-Ok.ensures.listens c.in-Ok.ensures.log c.in-Ok.ensures.counts.same
-      c.serve_by.ensures.heard c.serve_by.ensures.given_back c.serve_by.ensures.served c.serve_by.ensures.sound c.serve_by.ensures.spares),
+pub returns-in-Err-OutOfMemory : goal.returns-in-Err-OutOfMemory
+returns-in-Err-OutOfMemory g c = (
+  record {
+    enough = omega (arith, c.if-serving-books.false, length-map c.args.books.now g.B.RuleBook.calls);
+    same = record { door = refl; log = refl };
+    refreshed = rw c.in-Err-OutOfMemory.field-0-is at c.in-Err-OutOfMemory.ensures;
+  },
   refl,
 )

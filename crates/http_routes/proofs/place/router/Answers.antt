@@ -17,4 +17,5 @@ returns c =
     let r11 = rw r10.1 at c.in_ok-insert-11.ensures in
     let r12 = rw r11.1 at c.in_ok-insert-12.ensures in
     let r13 = rw r12.1 at c.in_ok-insert-13.ensures in
-    r13.1
+    let r14 = rw r13.1 at c.in_ok-insert-14.ensures in
+    r14.1

@@ -10,4 +10,6 @@ returns c = record {
   judgements_stay = making.judgements_stay;
   page_dropped = making.page_dropped;
   page_judged = making.page_judged;
+  relisted = making.site_relisted;
+  refreshed = making.site_refreshed;
 }

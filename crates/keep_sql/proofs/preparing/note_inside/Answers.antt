@@ -16,4 +16,4 @@ returns-clause-notes g c clean ready =
     let clean1 : HasCleanDisk s1 = omega (arith, clean, c.add_edition.ensures.steps.survives.clean) in
     let same = c.in_ok-number.ensures.same clean1 ready in
     let made = c.in_ok-add_edition.ensures.makes clean (ready_same s0 s1 ready same) in
-    (made.ready, c.in_ok-number.ensures.reads clean1 ready ∙ ap Some c.in_default.is, subst (λ (d : Database). AddsEdition (pos 2) (stored d.trees) (rows_in s2)) same.0.now_is made.change)
+    (made.ready, c.in_ok-number.ensures.reads clean1 ready ∙ ap Some c.in_default.is, subst (λ (d : Database). AddsEdition (pos 0) (stored d.trees) (rows_in s2)) same.0.now_is made.change)

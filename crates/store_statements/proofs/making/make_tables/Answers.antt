@@ -10,7 +10,9 @@ returns-clause-makes g c clean was =
     let s3 = state g.S.Store c.make_pages.new.tx.conn.now in
     let s4 = state g.S.Store c.make_judgements.new.tx.conn.now in
     let s5 = state g.S.Store c.make_outcomes.new.tx.conn.now in
-    let clean5 : HasCleanDisk s5 = omega (arith, clean, c.make_edition.ensures.steps.survives.clean) in
+    let s6 = state g.S.Store c.make_edition.new.tx.conn.now in
+    let clean6 : HasCleanDisk s6 = omega (arith, clean, c.make_languages.ensures.steps.survives.clean) in
+    let clean5 : HasCleanDisk s5 = omega (arith, clean6, c.make_edition.ensures.steps.survives.clean) in
     let clean4 : HasCleanDisk s4 = omega (arith, clean5, c.make_outcomes.ensures.steps.survives.clean) in
     let clean3 : HasCleanDisk s3 = omega (arith, clean4, c.make_judgements.ensures.steps.survives.clean) in
     let clean2 : HasCleanDisk s2 = omega (arith, clean3, c.make_pages.ensures.steps.survives.clean) in
@@ -20,5 +22,6 @@ returns-clause-makes g c clean was =
     let made2 = c.in_ok-make_pages.ensures.makes clean3 made1.ready in
     let made3 = c.in_ok-make_judgements.ensures.makes clean4 made2.ready in
     let made4 = c.in_ok-make_outcomes.ensures.makes clean5 made3.ready in
-    let made5 = c.in_ok-make_edition.ensures.makes clean made4.ready in
-    (made5.ready, rw (made5.others.0 ∙ made4.others.0 ∙ made3.others.0 ∙ made2.others.0 ∙ made1.others.0 ∙ made0.empty, made5.others.1.0 ∙ made4.others.1.0 ∙ made3.others.1.0 ∙ made2.others.1.0 ∙ made1.empty, made5.others.1.1.0 ∙ made4.others.1.1.0 ∙ made3.others.1.1.0 ∙ made2.empty, made5.others.1.1.1.0 ∙ made4.others.1.1.1.0 ∙ made3.empty, made5.others.1.1.1.1.0 ∙ made4.empty, made5.empty) refl)
+    let made5 = c.in_ok-make_edition.ensures.makes clean6 made4.ready in
+    let made6 = c.in_ok-make_languages.ensures.makes clean made5.ready in
+    (made6.ready, rw (made6.others.0 ∙ made5.others.0 ∙ made4.others.0 ∙ made3.others.0 ∙ made2.others.0 ∙ made1.others.0 ∙ made0.empty, made6.others.1.0 ∙ made5.others.1.0 ∙ made4.others.1.0 ∙ made3.others.1.0 ∙ made2.others.1.0 ∙ made1.empty, made6.others.1.1.0 ∙ made5.others.1.1.0 ∙ made4.others.1.1.0 ∙ made3.others.1.1.0 ∙ made2.empty, made6.others.1.1.1.0 ∙ made5.others.1.1.1.0 ∙ made4.others.1.1.1.0 ∙ made3.empty, made6.others.1.1.1.1.0 ∙ made5.others.1.1.1.1.0 ∙ made4.empty, made6.others.1.1.1.1.1.0 ∙ made5.empty, made6.empty) refl)

@@ -1,0 +1,4 @@
+pub mod Answering
+pub mod Listed
+pub mod Pairs
+pub mod Findings

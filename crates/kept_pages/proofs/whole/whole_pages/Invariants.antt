@@ -1,0 +1,8 @@
+use Rattle.std.proofs.Common.{take}
+use Rattle.kept_pages.proofs.Wholes.{ReadsSome}
+use Rattle.kept_pages.proofs.whole.whole_pages.Given as goal
+
+-- the pages of the heads so far are read
+abbrev pub invariant-loop-head : goal.invariant-loop-head
+invariant-loop-head g l =
+    ReadsSome l.site l.languages (take l.head-index l.heads) (g.K.Keeper.tables l.fn.keeper) (g.K.Keeper.tables l.keeper) (g.K.Keeper.faults l.fn.keeper) (g.K.Keeper.faults l.keeper) l.pages.items

@@ -1,0 +1,7 @@
+pub mod Trailing
+pub mod Local
+mod Climbing
+mod Passing
+mod Sharing
+mod Showing
+mod Containing

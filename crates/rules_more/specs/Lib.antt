@@ -1,0 +1,15 @@
+pub mod LanguagesMatch
+pub mod DelayAtAll
+pub mod LabelDescriptive
+pub mod ImageDescriptive
+pub mod Menuitem
+pub mod RoleAttributes
+pub mod PermittedState
+pub mod RoleContexts
+pub mod RequiredContext
+pub mod Contexts
+pub mod MarkedDecorative
+pub mod Presentational
+pub mod ShownText
+pub mod SharedWords
+pub mod LabelInName

@@ -1,0 +1,13 @@
+use Rattle.sqlite.specs.Held.{state}
+use Rattle.sql_rows.proofs.Kept.{executed_steps, if_executed}
+use Rattle.store_statements.proofs.EditionTexts.{drops_editions}
+use Rattle.store_statements.proofs.editions.drop_editions.Goals as goal
+
+pub returns-clause-makes : goal.returns-clause-makes
+returns-clause-makes g c clean ready =
+    let old = state g.S.Store c.args.tx.now.conn.now in
+    let new = state g.S.Store c.execute.new.self.conn.now in
+    if_executed _ _ old new c.execute.result _ (λ count. drops_editions old new ready count) (c.execute.ensures.runs clean ready.inside)
+
+pub returns-clause-steps : goal.returns-clause-steps
+returns-clause-steps g c = executed_steps g.S.Store _ _ c.args.tx.now.conn c.execute.new.self.conn c.execute.result c.execute.ensures.same_reference c.execute.ensures.survives c.execute.ensures.runs

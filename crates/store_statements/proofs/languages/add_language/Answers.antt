@@ -1,0 +1,16 @@
+use Rattle.std.proofs.Common.{rules, ◌≡◌, to_z, of_z, w64}
+use Rattle.sqlite.specs.Held.{state}
+use Rattle.sql_rows.proofs.Kept.{executed_steps, if_executed}
+use Rattle.store_statements.proofs.LanguageTexts.{adds_language}
+use Rattle.store_statements.proofs.languages.add_language.Goals as goal
+
+pub returns-clause-makes : goal.returns-clause-makes
+returns-clause-makes g c clean ready =
+    let old = state g.S.Store c.args.tx.now.conn.now in
+    let new = state g.S.Store c.execute.new.self.conn.now in
+    let seq : to_z w64 (of_z w64 c.args.seq) ≡ c.args.seq = search rules in
+    let ran = rw (c.params-to_sql.ensures, c.params-to_sql-2.ensures, c.params-to_sql-3.ensures, seq) at (c.execute.ensures.runs clean ready.inside) in
+    if_executed _ _ old new c.execute.result _ (adds_language old new ready c.args.site.now c.args.seq c.args.tag.now) ran
+
+pub returns-clause-steps : goal.returns-clause-steps
+returns-clause-steps g c = executed_steps g.S.Store _ _ c.args.tx.now.conn c.execute.new.self.conn c.execute.result c.execute.ensures.same_reference c.execute.ensures.survives c.execute.ensures.runs
