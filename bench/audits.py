@@ -18,6 +18,16 @@ def needs_program():
         sys.exit("no program: `rt run -- - audit < stdin` in crates/act_desk builds it")
 
 
+def option(words, name):
+    """Takes an option and its value from the words; None where it isn't there."""
+    if name not in words:
+        return None
+    place = words.index(name)
+    _, value = words[place:place + 2]
+    del words[place:place + 2]
+    return value
+
+
 def started(stdin, **pipe):
     return subprocess.Popen([PROGRAM, "-", "audit"], stdin=stdin, stdout=subprocess.PIPE, **pipe)
 
