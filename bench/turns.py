@@ -12,6 +12,9 @@ from edited import edits
 sys.path.insert(0, os.path.join(ROOT, "tools"))
 from serving import Serving, reply_in, request  # noqa: E402
 
+# How an audit ends: no rule failed, some rule failed, want of memory.
+ENDS = (0, 1, 8)
+
 
 class Side(NamedTuple):
     """A program with the words for a book, by the name that is printed."""
@@ -26,10 +29,12 @@ def audit_seconds(path, side):
     child = os.fork()
     if not child:
         os.dup2(os.open(path, os.O_RDONLY), 0)
-        os.dup2(os.open(os.devnull, os.O_WRONLY), 1)
+        nowhere = os.open(os.devnull, os.O_WRONLY)
+        os.dup2(nowhere, 1)
+        os.dup2(nowhere, 2)
         os.execv(side.program, [side.program, *side.book, "-", "audit"])
     _, status, used = os.wait4(child, 0)
-    if os.waitstatus_to_exitcode(status) not in (0, 1):
+    if os.waitstatus_to_exitcode(status) not in ENDS:
         sys.exit(f"the audit ended with {os.waitstatus_to_exitcode(status)}")
     return used.ru_utime + used.ru_stime
 
