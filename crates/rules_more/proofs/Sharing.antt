@@ -10,7 +10,7 @@ use Rattle.std.specs.Map.{update}
 use Rattle.std.specs.Option.{is_some}
 use Rattle.std.specs.Ordering.{nat_cmp}
 use Rattle.std.specs.Str.{bytes_eq}
-use Rattle.rules_more.specs.SharedWords.{share_one, Noted, has_word, HasNoted, AreNoted}
+use Rattle.rules_more.specs.SharedWords.{share_one, Noted, has_word, AreNoted}
 
 -- what a map has at a word
 abbrev pub value_of : Noted → List ℕ → Option Bool
@@ -31,15 +31,16 @@ other_word w v e = by (bytes_eq w v) refl
     by true h = absurd (false≢true (sym e ∙ (bytes_eq-Decides v w).1 (sym ((bytes_eq-Decides w v).0 h))))
     by false h = refl
 
--- one word more
-pub noted_more : (old new : Noted) (word : List ℕ) → ((w : List ℕ) → value_of new w ≡ update bytes_eq (value_of old) word (Some true) w) → HasNoted old new (word ∷ [])
-noted_more old new word h w = ap is_some (h w) ∙ by_word (bytes_eq word w) refl
+-- one word more, by what two maps have at each word
+pub one_more : (old new : List ℕ → Option Bool) (word : List ℕ) → ((w : List ℕ) → new w ≡ update bytes_eq old word (Some true) w)
+    → (w : List ℕ) → is_some (new w) ≡ (is_some (old w) || list_any (bytes_eq w) (word ∷ []))
+one_more old new word h w = ap is_some (h w) ∙ by_word (bytes_eq word w) refl
   where
-    by_word : (b : Bool) → bytes_eq word w ≡ b → is_some (cond b (Some true) (value_of old w)) ≡ (has_word old w || (bytes_eq w word || false))
+    by_word : (b : Bool) → bytes_eq word w ≡ b → is_some (cond b (Some true) (old w)) ≡ (is_some (old w) || (bytes_eq w word || false))
     by_word true e =
         let same : w ≡ word = sym ((bytes_eq-Decides word w).0 e) in
-        or_true (has_word old w) ∙ ap (λ b. has_word old w || (b || false)) (sym ((bytes_eq-Decides w word).1 same))
-    by_word false e = or_false (has_word old w) ∙ ap (λ b. has_word old w || (b || false)) (sym (other_word w word e))
+        or_true (is_some (old w)) ∙ ap (λ b. is_some (old w) || (b || false)) (sym ((bytes_eq-Decides w word).1 same))
+    by_word false e = or_false (is_some (old w)) ∙ ap (λ b. is_some (old w) || (b || false)) (sym (other_word w word e))
 
 -- some word is shared where some word was noted
 pub one_shared : (noted : Noted) (some others : List (List ℕ)) → AreNoted noted others → list_any (has_word noted) some ≡ share_one some others

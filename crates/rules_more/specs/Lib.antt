@@ -12,4 +12,6 @@ pub mod MarkedDecorative
 pub mod Presentational
 pub mod ShownText
 pub mod SharedWords
+pub mod KeptWords
+pub mod Prepared
 pub mod LabelInName

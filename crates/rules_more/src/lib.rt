@@ -9,13 +9,16 @@
 mod contexts;
 mod delay_at_all;
 mod image_descriptive;
+mod kept_words;
 mod label_descriptive;
 mod label_in_name;
+mod label_said;
 mod languages_match;
 mod last_said;
 mod marked_decorative;
 mod menuitem;
 mod permitted_state;
+mod prepared;
 mod presentational;
 mod required_context;
 mod role_attributes;
