@@ -1,4 +1,9 @@
 pub mod Answering
 pub mod Listed
+pub mod Alone
+pub mod News
+pub mod KeyOfList
+pub mod Snapped
+pub mod Together
 pub mod Pairs
 pub mod Findings

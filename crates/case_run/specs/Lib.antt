@@ -2,6 +2,7 @@ pub mod Words
 pub mod Faults
 pub mod Snapshots
 pub mod Cases
+pub mod Apart
 pub mod Grades
 pub mod Works
 pub mod Judged

@@ -11,9 +11,11 @@
 //! grades what it finds, and [`case_table`] writes the grades of each case, of each rule and of all.
 #![tactic(auto)]
 
+mod apart;
 mod case;
 mod fault;
 mod grading;
+mod letting;
 mod limits;
 mod lines;
 mod marks;

@@ -80,7 +80,8 @@ fn new_id(earlier: &[Case], id: Text) -> Option<Text>
     }
 }
 
-fn is_new(earlier: &[Case], id: &Text) -> bool
+/// Whether none of earlier cases has an id.
+pub(crate) fn is_new(earlier: &[Case], id: &Text) -> bool
     ensures { result ≡ is_new earlier.now id.now }
 {
     !is_taken(earlier, id)

@@ -68,7 +68,7 @@ fn found_by<R: Threads + Sync, B: RuleBook + Send>(
     ensures counted { sum (map B.calls books.new)
         ≤ sum (map B.calls books.old) + read_judgings B.book (cases_by B.book bytes.now) }
 {
-    match read_cases(alloc, infos, bytes) {
+    match read_cases(rt, alloc, books.len(), infos, bytes) {
         Ok(cases) => match tabled(rt, alloc, infos, cases.as_slice(), books) {
             Ok((output, failed)) => Found::Finished { output, failed },
             Err(OutOfMemory) => Found::NoMemory,

@@ -1,0 +1,82 @@
+//! Cases read by many threads that share nothing.
+
+ghost use Rattle.std.specs.Prelude.{◌≡◌, ◌<◌, ◌++◌, IfOk, IsOkAnd};
+ghost use Rattle.std.specs.Thread.{IsSync};
+ghost use Rattle.case_run.specs.Faults.{Gives};
+ghost use Rattle.case_run.specs.Apart.{alone, AreAlone};
+
+use crate::case::Case;
+use crate::fault::CasesFault;
+use crate::members::case_at;
+use audit::share;
+use json_parts::read_part;
+use rule_core::RuleInfo;
+use std::alloc::Global;
+use std::thread::{Threads, join};
+
+/// The cases that texts are, each by itself, in their order. At most so many threads read them: a new one reads its share, and
+/// this thread shares the others out.
+#[cycle(sharing)]
+pub(crate) fn read_parts<R: Threads + Sync>(
+    rt: &R,
+    alloc: &Global,
+    threads: usize,
+    infos: &[RuleInfo],
+    parts: &[&[u8]],
+) -> Result<Vec<Case>, CasesFault>
+    requires { 0 < threads }
+    ensures { IfOk result (λ cases. AreAlone infos.now parts.now cases.items) }
+{
+    if threads == 1 {
+        return read_in_turn(*alloc, infos, parts);
+    }
+    let rest = threads - 1;
+    let (ones, others) = parts.split_at(share(parts.len(), threads));
+    let first = || -> Result<Vec<Case>, CasesFault>
+        ensures { IfOk result (λ cases. AreAlone infos.entry.now ones.entry.now cases.items) }
+    { read_in_turn(*alloc, infos, ones) };
+    let later = || -> Result<Vec<Case>, CasesFault>
+        requires sync { IsSync R.row }
+        requires some { 0 < rest }
+        ensures { IfOk result (λ cases. AreAlone infos.entry.now others.entry.now cases.items) }
+    { read_parts(rt, alloc, rest, infos, others) };
+    let (first, later) = join(rt, first, later);
+    joined(first, later)
+}
+
+// The cases of two parts.
+fn joined(
+    first: Result<Vec<Case>, CasesFault>,
+    later: Result<Vec<Case>, CasesFault>,
+) -> Result<Vec<Case>, CasesFault>
+    ensures { IfOk result (λ all. IsOkAnd first (λ a. IsOkAnd later (λ b. all.items ≡ a.items ++ b.items))) }
+{
+    let mut all = first?;
+    let mut others = later?;
+    all.append(&mut others)?;
+    Ok(all)
+}
+
+// The cases of texts, one after another.
+fn read_in_turn(alloc: Global, infos: &[RuleInfo], parts: &[&[u8]]) -> Result<Vec<Case>, CasesFault>
+    ensures { IfOk result (λ cases. AreAlone infos.now parts.now cases.items) }
+{
+    let mut cases = Vec::with_capacity(alloc, parts.len())?;
+    for part in parts {
+        match read_alone(alloc, infos, part) {
+            Ok(case) => cases.push(case)?,
+            Err(fault) => return Err(fault),
+        }
+    }
+    Ok(cases)
+}
+
+// The case that a text is by itself.
+fn read_alone(alloc: Global, infos: &[RuleInfo], part: &[u8]) -> Result<Case, CasesFault>
+    ensures { Gives result (alone infos.now part.now) }
+{
+    match read_part(alloc, part)? {
+        Some(value) => case_at(alloc, infos, &[], 1, &value),
+        None => Err(CasesFault::NotJson),
+    }
+}

@@ -1,0 +1,9 @@
+pub mod Strings
+pub mod Words
+pub mod Lexing
+pub mod Places
+pub mod Trees
+pub mod Wholes
+pub mod Fronts
+pub mod Cuts
+pub mod Read

@@ -1,0 +1,25 @@
+-- What a part reads as, where it is UTF-8 and where it isn't.
+use Rattle.std.proofs.Common.{◌≡◌, ℕ, Bool, true, false, ◌&&◌, if◌then◌else◌, List, Option, None, option_map, Result, Ok, Err, IfOk, IsUtf8, refl, sym, ap, ◌∙◌}
+use Rattle.std.proofs.lemmas.Str.{IsUtf8-from_is_utf8, is_utf8-from_IsUtf8}
+use Rattle.std.specs.Str.{is_utf8}
+use Rattle.texts.specs.declared.memory.OutOfMemory.{OutOfMemory}
+use Rattle.serde_json.specs.Read.{read}
+use Rattle.serde_json.specs.View.{view}
+use Rattle.serde_json.specs.declared.value.Value.{Value}
+use Rattle.json_parts.specs.Parts.{is_shallow, part_of}
+
+same_part : (part : List ℕ) → IsUtf8 part → (if is_shallow part then read part else None) ≡ part_of part
+unfolding part_of
+same_part part utf8 = sym (ap (λ b. if b && is_shallow part then read part else None) (is_utf8-from_IsUtf8 part utf8))
+
+pub is_part : (part text : List ℕ) (r : Result (Option Value) OutOfMemory) → text ≡ part → IsUtf8 part → IfOk r (λ v. option_map view v ≡ (if is_shallow text then read text else None)) → IfOk r (λ v. option_map view v ≡ part_of part)
+is_part part text (Ok v) same utf8 h = h ∙ ap (λ t. if is_shallow t then read t else None) same ∙ same_part part utf8
+is_part part text (Err e) same utf8 h = tt
+
+not_utf8 : (part : List ℕ) (b : Bool) → is_utf8 part ≡ b → (IsUtf8 part → ⊥) → (if b && is_shallow part then read part else None) ≡ None
+not_utf8 part true is never = absurd (never (IsUtf8-from_is_utf8 part is))
+not_utf8 part false is never = refl
+
+pub no_part : (part : List ℕ) → (IsUtf8 part → ⊥) → None ≡ part_of part
+unfolding part_of
+no_part part never = sym (not_utf8 part (is_utf8 part) refl never)

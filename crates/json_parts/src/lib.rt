@@ -1,0 +1,14 @@
+//! A list of JSON (RFC 8259) whose items are read apart: of an object with one member, a list, as `{"cases":[..]}`.
+//!
+//! Start with [`cut`], which cuts the text into the texts of the items, without reading any. [`read_part`] reads one of them,
+//! so that many can be read at once, each by itself. Where each has a value, the whole is the object of the list of these
+//! values, wherever it was cut.
+#![tactic(auto)]
+
+mod cutting;
+mod front;
+mod part;
+mod scan;
+
+pub use cutting::cut;
+pub use part::read_part;
