@@ -42,7 +42,7 @@ run_parts part (c ∷ text) h = by_first (begins part (c ∷ text)) refl h (run_
     by_first true e k later = let at = begins_parts part (c ∷ text) e in ([], at.0, at.1)
     by_first false e k later = let at = later k in (c ∷ at.0, at.1, ap (λ t. c ∷ t) at.2)
 
-both_so : (r h : Bool) → (r ≡ true → h ≡ true) → (h ≡ true → r ≡ true) → r ≡ h
+pub both_so : (r h : Bool) → (r ≡ true → h ≡ true) → (h ≡ true → r ≡ true) → r ≡ h
 both_so true true f g = refl
 both_so true false f g = sym (f refl)
 both_so false true f g = g refl

@@ -3,5 +3,6 @@ pub mod Local
 mod Climbing
 mod Passing
 mod Sharing
+mod Preparing
 mod Showing
 mod Containing

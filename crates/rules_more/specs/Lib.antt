@@ -12,4 +12,5 @@ pub mod MarkedDecorative
 pub mod Presentational
 pub mod ShownText
 pub mod SharedWords
+pub mod Prepared
 pub mod LabelInName

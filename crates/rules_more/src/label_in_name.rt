@@ -1,22 +1,20 @@
-ghost use Rattle.std.specs.Prelude.{◌≡◌, ◌&&◌, IfOk};
-ghost use Rattle.texts.specs.Words.{folded};
+ghost use Rattle.std.specs.Prelude.{◌≡◌, IfOk};
 ghost use Rattle.acc_tree.specs.Seen.{seen_row, seen};
 ghost use Rattle.acc_tree.specs.Sights.{seen_sight};
 ghost use Rattle.acc_name.specs.Names.{name_of};
 ghost use Rattle.snap_tree.specs.Trees.{Document};
 ghost use Rattle.snap_tree.specs.declared.row.NodeId.{NodeId};
 ghost use Rattle.rule_sights.specs.Targets.{JudgesSights};
-ghost use Rattle.rules_more.specs.LabelInName.{has_run, is_more_than_one, lacks_each_word, folded_finding, label_finding, label_text, label_verdict, is_named_by_aria, may_differ, said_of_label, name_has_label, name_has_label_info, name_has_label_target};
+ghost use Rattle.rules_more.specs.LabelInName.{label_verdict, is_named_by_aria, may_differ, said_of_label, name_has_label, name_has_label_info, name_has_label_target};
 
+use crate::label_said::label_verdict;
 use crate::last_said::LastSaid;
-use crate::shared_words::share_word;
+use crate::prepared::LastPrepared;
 use crate::shown_text::LastShown;
 use acc_name::name;
 use acc_tree::{Above, Attribute, Sight, included_at, is_blank_at};
 use aria_tables::{AriaAttr, Role};
-use rule_core::{
-    Class, Finding, NodeVerdict, Reason, Rule, RuleInfo, RuleNo, Verdict, brief, push_verdict,
-};
+use rule_core::{Class, NodeVerdict, Rule, RuleInfo, RuleNo, Verdict, push_verdict};
 use rule_sights::sight_as;
 use rules_names::is_html_element;
 use snap_tree::{NodeId, OutOfMemory, Row, Text, Tree, blank};
@@ -67,10 +65,11 @@ const LABELLED_ROLES: [Role; 11] = [
     Role::Treeitem,
 ];
 
-// What was last shown, and what was last said.
+// What was last shown, prepared and said.
 #[derive(Drop)]
 struct Lasts {
     shown: LastShown,
+    prepared: LastPrepared,
     said: LastSaid,
 }
 
@@ -78,102 +77,41 @@ impl Lasts {
     fn new() -> Self {
         Lasts {
             shown: LastShown::new(),
+            prepared: LastPrepared::new(),
             said: LastSaid::new(),
         }
     }
 }
 
-// It reads no further than the second character.
-fn is_more_than_one(shown: &str) -> bool
-    ensures { result ≡ is_more_than_one shown.now }
-{
-    let mut count = 0usize;
-    for c in shown.chars() {
-        let _ = c;
-        if count == 1 {
-            return true;
-        }
-        count += 1;
-    }
-    false
-}
-
-// Whether the part stands in the text.
-#[tactic(auto, using(crate::proofs::Containing::run_found))]
-fn has_run(part: &str, text: &str) -> bool
-    ensures { result ≡ has_run part.now text.now }
-{
-    text.contains(part)
-}
-
-// Whether the text has more than one character, and no word of it is a word of the name.
-fn is_missing(alloc: Global, shown: &str, name: &str) -> Result<bool, OutOfMemory>
-    ensures { IfOk result (λ missing. missing ≡ (is_more_than_one shown.now && lacks_each_word shown.now name.now)) }
-{
-    if !is_more_than_one(shown) {
-        return Ok(false);
-    }
-    let shared = share_word(alloc, shown, name)?;
-    Ok(!shared)
-}
-
-fn folded_finding(alloc: Global, shown: &str, name: &str) -> Result<Finding, OutOfMemory>
-    ensures { IfOk result (λ finding. finding ≡ folded_finding shown.now name.now) }
-{
-    if is_missing(alloc, shown, name)? {
-        Ok(Finding::failed(Reason::LabelMissing))
-    } else if has_run(shown, name) {
-        Ok(Finding::met())
-    } else {
-        Ok(Finding::cant_tell(Reason::JudgeLabelInName))
-    }
-}
-
-fn in_lower_case(alloc: Global, text: &Text) -> Result<Text, OutOfMemory>
-    ensures { IfOk result (λ lower. lower ≡ folded text.now) }
-{
-    Ok(Text::from_string(text.as_str().to_ascii_lowercase(alloc)?))
-}
-
-fn finding(alloc: Global, shown: &Text, name: &Text) -> Result<Finding, OutOfMemory>
-    ensures { IfOk result (λ finding. finding ≡ label_finding shown.now name.now) }
-{
-    let shown = in_lower_case(alloc, shown)?;
-    let name = in_lower_case(alloc, name)?;
-    folded_finding(alloc, shown.as_str(), name.as_str())
-}
-
-fn label_text(alloc: Global, shown: &Text, name: &Text) -> Result<Text, OutOfMemory>
-    ensures { IfOk result (λ text. text ≡ label_text shown.now name.now) }
-{
-    let name = brief(alloc, name)?;
-    let mut text = String::from_str(alloc, shown.as_str())?;
-    text.push('\n')?;
-    text.push_str(name.as_str())?;
-    Ok(Text::from_string(text))
-}
-
-fn verdict_anew(alloc: Global, shown: &Text, name: &Text) -> Result<Verdict, OutOfMemory>
-    ensures { IfOk result (λ verdict. verdict ≡ label_verdict shown.now name.now) }
-{
-    let finding = finding(alloc, shown, name)?;
-    let text = label_text(alloc, shown, name)?;
-    finding.verdict(alloc, &text)
-}
-
-fn verdict_on(
+// Only what is shown again is prepared for further names.
+fn verdict_anew(
     alloc: Global,
-    last: &mut LastSaid,
+    lasts: &mut Lasts,
     shown: &Text,
     name: &Text,
 ) -> Result<Verdict, OutOfMemory>
     ensures { IfOk result (λ verdict. verdict ≡ label_verdict shown.now name.now) }
 {
-    if let Some(verdict) = last.again(alloc, shown, name)? {
+    if lasts.said.showed(shown) {
+        lasts.prepared.verdict(alloc, shown, name)
+    } else {
+        label_verdict(alloc, shown, name)
+    }
+}
+
+fn verdict_on(
+    alloc: Global,
+    lasts: &mut Lasts,
+    shown: &Text,
+    name: &Text,
+) -> Result<Verdict, OutOfMemory>
+    ensures { IfOk result (λ verdict. verdict ≡ label_verdict shown.now name.now) }
+{
+    if let Some(verdict) = lasts.said.again(alloc, shown, name)? {
         return Ok(verdict);
     }
-    let verdict = verdict_anew(alloc, shown, name)?;
-    last.keep(alloc, shown, name, &verdict)?;
+    let verdict = verdict_anew(alloc, lasts, shown, name)?;
+    lasts.said.keep(alloc, shown, name, &verdict)?;
     Ok(verdict)
 }
 
@@ -207,7 +145,7 @@ fn verdict(
         return Ok(None);
     }
     let name = name(alloc, tree, n)?;
-    Ok(Some(verdict_on(alloc, &mut lasts.said, &shown, &name.text)?))
+    Ok(Some(verdict_on(alloc, lasts, &shown, &name.text)?))
 }
 
 fn verdict_among(
@@ -237,8 +175,8 @@ impl Rule for NameHasLabel {
         verdict_among(alloc, &mut Lasts::new(), tree, n)
     }
 
-    /// Of elements that stand in one another and show the same text, only for the first is it tidied; where they have one
-    /// name too, only for the first is it compared and digested.
+    /// Of elements that stand in one another and show the same text, only for the first is it tidied, and only for the
+    /// first two is a long one gone over: each further one costs no more than its name.
     fn judge_page(&self, alloc: Global, tree: &Tree) -> Result<Vec<NodeVerdict>, OutOfMemory> {
         let mut lasts = Lasts::new();
         let mut verdicts = Vec::new(alloc);

@@ -76,6 +76,14 @@ impl LastSaid {
         }
     }
 
+    /// Whether the last one showed this too.
+    pub(crate) fn showed(&self, shown: &Text) -> bool {
+        match &self.last {
+            Some(said) => said.shown == *shown,
+            None => false,
+        }
+    }
+
     /// Keeps a verdict as the one that was last given.
     pub(crate) fn keep(
         &mut self,

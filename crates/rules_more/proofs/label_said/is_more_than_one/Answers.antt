@@ -4,7 +4,7 @@ use Rattle.std.proofs.lemmas.Iterator.{YieldsList-from_chars}
 use Rattle.std.proofs.lemmas.Iterator.Consumers.{YieldsList-turn, YieldsList-end}
 use Rattle.std.proofs.lemmas.List.{length_push}
 use Rattle.std.specs.Str.{chars}
-use Rattle.rules_more.proofs.label_in_name.is_more_than_one.Goals as goal
+use Rattle.rules_more.proofs.label_said.is_more_than_one.Goals as goal
 
 pub returns-then-count-eq1 : goal.returns-then-count-eq1
 returns-then-count-eq1 c =
