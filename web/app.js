@@ -8,6 +8,7 @@ import { showPage } from './findings.js';
 import { showJudging } from './judging.js';
 import { showLanguages } from './languages.js';
 import { showNames } from './names.js';
+import { showTaking } from './taking.js';
 
 const byId = (id) => document.getElementById(id);
 
@@ -80,6 +81,7 @@ class App {
       else if (!page) await showSite(this, site, current);
       else if (judge) await showJudging(this, site, page, judge, current, loaded);
       else if (show === 'names') await showNames(this, site, page, current);
+      else if (show === 'earl') await showTaking(this, site, page, current);
       else await showPage(this, site, page, current, loaded);
       if (current()) this.say('');
     } catch (error) {

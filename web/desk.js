@@ -62,6 +62,7 @@ export const snapshot = async (site, page) => JSON.parse(await ask('GET', pagePa
 export const names = async (site, page) => JSON.parse(await ask('GET', `${pagePath(site, page)}/names`)).names;
 export const putLanguages = async (site, languages) => JSON.parse(await ask('PUT', `${sitePath(site)}/languages`, { languages }));
 export const siteReport = (site) => ask('GET', `${sitePath(site)}/report`);
+export const takeEarl = async (site, page, entries) => JSON.parse(await ask('POST', `${pagePath(site, page)}/earl`, { '@graph': entries }));
 export const judge = async (site, page, judgement) => JSON.parse(await ask('POST', `${pagePath(site, page)}/judgements`, judgement));
 
 /**

@@ -105,7 +105,8 @@ function waysOn(app, site, name, page) {
   return [page.needed && open.length ? el('p', {}, `${many} open. Judging on ${site} takes ${desk.roleNamed(page.needed)}.`) : null,
     el('p', { class: 'buttons' },
       open.length && !page.needed ? app.link({ site, page: name, judge: placeOf(open[0][0]) }, `Judge ${many}, one after another`, { class: 'button' }) : null,
-      app.link({ site, page: name, show: 'names' }, 'Names as a screen reader says them', { class: 'button second' }))];
+      app.link({ site, page: name, show: 'names' }, 'Names as a screen reader says them', { class: 'button second' }),
+      app.link({ site, page: name, show: 'earl' }, 'Judgements from a file', { class: 'button second' }))];
 }
 
 /** The findings of a page that are as the address says, a part of them. */

@@ -7,6 +7,7 @@ pub mod Languages
 pub mod Pages
 pub mod Imports
 pub mod Judging
+pub mod Claiming
 pub mod Reading
 pub mod Changes
 pub mod Steps
@@ -24,3 +25,4 @@ pub mod InHand
 pub mod Relisting
 pub mod Once
 pub mod Revisions
+pub mod Between

@@ -67,6 +67,7 @@ fn reply_kind(reply: &Reply) -> Kind
         | Reply::Dropped { .. }
         | Reply::Imported { .. }
         | Reply::Judged { .. }
+        | Reply::Taken { .. }
         | Reply::Outcomes(_)
         | Reply::Names(_)
         | Reply::Refused(_) => Kind::Json,
@@ -86,6 +87,7 @@ fn reply_status(reply: &Reply) -> u16
         | Reply::Dropped { .. }
         | Reply::Imported { .. }
         | Reply::Judged { .. }
+        | Reply::Taken { .. }
         | Reply::Outcomes(_)
         | Reply::Report(_)
         | Reply::Earl(_)
