@@ -18,7 +18,7 @@ fn gives(needed: Needed, held: MemberRole) -> bool
 }
 
 /// The role of a user among the members of a site; None for a stranger.
-fn role_of(user: &Text, members: &[Member]) -> Option<MemberRole>
+pub fn role_of(user: &Text, members: &[Member]) -> Option<MemberRole>
     ensures { result ≡ role_of user.now members.now }
 {
     members
