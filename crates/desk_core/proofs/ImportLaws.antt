@@ -22,6 +22,7 @@ use Rattle.keep_core.specs.declared.change.Change.TheVariants.{PutPages}
 use Rattle.keep_core.specs.declared.tables.KeptPage.{KeptPage}
 use Rattle.keep_core.specs.declared.tables.Tables.{Tables}
 use Rattle.keep_core.specs.Tables.{page_name, pages_of, heads_of}
+use Rattle.keep_core.proofs.Leaving.{spares_then}
 use Rattle.desk_core.specs.declared.command.Entry.{Entry}
 use Rattle.desk_core.specs.declared.decided.Decided.{Decided}
 use Rattle.desk_core.specs.declared.placed.Placed.{Placed}
@@ -35,7 +36,7 @@ use Rattle.desk_core.specs.State.{PageState, SiteState, page_at}
 use Rattle.desk_core.specs.Pages.{revision_in, judged, rev_of, has_room_for, has_revisions, built, page_put, stored}
 use Rattle.desk_core.specs.Imports.{new_pages, first_stale, first_fault, puts, import}
 use Rattle.desk_core.specs.Costs.{import_judgings}
-use Rattle.desk_core.specs.Told.{Told}
+use Rattle.desk_core.specs.Told.{Told, kept_at}
 use Rattle.desk_core.specs.Placing.{placed, head_name, current_in, read_place, entries_of, new_among, current_of, is_stale, stale_of, stale_among, heads_from, work_of, put_of, work_listed, puts_by, storing_all, import_placed, PlacesSome, Places}
 use Rattle.keep_core.specs.declared.site.Site.{Site}
 use Rattle.desk_core.specs.declared.refusal.Needed.TheVariants.{Editor}
@@ -79,6 +80,7 @@ pub place_more : (site : List ℕ) (heads : List PageHead) (entries : List Entry
     → PlacesSome site heads (entries ++ e ∷ []) old new more
 place_more site heads entries e old mid new all more w some one is = record {
   stays = λ t told. some.stays t (one.reads.stays t told);
+  spares = spares_then (kept_at old) (kept_at mid) (kept_at new) some.spares one.reads.spares;
   never_falls = omega (arith, some.never_falls, one.reads.never_falls);
   listed =
       ap entries_of is

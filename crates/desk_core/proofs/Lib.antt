@@ -17,6 +17,7 @@ pub mod SheetLaws
 pub mod SheetSteps
 pub mod JudgeLaws
 pub mod Served
+pub mod Crashing
 pub mod Costing
 pub mod Arms
 pub mod Edited
@@ -33,6 +34,7 @@ pub mod NewOutcomes
 pub mod LanguageLaws
 pub mod NewLists
 pub mod Refreshing
+pub mod Resting
 pub mod Freshened
 pub mod SeenAlike
 pub mod ByHeads

@@ -10,6 +10,8 @@ use Rattle.keep_core.specs.declared.page.SitePage.{SitePage}
 use Rattle.keep_core.specs.declared.tables.Tables.{Tables}
 use Rattle.keep_core.specs.Tables.{pages_of, site_of}
 use Rattle.keep_core.specs.Fits.{Fits, FitsSite, IsThere}
+use Rattle.keep_core.specs.Keeping.{Spares}
+use Rattle.keep_core.proofs.Leaving.{spares_then}
 use Rattle.desk_core.specs.declared.decided.Decided.{Decided}
 use Rattle.desk_core.specs.declared.refusal.Needed.{Needed}
 use Rattle.desk_core.specs.declared.refusal.Needed.TheVariants.{Editor}
@@ -21,7 +23,7 @@ use Rattle.desk_core.specs.Pages.{revision_in, judged}
 use Rattle.desk_core.specs.State.{PageState, site_state, state_of, site_at, page_at}
 use Rattle.desk_core.specs.Rights.{entering, on_page}
 use Rattle.desk_core.specs.Steps.{Request, decided}
-use Rattle.desk_core.specs.Told.{Told}
+use Rattle.desk_core.specs.Told.{Told, kept_at}
 use Rattle.desk_core.specs.Serving.{Stands, Agrees, Accepts, KeepsEdition, IsFirm, Admits, OnlyReads, IsIn, Enters, Finds, FindsPage, ReadsPage, Decides, page_in}
 use Rattle.desk_core.proofs.Deciding.{Brings, brought}
 use Rattle.desk_core.proofs.Fitted.{IfAnyFits, IfAnyKeeps}
@@ -35,6 +37,7 @@ pub thence : {A B : Type 0} (old mid new : Told) (r : Result A Refusal) (s : Res
     → OnlyReads old mid r → OnlyReads mid new s → OnlyReads old new s
 thence old mid new r s earlier later = record {
   stays = λ t told. earlier.stays t (later.stays t told);
+  spares = spares_then (kept_at old) (kept_at mid) (kept_at new) earlier.spares later.spares;
   never_falls = omega (arith, earlier.never_falls, later.never_falls);
   failed = λ e. rose_after old.faults mid.faults new.faults earlier.never_falls (later.failed e);
 }
@@ -42,7 +45,7 @@ thence old mid new r s earlier later = record {
 -- reading whose answer isn't the keeper's fault
 pub only_read : {A B : Type 0} (old new : Told) (r : Result A Refusal) (s : Result B Refusal)
     → (IsErrOf s refusal.KeeperFault → IsErrOf r refusal.KeeperFault) → OnlyReads old new r → OnlyReads old new s
-only_read old new r s unless reads = record { stays = reads.stays; never_falls = reads.never_falls; failed = λ e. reads.failed (unless e) }
+only_read old new r s unless reads = record { stays = reads.stays; spares = reads.spares; never_falls = reads.never_falls; failed = λ e. reads.failed (unless e) }
 
 -- a refusal that stands where no keeper is asked stands anywhere, and it isn't the keeper's fault
 pub stands_anywhere : (r : Refusal) (decision : Decision) → Stands ⊥ r decision → Stands (Unit {0}) r decision
@@ -130,16 +133,16 @@ read_as {A} {B} old new r reads = only_read old new (let e : Result A Refusal = 
 
 -- the row of a site that the caller may enter, and the refusal of one that the caller mayn't
 pub admitted : (leave : Needed) (caller name : List ℕ) (site : Site) (old new : Told) (result : Result Site Refusal)
-    → ((t : Tables) → new.tables ≡ Some t → old.tables ≡ Some t) → old.faults ≤ new.faults → FitsSite site → ((t : Tables) → new.tables ≡ Some t → site_of name t ≡ Some site) → Admits leave caller site result
+    → ((t : Tables) → new.tables ≡ Some t → old.tables ≡ Some t) → Spares (kept_at old) (kept_at new) → old.faults ≤ new.faults → FitsSite site → ((t : Tables) → new.tables ≡ Some t → site_of name t ≡ Some site) → Admits leave caller site result
     → Enters leave caller name old new result
-admitted leave caller name site old new (Ok given) stays never_falls fits kept admits = record {
-  reads = record { stays = stays; never_falls = never_falls; failed = λ e. cc };
+admitted leave caller name site old new (Ok given) stays spares never_falls fits kept admits = record {
+  reads = record { stays = stays; spares = spares; never_falls = never_falls; failed = λ e. cc };
   fits = subst FitsSite admits.0 fits;
   found = λ t told. record { kept = kept t told ∙ ap Some admits.0; may_do = admits.1 };
   refused = tt;
 }
-admitted leave caller name site old new (Err r) stays never_falls fits kept admits = record {
-  reads = record { stays = stays; never_falls = never_falls; failed = λ e. let is : r ≡ refusal.NotAllowed leave = admits.0 in cc };
+admitted leave caller name site old new (Err r) stays spares never_falls fits kept admits = record {
+  reads = record { stays = stays; spares = spares; never_falls = never_falls; failed = λ e. let is : r ≡ refusal.NotAllowed leave = admits.0 in cc };
   fits = tt;
   found = tt;
   refused =

@@ -55,7 +55,7 @@ told_before d mid new reply commits = told_by d mid new reply commits.made
 
 -- ---- faults
 
-not_accepted : (r : Refusal) (reply : Reply) → IsAccepted reply → reply ≡ Refused r → ⊥
+pub not_accepted : (r : Refusal) (reply : Reply) → IsAccepted reply → reply ≡ Refused r → ⊥
 not_accepted r reply accepted is = subst IsAccepted is accepted
 
 fault_rose : (at now : ℕ) (reply : Reply) → Fails reply at now → reply ≡ Refused refusal.KeeperFault → Rose at now
@@ -73,7 +73,7 @@ stays_by : (old mid new : Told) (d : Decided) (reply : Reply) (r : Refusal) → 
 stays_by old mid new d reply r refused accepted stays (inl is) = absurd (not_accepted r d.reply accepted (sym is.0 ∙ refused))
 stays_by old mid new d reply r refused accepted stays (inr is) = λ t told. stays t (is.1 t told)
 
-same_tables : (s t : Tables) (old : Option Tables) → old ≡ Some s → old ≡ Some t → s ≡ t
+pub same_tables : (s t : Tables) (old : Option Tables) → old ≡ Some s → old ≡ Some t → s ≡ t
 same_tables s t old was is = let both : Some s ≡ Some t = sym was ∙ is in cc
 
 module _ (book : Book) (request : Request) where

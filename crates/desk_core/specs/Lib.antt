@@ -17,6 +17,7 @@ pub mod Refreshing
 pub mod Runs
 pub mod Told
 pub mod Serving
+pub mod Crashing
 pub mod Sheets
 pub mod Placing
 pub mod Building

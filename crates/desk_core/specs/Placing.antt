@@ -15,7 +15,7 @@ use Rattle.keep_core.specs.declared.page.PagePut.{PagePut}
 use Rattle.keep_core.specs.declared.change.Change.TheVariants.{PutPages}
 use Rattle.keep_core.specs.declared.tables.Tables.{Tables}
 use Rattle.keep_core.specs.Tables.{pages_of, judgements_of}
-use Rattle.keep_core.specs.Keeping.{Stays}
+use Rattle.keep_core.specs.Keeping.{Stays, Spares}
 use Rattle.desk_core.specs.declared.command.Entry.{Entry}
 use Rattle.desk_core.specs.declared.placed.Placed.{Placed}
 use Rattle.desk_core.specs.declared.arrival.Arrival.{Arrival}
@@ -28,7 +28,7 @@ use Rattle.desk_core.specs.Refusals.{Decision, unless, unless_refused}
 use Rattle.desk_core.specs.State.{PageState, page_state, kept_listed, page_at}
 use Rattle.desk_core.specs.Pages.{revision_in, due, judged, has_room_for, has_revisions, stored}
 use Rattle.desk_core.specs.Imports.{first_fault}
-use Rattle.desk_core.specs.Told.{Told}
+use Rattle.desk_core.specs.Told.{Told, kept_at}
 use Rattle.desk_core.specs.Serving.{FailsOnly, RefusesSite, OnlyReads, IsIn}
 
 -- an entry with the revision and the judgements of the page in its place
@@ -109,6 +109,7 @@ import_placed book site langs caller counter pages all =
 -- entries so far, each with what is kept in its place, as a keeper was read
 pub record PlacesSome (site : List ℕ) (heads : List PageHead) (entries : List Entry) (old new : Told) (all : List Placed) : Type 0 where
   pub stays : Stays old.tables new.tables
+  pub spares : Spares (kept_at old) (kept_at new)
   pub never_falls : old.faults ≤ new.faults
   pub listed : entries_of all ≡ entries
   pub told : (t : Tables) → new.tables ≡ Some t → all ≡ map (read_place heads site t) entries

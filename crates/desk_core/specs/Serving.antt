@@ -13,7 +13,7 @@ use Rattle.keep_core.specs.declared.tables.KeptPage.{KeptPage}
 use Rattle.keep_core.specs.declared.tables.Tables.{Tables}
 use Rattle.keep_core.specs.Tables.{kept_site, languages_of, site_of, kept_page, pages_of, outcomes_of}
 use Rattle.keep_core.specs.Fits.{Fits, FitsSite, FitsPage, IsThere}
-use Rattle.keep_core.specs.Keeping.{Stays, Turns}
+use Rattle.keep_core.specs.Keeping.{Stays, Turns, Spares}
 use Rattle.keep_core.specs.declared.change.Change.{Change}
 use Rattle.keep_core.specs.declared.change.Change.TheVariants.{PutPages, SetEdition}
 use Rattle.desk_core.specs.declared.decided.Decided.{Decided}
@@ -35,7 +35,7 @@ use Rattle.desk_core.specs.Reading.{answered, site_page}
 use Rattle.desk_core.specs.Soundness as soundness
 use Rattle.desk_core.specs.Soundness.{IsSound}
 use Rattle.desk_core.specs.Runs.{Fails, Answers}
-use Rattle.desk_core.specs.Told.{Told}
+use Rattle.desk_core.specs.Told.{Told, kept_at}
 use Rattle.desk_core.specs.declared.command.Command.{Command}
 use Rattle.desk_core.specs.declared.command.Command.TheVariants.{EditPage}
 
@@ -117,6 +117,7 @@ IsFirm book request tables d =
 -- tables are only read, and a keeper's fault is one that was counted
 pub record OnlyReads {A : Type 0} (old new : Told) (result : Result A Refusal) : Type 0 where
   pub stays : Stays old.tables new.tables
+  pub spares : Spares (kept_at old) (kept_at new)
   pub never_falls : old.faults ≤ new.faults
   pub failed : IsErrOf result KeeperFault → Rose old.faults new.faults
 

@@ -1,6 +1,7 @@
-ghost use Rattle.std.specs.Prelude.{Some, IfSome};
+ghost use Rattle.std.specs.Prelude.{◌≡◌, Some, IfSome};
 ghost use Rattle.keep_core.specs.Fits.{Fits, IsThere};
-ghost use Rattle.desk_core.specs.Serving.{Commits};
+ghost use Rattle.desk_core.specs.Serving.{IsAccepted, Commits};
+ghost use Rattle.desk_core.specs.Crashing.{LeavesBy, SettlesBy};
 ghost use Rattle.desk_core.specs.Told.{told_of};
 
 use crate::decided::Decided;
@@ -13,7 +14,10 @@ use std::alloc::Global;
 pub fn commit<K: Keeper>(alloc: Global, keeper: &mut K, decided: Decided) -> Reply
     requires fits { IfSome decided.change Fits }
     requires there { IfSome decided.change (λ change. IfSome (K.tables keeper.old) (IsThere change)) }
-    ensures { Commits decided (told_of K.Keeper keeper.old) (told_of K.Keeper keeper.new) result }
+    ensures commits { Commits decided (told_of K.Keeper keeper.old) (told_of K.Keeper keeper.new) result }
+    ensures crash { LeavesBy decided.change (told_of K.Keeper keeper.old) (told_of K.Keeper keeper.new) }
+    ensures settled { IsAccepted decided.reply → result ≡ decided.reply
+        → SettlesBy decided.change (told_of K.Keeper keeper.old) (told_of K.Keeper keeper.new) }
 {
     let Decided { change, reply } = decided;
     match change {
@@ -25,8 +29,10 @@ pub fn commit<K: Keeper>(alloc: Global, keeper: &mut K, decided: Decided) -> Rep
 fn make<K: Keeper>(alloc: Global, keeper: &mut K, change: Change, reply: Reply) -> Reply
     requires fits { Fits change }
     requires there { IfSome (K.tables keeper.old) (IsThere change) }
-    ensures { Commits (record { change = Some change; reply = reply })
+    ensures commits { Commits (record { change = Some change; reply = reply })
         (told_of K.Keeper keeper.old) (told_of K.Keeper keeper.new) result }
+    ensures crash { LeavesBy (Some change) (told_of K.Keeper keeper.old) (told_of K.Keeper keeper.new) }
+    ensures settled { IsAccepted reply → result ≡ reply → SettlesBy (Some change) (told_of K.Keeper keeper.old) (told_of K.Keeper keeper.new) }
 {
     let batch = Batch { change };
     match keeper.apply(alloc, &batch) {

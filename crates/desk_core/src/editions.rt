@@ -5,9 +5,13 @@ ghost use Rattle.snap_tree.specs.Langs.{AreLangs};
 ghost use Rattle.keep_core.specs.declared.limits.TheConstants.{MOST_REVISION};
 ghost use Rattle.keep_core.specs.declared.change.Change.TheVariants.{Refresh, SetEdition};
 ghost use Rattle.keep_core.specs.Fits.{FitsHeads, FitsOutcomes, FitNames};
-ghost use Rattle.keep_core.specs.Keeping.{CountsFaults, Makes};
+ghost use Rattle.keep_core.specs.Keeping.{CountsFaults, Makes, Spares, Leaves};
+ghost use Rattle.keep_core.specs.Kept.{kept_of};
 ghost use Rattle.keep_core.specs.Names.{is_name};
 ghost use Rattle.desk_core.specs.declared.limits.TheConstants.{MOST_BATCH};
+ghost use Rattle.rule_core.specs.Books.{Book};
+ghost use Rattle.desk_core.specs.Told.{told_of};
+ghost use Rattle.desk_core.specs.Crashing.{KeepsAway, GoesAway, Renews};
 ghost use Rattle.desk_core.specs.Refreshing.{book_edition, work_of, Refreshes, LeavesEdition, Audits, AreLanguagesOf, AreOfNoBook, Steps, AreAllFresh, AreFreshSites, IsFreshSite, AreFreshPages, refresh_judgings, all_judgings, sites_judgings, site_judgings_of, heads_judgings, CostsAtMost};
 
 use crate::languages::name_all;
@@ -40,6 +44,8 @@ pub fn edition_of<B: RuleBook>(alloc: Global, book: &B) -> Result<u64, OutOfMemo
 /// where they weren't of the book's. Nothing in them changes but outcomes and the edition. So a refresh that broke
 /// off is made up for by the next.
 ///
+/// A crash at any moment leaves tables that the next may begin with, where it could leave no others before.
+///
 /// The books judge each atomic rule on each node of all pages at most, and nothing where the edition is the book's.
 /// `Failed` comes only where the keeper's faults rose in this call.
 pub fn refresh<R: Threads + Sync, K: Keeper, B: RuleBook + Send>(
@@ -50,6 +56,7 @@ pub fn refresh<R: Threads + Sync, K: Keeper, B: RuleBook + Send>(
 ) -> Result<(), KeepFault>
     requires { 0 < length books.old }
     ensures refreshes { Refreshes B.book (K.tables keeper.old) (K.tables keeper.new) result }
+    ensures crash { Renews B.book (told_of K.Keeper keeper.old) (told_of K.Keeper keeper.new) result }
     ensures counted { CostsAtMost (refresh_judgings B.book) (K.tables keeper.old) (K.tables keeper.new)
         (sum_by B.calls books.old) (sum_by B.calls books.new) }
     ensures faults { CountsFaults (K.faults keeper.old) (K.faults keeper.new) result }
@@ -67,6 +74,7 @@ pub fn refresh<R: Threads + Sync, K: Keeper, B: RuleBook + Send>(
 // Sets the edition to 0, where it isn't.
 fn leave_edition<K: Keeper>(alloc: Global, keeper: &mut K, kept: u64) -> Result<(), KeepFault>
     ensures leaves { LeavesEdition kept (K.tables keeper.old) (K.tables keeper.new) result }
+    ensures crash { (book : Book) → GoesAway book kept (told_of K.Keeper keeper.old) (told_of K.Keeper keeper.new) result }
     ensures faults { CountsFaults (K.faults keeper.old) (K.faults keeper.new) result }
 {
     if kept == 0 {
@@ -78,6 +86,7 @@ fn leave_edition<K: Keeper>(alloc: Global, keeper: &mut K, kept: u64) -> Result<
 fn set_edition<K: Keeper>(alloc: Global, keeper: &mut K, number: u64) -> Result<(), KeepFault>
     requires { number ≤ MOST_REVISION }
     ensures makes { Makes (SetEdition number) (K.tables keeper.old) (K.tables keeper.new) result }
+    ensures crash { Leaves (SetEdition number) (kept_of K.Keeper keeper.old) (kept_of K.Keeper keeper.new) result }
     ensures faults { CountsFaults (K.faults keeper.old) (K.faults keeper.new) result }
 {
     let batch = Batch {
@@ -96,6 +105,7 @@ fn refresh_all<R: Threads + Sync, K: Keeper, B: RuleBook + Send>(
     requires some { 0 < length books.old }
     requires away { AreOfNoBook (K.tables keeper.old) }
     ensures steps { Steps B.book (AreAllFresh B.book) (K.tables keeper.old) (K.tables keeper.new) result }
+    ensures crash { KeepsAway B.book (told_of K.Keeper keeper.old) (told_of K.Keeper keeper.new) }
     ensures counted { CostsAtMost (all_judgings B.book) (K.tables keeper.old) (K.tables keeper.new)
         (sum_by B.calls books.old) (sum_by B.calls books.new) }
     ensures faults { CountsFaults (K.faults keeper.old) (K.faults keeper.new) result }
@@ -116,6 +126,7 @@ fn refresh_sites<R: Threads + Sync, K: Keeper, B: RuleBook + Send>(
     requires names { FitNames names.now }
     requires away { AreOfNoBook (K.tables keeper.old) }
     ensures steps { Steps B.book (AreFreshSites B.book names.now) (K.tables keeper.old) (K.tables keeper.new) result }
+    ensures crash { KeepsAway B.book (told_of K.Keeper keeper.old) (told_of K.Keeper keeper.new) }
     ensures counted { CostsAtMost (sites_judgings B.book names.now) (K.tables keeper.old) (K.tables keeper.new)
         (sum_by B.calls books.old) (sum_by B.calls books.new) }
     ensures faults { CountsFaults (K.faults keeper.old) (K.faults keeper.new) result }
@@ -138,6 +149,7 @@ fn refresh_site<R: Threads + Sync, K: Keeper, B: RuleBook + Send>(
     requires name { IsTrue (is_name name.now) }
     requires away { AreOfNoBook (K.tables keeper.old) }
     ensures steps { Steps B.book (IsFreshSite B.book name.now) (K.tables keeper.old) (K.tables keeper.new) result }
+    ensures crash { KeepsAway B.book (told_of K.Keeper keeper.old) (told_of K.Keeper keeper.new) }
     ensures counted { CostsAtMost (site_judgings_of B.book name.now) (K.tables keeper.old) (K.tables keeper.new)
         (sum_by B.calls books.old) (sum_by B.calls books.new) }
     ensures faults { CountsFaults (K.faults keeper.old) (K.faults keeper.new) result }
@@ -174,6 +186,7 @@ fn refresh_pages<R: Threads + Sync, K: Keeper, B: RuleBook + Send>(
     requires heads { FitsHeads heads.now }
     requires away { AreOfNoBook (K.tables keeper.old) }
     ensures steps { Steps B.book (AreFreshPages B.book site.now heads.now) (K.tables keeper.old) (K.tables keeper.new) result }
+    ensures crash { KeepsAway B.book (told_of K.Keeper keeper.old) (told_of K.Keeper keeper.new) }
     ensures counted { CostsAtMost (heads_judgings B.book site.now heads.now) (K.tables keeper.old) (K.tables keeper.new)
         (sum_by B.calls books.old) (sum_by B.calls books.new) }
     ensures faults { CountsFaults (K.faults keeper.old) (K.faults keeper.new) result }
@@ -204,6 +217,7 @@ fn refresh_some<R: Threads + Sync, K: Keeper, B: RuleBook + Send>(
     requires away { AreOfNoBook (K.tables keeper.old) }
     requires few { length heads.now ≤ MOST_BATCH }
     ensures steps { Steps B.book (AreFreshPages B.book site.now heads.now) (K.tables keeper.old) (K.tables keeper.new) result }
+    ensures crash { KeepsAway B.book (told_of K.Keeper keeper.old) (told_of K.Keeper keeper.new) }
     ensures counted { CostsAtMost (heads_judgings B.book site.now heads.now) (K.tables keeper.old) (K.tables keeper.new)
         (sum_by B.calls books.old) (sum_by B.calls books.new) }
     ensures faults { CountsFaults (K.faults keeper.old) (K.faults keeper.new) result }
@@ -226,6 +240,7 @@ fn audit_some<R: Threads + Sync, K: Keeper, B: RuleBook + Send>(
     requires languages { AreLangs languages.now }
     requires few { length heads.now ≤ MOST_BATCH }
     ensures audits { Audits B.book site.now languages.now heads.now (K.tables keeper.old) (K.tables keeper.new) result }
+    ensures crash { Spares (kept_of K.Keeper keeper.old) (kept_of K.Keeper keeper.new) }
     ensures counted { CostsAtMost (heads_judgings B.book site.now heads.now) (K.tables keeper.old) (K.tables keeper.new)
         (sum_by B.calls books.old) (sum_by B.calls books.new) }
     ensures faults { CountsFaults (K.faults keeper.old) (K.faults keeper.new) result }
@@ -246,6 +261,7 @@ fn replace<K: Keeper>(
     requires fits { FitsOutcomes site.now pages }
     requires away { AreOfNoBook (K.tables keeper.old) }
     ensures makes { Makes (Refresh site.now pages) (K.tables keeper.old) (K.tables keeper.new) result }
+    ensures crash { (book : Book) → KeepsAway book (told_of K.Keeper keeper.old) (told_of K.Keeper keeper.new) }
     ensures faults { CountsFaults (K.faults keeper.old) (K.faults keeper.new) result }
 {
     let site = site.copy(alloc)?;

@@ -2,6 +2,7 @@ ghost use Rattle.std.specs.Prelude.{◌<◌, length, sum_by};
 ghost use Rattle.desk_core.specs.Costs.{Costs, UsesFirst};
 ghost use Rattle.desk_core.specs.Fitting.{FitsRequest};
 ghost use Rattle.desk_core.specs.Serving.{Decides, Serves};
+ghost use Rattle.desk_core.specs.Crashing.{Crashes, KeepsReady};
 ghost use Rattle.desk_core.specs.Steps.{asked_by};
 ghost use Rattle.desk_core.specs.Told.{told_of};
 
@@ -38,6 +39,9 @@ use std::thread::Threads;
 /// with `OutOfMemory`. Whatever it is refused with, the tables stay, sound or not; and sound or not they change
 /// only by a judgement, by an edit, by a list of languages or by what the machine decides.
 ///
+/// Over sound tables that are told, a crash at any moment leaves what it could leave before the request, or the tables with
+/// the change that the machine decides, and only these once it was accepted.
+///
 /// The books judge at most: where rows make trees, each atomic rule on each node of a page that is put or
 /// imported, accepted or not; of an edited page, where the edits can be carried out, the pairs of an atomic rule
 /// and a node that they affect; for a list of languages those pairs of each page of the site, between the old list and
@@ -56,6 +60,9 @@ pub fn handle<R: Threads + Sync, K: Keeper, B: RuleBook + Send>(
     requires fits { FitsRequest B.book (asked_by caller.now command) }
     ensures served { Serves B.book (asked_by caller.now command)
         (told_of K.Keeper keeper.old) (told_of K.Keeper keeper.new) result }
+    ensures crash { Crashes B.book (asked_by caller.now command)
+        (told_of K.Keeper keeper.old) (told_of K.Keeper keeper.new) result }
+    ensures ready { KeepsReady B.book (told_of K.Keeper keeper.old) (told_of K.Keeper keeper.new) }
     ensures counted { Costs B.book command (K.tables keeper.old) (K.tables keeper.new) (sum_by B.calls books.old) (sum_by B.calls books.new) }
     ensures others { UsesFirst command books.old books.new }
 {

@@ -3,6 +3,8 @@ ghost use Rattle.std.specs.Vec.{vec_capacity};
 ghost use Rattle.rule_core.specs.declared.info.RuleInfo.{RuleInfo};
 ghost use Rattle.rule_core.specs.Infos.{is_orderly};
 ghost use Rattle.desk_core.specs.Fitting.{FitsRequest};
+ghost use Rattle.desk_core.specs.Told.{told_of};
+ghost use Rattle.desk_core.specs.Crashing.{KeepsReady};
 ghost use Rattle.http_messages.specs.declared.item.Sent.TheVariants as came;
 ghost use Rattle.desk_http.specs.Printed.{bytes_of, PrintsReply, PrintsAnswer};
 ghost use Rattle.http_replies.specs.Answers.{answer_bytes, no_memory};
@@ -35,9 +37,10 @@ pub(crate) fn answer<R: Threads + Sync, K: Keeper, B: RuleBook + Send>(
     closes: bool,
 ) -> Printed
     requires some { 0 < length books.old }
-    ensures { Responds B.book sent.now closes
+    ensures responds { Responds B.book sent.now closes
         (moment_of K.Keeper B.calls keeper.old books.old)
         (moment_of K.Keeper B.calls keeper.new books.new) (bytes_of result) }
+    ensures ready { KeepsReady B.book (told_of K.Keeper keeper.old) (told_of K.Keeper keeper.new) }
 {
     match sent {
         Sent::Refused(fault) => refuse(alloc, &books[0], Answer::Misread(*fault), closes),
@@ -55,9 +58,10 @@ fn answer_message<R: Threads + Sync, K: Keeper, B: RuleBook + Send>(
     closes: bool,
 ) -> Printed
     requires some { 0 < length books.old }
-    ensures { Responds B.book (came.Asked message.now) closes
+    ensures responds { Responds B.book (came.Asked message.now) closes
         (moment_of K.Keeper B.calls keeper.old books.old)
         (moment_of K.Keeper B.calls keeper.new books.new) (bytes_of result) }
+    ensures ready { KeepsReady B.book (told_of K.Keeper keeper.old) (told_of K.Keeper keeper.new) }
 {
     match request_of(
         alloc,
@@ -131,9 +135,10 @@ fn answer_request<R: Threads + Sync, K: Keeper, B: RuleBook + Send>(
 ) -> Printed
     requires some { 0 < length books.old }
     requires fits { FitsRequest B.book (as_request asked) }
-    ensures { RespondsTo B.book (as_request asked) closes
+    ensures responds { RespondsTo B.book (as_request asked) closes
         (moment_of K.Keeper B.calls keeper.old books.old)
         (moment_of K.Keeper B.calls keeper.new books.new) (bytes_of result) }
+    ensures ready { KeepsReady B.book (told_of K.Keeper keeper.old) (told_of K.Keeper keeper.new) }
 {
     match paper_for(alloc, &books[0]) {
         Ok(paper) => hand_over(rt, alloc, keeper, books, asked, paper, closes),
@@ -156,9 +161,10 @@ fn hand_over<R: Threads + Sync, K: Keeper, B: RuleBook + Send>(
     requires infos { paper.infos.items ≡ B.book.infos }
     requires empty { paper.room.items ≡ [] }
     requires room { MOST_REPLY ≤ vec_capacity paper.room }
-    ensures { RespondsTo B.book (as_request asked) closes
+    ensures responds { RespondsTo B.book (as_request asked) closes
         (moment_of K.Keeper B.calls keeper.old books.old)
         (moment_of K.Keeper B.calls keeper.new books.new) (bytes_of result) }
+    ensures ready { KeepsReady B.book (told_of K.Keeper keeper.old) (told_of K.Keeper keeper.new) }
 {
     let Asked { caller, command } = asked;
     let reply = handle(rt, alloc, books, keeper, &caller, command);

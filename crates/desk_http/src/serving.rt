@@ -3,6 +3,8 @@ ghost use Rattle.rule_core.specs.declared.info.RuleInfo.{RuleInfo};
 ghost use Rattle.streams.specs.Streams.{Counts};
 ghost use Rattle.links.specs.Wires.{IsUntouched};
 ghost use Rattle.links.specs.Doors.{TookBack};
+ghost use Rattle.desk_core.specs.Told.{told_of};
+ghost use Rattle.desk_core.specs.Crashing.{KeepsReady};
 ghost use Rattle.desk_http.specs.Desk.{moment_of, desk_of};
 ghost use Rattle.desk_http.specs.Linking.{Finishes, CountsFaults, full};
 ghost use Rattle.desk_http.specs.Serving.{KeepsSound, ServesItem, Serves, Ends, IsFull};
@@ -29,6 +31,9 @@ use streams::Failed;
 /// each is told as by `serve_link`. All of them cost no more judgings than the machine allows for each request.
 /// Whatever is kept, of each by itself is said what `serve_link` says, and the edition stays.
 ///
+/// Where sound tables are told, and a crash would leave only such as a desk may begin with, both holds at the end too, unless
+/// the keeper is lost.
+///
 /// `Failed` comes only where the door met a fault, and Ok only where it met none.
 pub fn serve<R: Threads + Sync, D: Door, K: Keeper, B: RuleBook + Send>(
     rt: &R,
@@ -42,6 +47,7 @@ pub fn serve<R: Threads + Sync, D: Door, K: Keeper, B: RuleBook + Send>(
         (desk_of D.Door D.Conn.Link K.Keeper B.calls door.old keeper.old books.old)
         (desk_of D.Door D.Conn.Link K.Keeper B.calls door.new keeper.new books.new) }
     ensures sound { KeepsSound B.book (K.tables keeper.old) (K.tables keeper.new) }
+    ensures ready { KeepsReady B.book (told_of K.Keeper keeper.old) (told_of K.Keeper keeper.new) }
     ensures heard { (D.told door.new).heard ≡ (D.told door.old).heard }
     ensures given_back { (D.told door.new).out ≡ (D.told door.old).out }
     ensures all { OnOk result ((D.told door.new).allowed ≡ 0) }
@@ -74,6 +80,7 @@ fn serve_next<R: Threads + Sync, D: Door, K: Keeper, B: RuleBook + Send>(
         (desk_of D.Door D.Conn.Link K.Keeper B.calls door.old keeper.old books.old)
         (desk_of D.Door D.Conn.Link K.Keeper B.calls door.new keeper.new books.new) }
     ensures sound { KeepsSound B.book (K.tables keeper.old) (K.tables keeper.new) }
+    ensures ready { KeepsReady B.book (told_of K.Keeper keeper.old) (told_of K.Keeper keeper.new) }
     ensures took { TookBack (D.told door.old) (D.told door.new) }
     ensures kept { K.faults keeper.old ≤ K.faults keeper.new }
 {
@@ -106,6 +113,7 @@ pub fn serve_link<R: Threads + Sync, L: Link, K: Keeper, B: RuleBook + Send>(
         (moment_of K.Keeper B.calls keeper.old books.old)
         (moment_of K.Keeper B.calls keeper.new books.new) }
     ensures sound { KeepsSound B.book (K.tables keeper.old) (K.tables keeper.new) }
+    ensures ready { KeepsReady B.book (told_of K.Keeper keeper.old) (told_of K.Keeper keeper.new) }
     ensures faults { CountsFaults result (L.faults link.old) (L.faults link.new) }
     ensures never_falls { L.faults link.old ≤ L.faults link.new }
     ensures kept { K.faults keeper.old ≤ K.faults keeper.new }
@@ -128,6 +136,7 @@ fn serve_by<R: Threads + Sync, L: Link, K: Keeper, B: RuleBook + Send>(
         (moment_of K.Keeper B.calls keeper.old books.old)
         (moment_of K.Keeper B.calls keeper.new books.new) }
     ensures sound { KeepsSound B.book (K.tables keeper.old) (K.tables keeper.new) }
+    ensures ready { KeepsReady B.book (told_of K.Keeper keeper.old) (told_of K.Keeper keeper.new) }
     ensures faults { CountsFaults result (L.faults link.old) (L.faults link.new) }
     ensures never_falls { L.faults link.old ≤ L.faults link.new }
     ensures kept { K.faults keeper.old ≤ K.faults keeper.new }
@@ -168,6 +177,7 @@ fn serve_item<R: Threads + Sync, L: Link, K: Keeper, B: RuleBook + Send>(
         (moment_of K.Keeper B.calls keeper.old books.old)
         (moment_of K.Keeper B.calls keeper.new books.new) }
     ensures sound { KeepsSound B.book (K.tables keeper.old) (K.tables keeper.new) }
+    ensures ready { KeepsReady B.book (told_of K.Keeper keeper.old) (told_of K.Keeper keeper.new) }
     ensures reads { L.reads link.new ≡ L.reads link.old }
     ensures counts { Counts (L.faults link.old) (L.faults link.new) result }
 {

@@ -1,4 +1,6 @@
 ghost use Rattle.std.specs.Prelude.{◌≤◌, length};
+ghost use Rattle.desk_core.specs.Told.{told_of};
+ghost use Rattle.desk_core.specs.Crashing.{Renews};
 ghost use Rattle.desk_http.specs.Desk.{moment_of};
 ghost use Rattle.desk_run.specs.Refreshed.{Refreshed};
 
@@ -18,8 +20,9 @@ pub fn refresh_by<R: Threads + Sync, K: Keeper, B: RuleBook + Send>(
 ) -> Result<(), KeepFault>
     requires some { 1 ≤ workers }
     requires enough { workers ≤ length books.old }
-    ensures { Refreshed B.book workers result
+    ensures refreshed { Refreshed B.book workers result
         (moment_of K.Keeper B.calls keeper.old books.old) (moment_of K.Keeper B.calls keeper.new books.new) }
+    ensures crash { Renews B.book (told_of K.Keeper keeper.old) (told_of K.Keeper keeper.new) result }
 {
     let (first, _others) = books.split_at_mut(workers);
     refresh(rt, alloc, first, keeper)

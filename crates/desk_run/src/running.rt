@@ -3,6 +3,8 @@ ghost use Rattle.audit_run.specs.declared.auditing.TheConstants.{MOST_READ};
 ghost use Rattle.streams.specs.Streams.{ReadsAtMost};
 ghost use Rattle.audit_run.specs.Telling.{status_of, writing_of};
 ghost use Rattle.audit_run.specs.Audit.{AuditCause};
+ghost use Rattle.desk_core.specs.Told.{told_of};
+ghost use Rattle.desk_core.specs.Crashing.{KeepsStart};
 ghost use Rattle.desk_http.specs.Desk.{desk_of};
 ghost use Rattle.desk_run.specs.Desk.{Spares};
 ghost use Rattle.desk_run.specs.Run.{outside_of, Cause, Runs};
@@ -32,6 +34,9 @@ use streams::{Sink, Source};
 /// of test cases from `input` to its end, audits their pages with all books, and writes the table of their grades. `report`,
 /// `earl` and `csv` write what the keeper has of a site. There is one book or more, and the door doesn't listen
 /// yet.
+///
+/// Where the tables are such as a desk may begin with, and a crash would leave no others, so it is at each end: such are
+/// told, or the keeper is lost, and a crash leaves such alone.
 pub fn run<R: Threads + Sync, I: Source, O: Sink, E: Sink, K: Keeper, D: Door, B: RuleBook + Send>(
     rt: &R,
     alloc: Global,
@@ -45,12 +50,13 @@ pub fn run<R: Threads + Sync, I: Source, O: Sink, E: Sink, K: Keeper, D: Door, B
 ) -> u8
     requires some { 0 < vec_len books.old }
     requires unheard { (D.told door.old).heard ≡ None }
-    ensures { Runs B.book words.now
+    ensures runs { Runs B.book words.now
         (outside_of I.Source O.Sink E.Sink input.old out.old err.old)
         (outside_of I.Source O.Sink E.Sink input.new out.new err.new)
         (desk_of D.Door D.Conn.Link K.Keeper B.calls door.old keeper.old books.old.items)
         (desk_of D.Door D.Conn.Link K.Keeper B.calls door.new keeper.new books.new.items)
         result }
+    ensures crash { KeepsStart B.book (told_of K.Keeper keeper.old) (told_of K.Keeper keeper.new) }
 {
     let found = find(rt, alloc, words, input, keeper, door, books.as_mut_slice());
     tell(out, err, &found).number()
@@ -72,6 +78,7 @@ fn find<R: Threads + Sync, I: Source, K: Keeper, D: Door, B: RuleBook + Send>(
         (desk_of D.Door D.Conn.Link K.Keeper B.calls door.old keeper.old books.old)
         (desk_of D.Door D.Conn.Link K.Keeper B.calls door.new keeper.new books.new)
         (status_of result) (writing_of result) }
+    ensures crash { KeepsStart B.book (told_of K.Keeper keeper.old) (told_of K.Keeper keeper.new) }
     ensures never_falls { (I.told input.old).faults ≤ (I.told input.new).faults }
     ensures stops { ReadsAtMost MOST_READ (I.told input.old) (I.told input.new) }
 {

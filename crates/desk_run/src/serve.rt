@@ -1,5 +1,7 @@
 ghost use Rattle.std.specs.Prelude.{◌≡◌, ◌<◌, ◌≤◌, None, OnOk, map, length};
 ghost use Rattle.streams.specs.Streams.{Counts};
+ghost use Rattle.desk_core.specs.Told.{told_of};
+ghost use Rattle.desk_core.specs.Crashing.{KeepsReady, KeepsStart, IsReady, MayStart};
 ghost use Rattle.desk_http.specs.Desk.{desk_of};
 ghost use Rattle.desk_http.specs.Serving.{KeepsSound};
 ghost use Rattle.desk_http.specs.Doors.{ServesDoor};
@@ -29,10 +31,11 @@ pub fn serve<R: Threads + Sync, K: Keeper, D: Door, B: RuleBook + Send>(
 ) -> Found
     requires workers { 1 ≤ serving.workers }
     requires unheard { (D.told door.old).heard ≡ None }
-    ensures { ServeCause B.book serving
+    ensures cause { ServeCause B.book serving
         (desk_of D.Door D.Conn.Link K.Keeper B.calls door.old keeper.old books.old)
         (desk_of D.Door D.Conn.Link K.Keeper B.calls door.new keeper.new books.new)
         (status_of result) (writing_of result) }
+    ensures crash { KeepsStart B.book (told_of K.Keeper keeper.old) (told_of K.Keeper keeper.new) }
 {
     if serving.workers > books.len() as u64 {
         return Found::Usage;
@@ -56,10 +59,11 @@ fn serve_fresh<R: Threads + Sync, K: Keeper, D: Door, B: RuleBook + Send>(
     requires workers { 1 ≤ serving.workers }
     requires enough { serving.workers ≤ length books.old }
     requires unheard { (D.told door.old).heard ≡ None }
-    ensures { FreshCause B.book serving
+    ensures cause { FreshCause B.book serving
         (desk_of D.Door D.Conn.Link K.Keeper B.calls door.old keeper.old books.old)
         (desk_of D.Door D.Conn.Link K.Keeper B.calls door.new keeper.new books.new)
         (status_of result) (writing_of result) }
+    ensures crash { IsReady B.book (told_of K.Keeper keeper.old) → MayStart B.book (told_of K.Keeper keeper.new) }
 {
     let Ok(()) = door.listen(serving.port, serving.connections) else {
         return Found::ListenFault;
@@ -85,6 +89,7 @@ fn serve_by<R: Threads + Sync, K: Keeper, D: Door, B: RuleBook + Send>(
         (with_first workers (desk_of D.Door D.Conn.Link K.Keeper B.calls door.old keeper.old books.old))
         (with_first workers (desk_of D.Door D.Conn.Link K.Keeper B.calls door.new keeper.new books.new)) }
     ensures sound { KeepsSound B.book (K.tables keeper.old) (K.tables keeper.new) }
+    ensures ready { KeepsReady B.book (told_of K.Keeper keeper.old) (told_of K.Keeper keeper.new) }
     ensures heard { (D.told door.new).heard ≡ (D.told door.old).heard }
     ensures given_back { (D.told door.new).out ≡ (D.told door.old).out }
     ensures all { OnOk result ((D.told door.new).allowed ≡ 0) }

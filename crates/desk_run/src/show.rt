@@ -1,5 +1,8 @@
 ghost use Rattle.std.specs.Prelude.{◌≡◌, ◌<◌, length, IfOk};
-ghost use Rattle.keep_core.specs.Keeping.{Reads, CountsFaults};
+ghost use Rattle.keep_core.specs.Keeping.{Reads, Spares, CountsFaults};
+ghost use Rattle.keep_core.specs.Kept.{kept_of};
+ghost use Rattle.desk_core.specs.Told.{told_of};
+ghost use Rattle.desk_core.specs.Crashing.{KeepsStart};
 ghost use Rattle.desk_http.specs.Desk.{moment_of};
 ghost use Rattle.audit_run.specs.Telling.{status_of, writing_of};
 ghost use Rattle.desk_run.specs.Show.{form_bytes, shown_in, ShowCause, ShowsFresh};
@@ -25,9 +28,10 @@ pub fn show<R: Threads + Sync, K: Keeper, B: RuleBook + Send>(
     books: &mut [B],
 ) -> Found
     requires { 0 < length books.old }
-    ensures { ShowCause B.book showing.now
+    ensures cause { ShowCause B.book showing.now
         (moment_of K.Keeper B.calls keeper.old books.old) (moment_of K.Keeper B.calls keeper.new books.new)
         (status_of result) (writing_of result) }
+    ensures crash { KeepsStart B.book (told_of K.Keeper keeper.old) (told_of K.Keeper keeper.new) }
 {
     let workers = books.len();
     match shown_fresh(rt, alloc, showing, keeper, workers, books) {
@@ -52,8 +56,9 @@ fn shown_fresh<R: Threads + Sync, K: Keeper, B: RuleBook + Send>(
 ) -> Result<Option<List<u8>>, KeepFault>
     requires some { 0 < length books.old }
     requires all { workers ≡ length books.old }
-    ensures { ShowsFresh B.book showing.now
+    ensures shows { ShowsFresh B.book showing.now
         (moment_of K.Keeper B.calls keeper.old books.old) (moment_of K.Keeper B.calls keeper.new books.new) result }
+    ensures crash { KeepsStart B.book (told_of K.Keeper keeper.old) (told_of K.Keeper keeper.new) }
 {
     refresh_by(rt, alloc, workers, keeper, books)?;
     shown(alloc, showing, keeper, &books[0])
@@ -67,6 +72,7 @@ fn shown<K: Keeper, B: RuleBook>(
     book: &B,
 ) -> Result<Option<List<u8>>, KeepFault>
     ensures reads { Reads (shown_in B.book showing.now) (K.tables keeper.old) (K.tables keeper.new) result }
+    ensures spares { Spares (kept_of K.Keeper keeper.old) (kept_of K.Keeper keeper.new) }
     ensures faults { CountsFaults (K.faults keeper.old) (K.faults keeper.new) result }
 {
     if keeper.site(alloc, &showing.site)?.is_none() {

@@ -2,7 +2,8 @@ ghost use Rattle.std.specs.Prelude.{◌≡◌, true, false, IfSome, IfOk, MatchR
 ghost use Rattle.keep_core.specs.declared.fault.KeepFault.TheVariants as keep;
 ghost use Rattle.keep_core.specs.Tables.{edition_of, sites_of, site_of, page_of, heads_of, judgements_of, outcomes_of};
 ghost use Rattle.keep_core.specs.Fits.{Fits, FitsSite, FitsPage, FitsHeads, FitNames, IsThere};
-ghost use Rattle.keep_core.specs.Keeping.{Reads, Makes, CountsFaults};
+ghost use Rattle.keep_core.specs.Keeping.{Reads, Makes, Spares, Leaves, CountsFaults};
+ghost use Rattle.keep_core.specs.Kept.{kept_of};
 ghost use Rattle.fixture_failing_keeper.specs.Failing.{Failing, all_faults, fails_next, after_failed, after_passed, FailsByList};
 
 use counts::{is_named, next};
@@ -76,8 +77,13 @@ impl<K: Keeper> Keeper for FailingKeeper<K> {
 
     ghost faults = { all_faults K.faults };
 
+    ghost leaves = { λ k. K.leaves k.inner };
+
+    ghost lost = { λ k. K.lost k.inner };
+
     fn edition(&mut self, alloc: Global) -> Result<u64, KeepFault>
         ensures reads { Reads edition_of (K.tables self.old.inner) (K.tables self.new.inner) result }
+        ensures spares { Spares (kept_of K.Keeper self.old.inner) (kept_of K.Keeper self.new.inner) }
         ensures faults { CountsFaults (all_faults K.faults self.old) (all_faults K.faults self.new) result }
         ensures fails { FailsByList K.faults self.old self.new result }
     {
@@ -87,6 +93,7 @@ impl<K: Keeper> Keeper for FailingKeeper<K> {
 
     fn sites(&mut self, alloc: Global) -> Result<List<Text>, KeepFault>
         ensures reads { Reads sites_of (K.tables self.old.inner) (K.tables self.new.inner) result }
+        ensures spares { Spares (kept_of K.Keeper self.old.inner) (kept_of K.Keeper self.new.inner) }
         ensures fits { IfOk result FitNames }
         ensures faults { CountsFaults (all_faults K.faults self.old) (all_faults K.faults self.new) result }
         ensures fails { FailsByList K.faults self.old self.new result }
@@ -97,6 +104,7 @@ impl<K: Keeper> Keeper for FailingKeeper<K> {
 
     fn site(&mut self, alloc: Global, site: &Text) -> Result<Option<Site>, KeepFault>
         ensures reads { Reads (site_of site.now) (K.tables self.old.inner) (K.tables self.new.inner) result }
+        ensures spares { Spares (kept_of K.Keeper self.old.inner) (kept_of K.Keeper self.new.inner) }
         ensures fits { IfOk result (λ found. IfSome found FitsSite) }
         ensures faults { CountsFaults (all_faults K.faults self.old) (all_faults K.faults self.new) result }
         ensures fails { FailsByList K.faults self.old self.new result }
@@ -107,6 +115,7 @@ impl<K: Keeper> Keeper for FailingKeeper<K> {
 
     fn load(&mut self, alloc: Global, site: &Text, page: &Text) -> Result<Option<Page>, KeepFault>
         ensures reads { Reads (page_of site.now page.now) (K.tables self.old.inner) (K.tables self.new.inner) result }
+        ensures spares { Spares (kept_of K.Keeper self.old.inner) (kept_of K.Keeper self.new.inner) }
         ensures fits { IfOk result (λ found. IfSome found FitsPage) }
         ensures faults { CountsFaults (all_faults K.faults self.old) (all_faults K.faults self.new) result }
         ensures fails { FailsByList K.faults self.old self.new result }
@@ -117,6 +126,7 @@ impl<K: Keeper> Keeper for FailingKeeper<K> {
 
     fn list(&mut self, alloc: Global, site: &Text) -> Result<List<PageHead>, KeepFault>
         ensures reads { Reads (heads_of site.now) (K.tables self.old.inner) (K.tables self.new.inner) result }
+        ensures spares { Spares (kept_of K.Keeper self.old.inner) (kept_of K.Keeper self.new.inner) }
         ensures fits { IfOk result FitsHeads }
         ensures faults { CountsFaults (all_faults K.faults self.old) (all_faults K.faults self.new) result }
         ensures fails { FailsByList K.faults self.old self.new result }
@@ -132,6 +142,7 @@ impl<K: Keeper> Keeper for FailingKeeper<K> {
         page: &Text,
     ) -> Result<List<Judgement>, KeepFault>
         ensures reads { Reads (judgements_of site.now page.now) (K.tables self.old.inner) (K.tables self.new.inner) result }
+        ensures spares { Spares (kept_of K.Keeper self.old.inner) (kept_of K.Keeper self.new.inner) }
         ensures faults { CountsFaults (all_faults K.faults self.old) (all_faults K.faults self.new) result }
         ensures fails { FailsByList K.faults self.old self.new result }
     {
@@ -141,6 +152,7 @@ impl<K: Keeper> Keeper for FailingKeeper<K> {
 
     fn outcomes(&mut self, alloc: Global, site: &Text, page: &Text) -> Result<Outcomes, KeepFault>
         ensures reads { Reads (outcomes_of site.now page.now) (K.tables self.old.inner) (K.tables self.new.inner) result }
+        ensures spares { Spares (kept_of K.Keeper self.old.inner) (kept_of K.Keeper self.new.inner) }
         ensures faults { CountsFaults (all_faults K.faults self.old) (all_faults K.faults self.new) result }
         ensures fails { FailsByList K.faults self.old self.new result }
     {
@@ -152,6 +164,7 @@ impl<K: Keeper> Keeper for FailingKeeper<K> {
         requires fits { Fits batch.now.change }
         requires there { IfSome (K.tables self.old.inner) (IsThere batch.now.change) }
         ensures makes { Makes batch.now.change (K.tables self.old.inner) (K.tables self.new.inner) result }
+        ensures leaves { Leaves batch.now.change (kept_of K.Keeper self.old.inner) (kept_of K.Keeper self.new.inner) result }
         ensures faults { CountsFaults (all_faults K.faults self.old) (all_faults K.faults self.new) result }
         ensures fails { FailsByList K.faults self.old self.new result }
     {

@@ -1,4 +1,5 @@
 pub mod Fitting
+pub mod Leaving
 pub mod Making
 pub mod Outcomes
 pub mod Telling

@@ -1,5 +1,5 @@
--- What the calls of a keeper do to its tables, where it tells them, and to its count of faults.
-use Rattle.std.specs.Prelude.{◌≡◌, ℕ, ◌≤◌, Option, Some, Result, IfOk, OnOk, OnErr, IsErrOf}
+-- What the calls of a keeper do to its tables, where it tells them, to what a crash leaves of them, and to its count of faults.
+use Rattle.std.specs.Prelude.{◌≡◌, ◌⊎◌, ℕ, ◌≤◌, Option, Some, Result, IfOk, OnOk, OnErr, IsErrOf}
 use Rattle.counts.specs.Counts.{Rose}
 use Rattle.keep_core.specs.declared.fault.KeepFault.{KeepFault}
 use Rattle.keep_core.specs.declared.fault.KeepFault.TheVariants.{Failed}
@@ -29,3 +29,32 @@ pub record Reads {A : Type 0} (answer : Tables → A) (old new : Option Tables) 
 pub record Makes {A : Type 0} (change : Change) (old new : Option Tables) (result : Result A KeepFault) : Type 0 where
   pub made : OnOk result (Turns change old new)
   pub kept : OnErr result (Stays old new)
+
+-- what a keeper tells, what a crash would leave, which is tables or rows that don't read, and that it is lost: it tells
+-- nothing any more, and no call of it changes what a crash leaves
+pub record Kept : Type 1 where
+  pub tables : Option Tables
+  pub leaves : Option Tables → Type 0
+  pub lost : Type 0
+
+abbrev pub kept : Option Tables → (Option Tables → Type 0) → Type 0 → Kept
+kept tables leaves lost = record { tables = tables; leaves = leaves; lost = lost }
+
+-- it tells these tables, unless it is lost
+abbrev pub Tells : Kept → Tables → Type 0
+Tells k tables = (k.tables ≡ Some tables) ⊎ k.lost
+
+-- a call that reads: what is told goes on being told, or the keeper is lost from then on
+pub record Spares (old new : Kept) : Type 0 where
+  pub tells : (t : Tables) → Tells old t → Tells new t
+  pub stays_lost : old.lost → new.lost
+  -- a crash leaves what it could leave before
+  pub leaves : (o : Option Tables) → new.leaves o → old.leaves o
+
+-- A change that is made, or not. Where tables are told, a crash leaves what it could leave before, or the tables changed,
+-- and only these once the change was made.
+pub record Leaves {A E : Type 0} (change : Change) (old new : Kept) (result : Result A E) : Type 0 where
+  pub tells : (t : Tables) → old.tables ≡ Some t → (OnOk result (new.tables ≡ Some (changed change t)) × OnErr result (new.tables ≡ Some t)) ⊎ new.lost
+  pub stays_lost : old.lost → new.lost × ((o : Option Tables) → new.leaves o → old.leaves o)
+  pub leaves : (t : Tables) → old.tables ≡ Some t → (o : Option Tables) → new.leaves o → old.leaves o ⊎ (o ≡ Some (changed change t))
+  pub settled : OnOk result ((t : Tables) → old.tables ≡ Some t → (o : Option Tables) → new.leaves o → o ≡ Some (changed change t))

@@ -6,3 +6,4 @@ pub mod Fits
 pub mod Keeping
 pub mod Memory
 pub mod Telling
+pub mod Kept

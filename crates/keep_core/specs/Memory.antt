@@ -1,5 +1,5 @@
 -- A keeper in memory.
-use Rattle.std.specs.Prelude.{ℕ, List, Bool, if◌then◌else◌, IsTrue, ◌↔◌, Result, Ok, Err, IsErrOf}
+use Rattle.std.specs.Prelude.{ℕ, List, Some, Bool, if◌then◌else◌, IsTrue, ◌↔◌, Result, Ok, Err, IsErrOf}
 use Rattle.counts.specs.Counts.{next}
 use Rattle.counts.specs.Calls.{is_named}
 use Rattle.keep_core.specs.declared.change.Change.{Change}
@@ -7,6 +7,7 @@ use Rattle.keep_core.specs.declared.fault.KeepFault.{KeepFault}
 use Rattle.keep_core.specs.declared.fault.KeepFault.TheVariants.{Failed}
 use Rattle.keep_core.specs.declared.tables.Tables.{Tables}
 use Rattle.keep_core.specs.Changes.{changed}
+use Rattle.keep_core.specs.Keeping.{Kept, kept}
 
 -- what it keeps, the numbers of the calls that fail, and how many calls and faults there were
 pub record Memory : Type 0 where
@@ -31,3 +32,7 @@ after_change change k (Err fault) = after_call k
 -- a call fails exactly where the list names it
 abbrev pub FailsByList : {A : Type 0} → Memory → Result A KeepFault → Type 0
 FailsByList k result = IsErrOf result Failed ↔ IsTrue (fails_next k)
+
+-- it tells its tables, a crash leaves nothing, and it is never lost
+abbrev pub told_always : Tables → Kept
+told_always tables = kept (Some tables) (λ o. ⊥) ⊥

@@ -3,8 +3,8 @@ ghost use Rattle.counts.specs.Counts.{Rose};
 ghost use Rattle.keep_core.specs.declared.fault.KeepFault.TheVariants as keep;
 ghost use Rattle.keep_core.specs.Tables.{no_tables, edition_of, sites_of, site_of, page_of, heads_of, judgements_of, outcomes_of};
 ghost use Rattle.keep_core.specs.Fits.{Fits, FitsSite, FitsPage, FitsHeads, FitNames, IsThere};
-ghost use Rattle.keep_core.specs.Keeping.{Reads, Makes, CountsFaults};
-ghost use Rattle.keep_core.specs.Memory.{Memory, fails_next, after_call, after_change, FailsByList};
+ghost use Rattle.keep_core.specs.Keeping.{Reads, Makes, Spares, Leaves, CountsFaults};
+ghost use Rattle.keep_core.specs.Memory.{Memory, fails_next, after_call, after_change, FailsByList, told_always};
 
 use crate::change::Batch;
 use crate::fault::KeepFault;
@@ -85,9 +85,15 @@ impl Keeper for MemoryKeeper {
 
     ghost faults = { λ k. k.faults };
 
+    ghost leaves = { λ k o. ⊥ };
+
+    ghost lost = { λ k. ⊥ };
+
     /// Fails exactly where the list names the call, as each call does.
+    #[tactic(auto, using(crate::proofs::Leaving::spares_always))]
     fn edition(&mut self, alloc: Global) -> Result<u64, KeepFault>
         ensures reads { Reads edition_of (Some self.old.tables) (Some self.new.tables) result }
+        ensures spares { Spares (told_always self.old.tables) (told_always self.new.tables) }
         ensures faults { CountsFaults self.old.faults self.new.faults result }
         ensures fails { FailsByList self.old result }
         ensures after { self.new ≡ after_call self.old }
@@ -96,8 +102,10 @@ impl Keeper for MemoryKeeper {
         Ok(self.tables.edition)
     }
 
+    #[tactic(auto, using(crate::proofs::Leaving::spares_always))]
     fn sites(&mut self, alloc: Global) -> Result<List<Text>, KeepFault>
         ensures reads { Reads sites_of (Some self.old.tables) (Some self.new.tables) result }
+        ensures spares { Spares (told_always self.old.tables) (told_always self.new.tables) }
         ensures fits { IfOk result FitNames }
         ensures faults { CountsFaults self.old.faults self.new.faults result }
         ensures fails { FailsByList self.old result }
@@ -107,8 +115,10 @@ impl Keeper for MemoryKeeper {
         Ok(lookups::site_names(alloc, &self.tables)?)
     }
 
+    #[tactic(auto, using(crate::proofs::Leaving::spares_always))]
     fn site(&mut self, alloc: Global, site: &Text) -> Result<Option<Site>, KeepFault>
         ensures reads { Reads (site_of site.now) (Some self.old.tables) (Some self.new.tables) result }
+        ensures spares { Spares (told_always self.old.tables) (told_always self.new.tables) }
         ensures fits { IfOk result (λ found. IfSome found FitsSite) }
         ensures faults { CountsFaults self.old.faults self.new.faults result }
         ensures fails { FailsByList self.old result }
@@ -118,8 +128,10 @@ impl Keeper for MemoryKeeper {
         Ok(lookups::site_row(alloc, &self.tables, site)?)
     }
 
+    #[tactic(auto, using(crate::proofs::Leaving::spares_always))]
     fn load(&mut self, alloc: Global, site: &Text, page: &Text) -> Result<Option<Page>, KeepFault>
         ensures reads { Reads (page_of site.now page.now) (Some self.old.tables) (Some self.new.tables) result }
+        ensures spares { Spares (told_always self.old.tables) (told_always self.new.tables) }
         ensures fits { IfOk result (λ found. IfSome found FitsPage) }
         ensures faults { CountsFaults self.old.faults self.new.faults result }
         ensures fails { FailsByList self.old result }
@@ -129,8 +141,10 @@ impl Keeper for MemoryKeeper {
         Ok(lookups::page_row(alloc, &self.tables, site, page)?)
     }
 
+    #[tactic(auto, using(crate::proofs::Leaving::spares_always))]
     fn list(&mut self, alloc: Global, site: &Text) -> Result<List<PageHead>, KeepFault>
         ensures reads { Reads (heads_of site.now) (Some self.old.tables) (Some self.new.tables) result }
+        ensures spares { Spares (told_always self.old.tables) (told_always self.new.tables) }
         ensures fits { IfOk result FitsHeads }
         ensures faults { CountsFaults self.old.faults self.new.faults result }
         ensures fails { FailsByList self.old result }
@@ -140,6 +154,7 @@ impl Keeper for MemoryKeeper {
         Ok(lookups::heads(alloc, &self.tables, site)?)
     }
 
+    #[tactic(auto, using(crate::proofs::Leaving::spares_always))]
     fn judgements(
         &mut self,
         alloc: Global,
@@ -147,6 +162,7 @@ impl Keeper for MemoryKeeper {
         page: &Text,
     ) -> Result<List<Judgement>, KeepFault>
         ensures reads { Reads (judgements_of site.now page.now) (Some self.old.tables) (Some self.new.tables) result }
+        ensures spares { Spares (told_always self.old.tables) (told_always self.new.tables) }
         ensures faults { CountsFaults self.old.faults self.new.faults result }
         ensures fails { FailsByList self.old result }
         ensures after { self.new ≡ after_call self.old }
@@ -155,8 +171,10 @@ impl Keeper for MemoryKeeper {
         Ok(lookups::judgements(alloc, &self.tables, site, page)?)
     }
 
+    #[tactic(auto, using(crate::proofs::Leaving::spares_always))]
     fn outcomes(&mut self, alloc: Global, site: &Text, page: &Text) -> Result<Outcomes, KeepFault>
         ensures reads { Reads (outcomes_of site.now page.now) (Some self.old.tables) (Some self.new.tables) result }
+        ensures spares { Spares (told_always self.old.tables) (told_always self.new.tables) }
         ensures faults { CountsFaults self.old.faults self.new.faults result }
         ensures fails { FailsByList self.old result }
         ensures after { self.new ≡ after_call self.old }
@@ -165,9 +183,11 @@ impl Keeper for MemoryKeeper {
         Ok(lookups::outcomes(alloc, &self.tables, site, page)?)
     }
 
+    #[tactic(auto, using(crate::proofs::Leaving::leaves_always))]
     fn apply(&mut self, alloc: Global, batch: &Batch) -> Result<(), KeepFault>
         requires fits { Fits batch.now.change }
         ensures makes { Makes batch.now.change (Some self.old.tables) (Some self.new.tables) result }
+        ensures leaves { Leaves batch.now.change (told_always self.old.tables) (told_always self.new.tables) result }
         ensures faults { CountsFaults self.old.faults self.new.faults result }
         ensures fails { FailsByList self.old result }
         ensures after { self.new ≡ after_change batch.now.change self.old result }

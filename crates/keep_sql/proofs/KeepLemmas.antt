@@ -1,5 +1,5 @@
 -- What a keeper tells before and after a call.
-use Rattle.std.proofs.Common.{◌≡◌, ◌⊎◌, inl, inr, ℕ, ◌≤◌, Bool, true, false, ◌&&◌, cond, Option, Some, None, IfSome, Ok, Err, IsTrue, refl, sym, ap, subst, ◌∙◌, arith}
+use Rattle.std.proofs.Common.{◌≡◌, ℕ, ◌≤◌, Bool, true, false, ◌&&◌, cond, Option, Some, None, IfSome, Ok, Err, IsTrue, refl, sym, ap, subst, ◌∙◌, arith}
 use Rattle.sqlite_trees.specs.View.{doubt}
 use Rattle.sqlite_trees.proofs.Doubt.{no_doubt}
 use Rattle.sqlite_trees.specs.declared.store.Store.{Ghosts}
@@ -14,15 +14,13 @@ use Rattle.keep_core.specs.declared.tables.Tables.{Tables}
 use Rattle.store_statements.specs.Stored.{stored}
 use Rattle.store_statements.specs.Changes.{IsStore}
 use Rattle.store_tables.specs.Told.{tables_in}
-use Rattle.store_tables.specs.Numbers.{IsNumbered}
 use Rattle.store_tables.proofs.Applied.{applied}
-use Rattle.store_tables.proofs.Tells.{applies_tells}
 use Rattle.store_tables.proofs.Steps.{some_same}
 use Rattle.keep_sql.specs.Reading.{rows_in, LeavesStore}
-use Rattle.keep_sql.specs.Writing.{ChangesStore, MayLeave}
-use Rattle.keep_sql.specs.Keeper.{told, told_of, IsWell, Across, LeavesChange, TellsChanged, LeavesTables}
+use Rattle.keep_sql.specs.Writing.{ChangesStore}
+use Rattle.keep_sql.specs.Keeper.{told, told_of, IsWell, Across}
 
-clean_of : (b : Bool) → doubt b ≡ 0 → b ≡ true
+pub clean_of : (b : Bool) → doubt b ≡ 0 → b ≡ true
 unfolding doubt
 clean_of true h = refl
 clean_of false h = let never : 1 ≡ 0 = h in absurd (omega (arith, never))
@@ -48,7 +46,7 @@ told_is s t is = by s.is_clean refl s.is_open refl is
 pub told_by : (s : State) (t : Tables) → IsTold s t → told s ≡ Some t
 told_by s t h = told_rows s h.clean h.is_open ∙ h.gives
 
-clean_before : (a b : ℕ) → a ≤ b → b ≡ 0 → a ≡ 0
+pub clean_before : (a b : ℕ) → a ≤ b → b ≡ 0 → a ≡ 0
 clean_before a b le zero = omega (arith, le, zero)
 
 module _ (old new : State) (clean : doubt old.is_clean ≤ doubt new.is_clean) where
@@ -89,25 +87,6 @@ module _ (old new : State) (clean : doubt old.is_clean ≤ doubt new.is_clean) w
         gives = ap (λ (d : Database). tables_in (stored d.trees)) (sym (same h.clean h.is_open)) ∙ h.gives;
       })
 
-  -- what a crash leaves amid a change, in terms of tables
-  left_tables : (change : Change) → Fits change → IsNumbered change → LeavesChange change old new → (HasCleanDisk old → IsTrue old.is_open → IsStore old) → LeavesTables change old new
-  left_tables change fits numbered h store now is_open db left = by (h.crash now db left)
-    where
-      clean_old : HasCleanDisk old
-      clean_old = clean_before _ _ clean now
-
-      by : old.may_leave db ⊎ MayLeave change old db → old.may_leave db ⊎ TellsChanged change old db
-      by (inl earlier) = inl earlier
-      by (inr made) =
-          let applies = made (store clean_old is_open) in
-          inr (record {
-            all = applies.0;
-            was = λ t is.
-                let before = applied change (rows_in old) (stored db) applies.1 fits t is in
-                (before.0, told_by old before.0 (record { clean = clean_old; is_open = is_open; gives = before.1 }), before.2);
-            now = λ before is. applies_tells change (rows_in old) (stored db) applies.1 fits numbered before (told_is old before is).gives;
-          })
-
 -- ---- a keeper that is ready
 
 module _ {S : Type 0} (g : Ghosts S) (inside ready : Option (Held S)) (conn new : Held S) (of : inside ≡ Some conn) (is : ready ≡ Some conn)
@@ -136,10 +115,6 @@ module _ {S : Type 0} (g : Ghosts S) (inside ready : Option (Held S)) (conn new 
   kept_of change fault e changes =
       subst (λ (o : Option (Held S)). Makes {A = Unit {0}} change (told_of g o) (told (state g new)) (Err e)) (sym is)
       (record { made = tt; kept = kept_same (state g conn) (state g new) clean changes.was_open changes.kept })
-
-  pub leaves_of : (change : Change) → Fits change → IsNumbered change → LeavesChange change (state g conn) (state g new) → Across g (LeavesTables change) ready (Some new)
-  leaves_of change fits numbered h =
-      subst (λ (o : Option (Held S)). Across g (LeavesTables change) o (Some new)) (sym is) (left_tables (state g conn) (state g new) clean change fits numbered h store_of)
 
 -- what holds of a store before and after a call, of a keeper that is ready
 pub across_of : {S : Type 0} (g : Ghosts S) (P : State → State → Type 0) (ready : Option (Held S)) (conn new : Held S) → ready ≡ Some conn → P (state g conn) (state g new) → Across g P ready (Some new)

@@ -5,8 +5,9 @@ pub mod Wholes
 pub mod Changed
 pub mod Over
 pub mod FitLemmas
+pub mod Opens
 pub mod KeepLemmas
+pub mod CrashLemmas
 pub mod Noting
 pub mod Renewing
 pub mod PrepareLemmas
-pub mod Restart

@@ -12,8 +12,8 @@ use Rattle.keep_core.specs.declared.fault.KeepFault.TheVariants.{Failed}
 use Rattle.keep_core.specs.declared.change.Change.{Change}
 use Rattle.keep_core.specs.declared.tables.Tables.{Tables}
 use Rattle.keep_core.specs.Tables.{no_tables}
-use Rattle.keep_core.specs.Changes.{changed}
-use Rattle.store_statements.specs.Stored.{Stored, stored}
+use Rattle.keep_core.specs.Keeping.{Kept, kept}
+use Rattle.store_statements.specs.Stored.{Stored}
 use Rattle.store_statements.specs.Changes.{IsStore}
 use Rattle.store_tables.specs.Told.{tables_in}
 use Rattle.keep_sql.specs.declared.known.Known.{Known}
@@ -21,7 +21,7 @@ use Rattle.keep_sql.specs.declared.keeper.Prepared.{Prepared}
 use Rattle.keep_sql.specs.declared.keeper.Prepared.TheVariants.{Ready, OtherEdition}
 use Rattle.keep_sql.specs.Reading.{rows_in, edition_in, Recalls}
 use Rattle.keep_sql.specs.Writing.{MayLeave}
-use Rattle.keep_sql.specs.Preparing.{HasNone, HasAll, HasRows, IsPrepared, is_taken}
+use Rattle.keep_sql.specs.Preparing.{HasNone, HasRows, IsPrepared, is_taken}
 
 -- the connection of a store that is ready, that of one that isn't yet, a store that was shut, and the count of faults
 pub record Keeper (S : Type 0) : Type 0 where
@@ -46,6 +46,14 @@ held k = first_of k.ready k.waiting
 -- what is told of a store: what its rows tell, where it is open and clean
 abbrev pub told : State → Option Tables
 told s = if s.is_clean && s.is_open then tables_in (rows_in s) else None
+
+-- a fault has shut it
+abbrev pub IsShut : State → Type 0
+IsShut s = HasCleanDisk s → IsTrue s.is_open → ⊥
+
+-- what a database tells once it is prepared: empty tables, where it has none, or what its rows tell
+abbrev pub StartsWith : Trees → Option Tables → Type 0
+StartsWith db tables = (HasNone db × (tables ≡ Some no_tables)) ⊎ ((s : Stored) × HasRows db s × (tables ≡ tables_in s))
 
 module _ {S : Type 0} (g : Ghosts S) where
   -- no transaction is open, and a store that is open and clean has the tables
@@ -100,6 +108,31 @@ module _ {S : Type 0} (g : Ghosts S) where
   abbrev pub Leaves : Keeper S → Trees → Type 0
   Leaves k db = LeftBy k.ready db ⊎ (LeftBy k.waiting db ⊎ LeftShut k.shut db)
 
+  -- of the store alone that is ready, where one is
+  abbrev pub LeftOf : Option (Held S) → Option (Held S) → Option S → Trees → Type 0
+  LeftOf (Some conn) waiting shut db = LeftBy (Some conn) db
+  LeftOf None waiting shut db = LeftBy waiting db ⊎ LeftShut shut db
+
+  -- what a store that is opened after a crash tells once it is prepared
+  abbrev pub left_at : Option (Held S) → Option (Held S) → Option S → Option Tables → Type 0
+  left_at ready waiting shut tables = (db : Trees) × LeftOf ready waiting shut db × StartsWith db tables
+
+  -- it isn't ready, or a fault has shut its store
+  abbrev pub is_lost : Option (Held S) → Type 0
+  is_lost ready = IfSome ready (λ conn. IsShut (state g conn))
+
+  abbrev pub kept_at : Option (Held S) → Option (Held S) → Option S → Kept
+  kept_at ready waiting shut = kept (told_of ready) (left_at ready waiting shut) (is_lost ready)
+
+  abbrev pub leaves : Keeper S → Option Tables → Type 0
+  leaves k = left_at k.ready k.waiting k.shut
+
+  abbrev pub lost : Keeper S → Type 0
+  lost k = is_lost k.ready
+
+  abbrev pub kept_of : Keeper S → Kept
+  kept_of k = kept_at k.ready k.waiting k.shut
+
   -- what the transaction of `prepare` makes of a store that is held
   abbrev pub MadeOf : Option (Held S) → Trees → Type 0
   MadeOf None db = ⊥
@@ -124,9 +157,7 @@ module _ {S : Type 0} (g : Ghosts S) where
 
 -- of a store that is ready empty tables are told, where it had none, or what its rows told
 abbrev pub IsToldOf : State → State → Type 0
-IsToldOf old new =
-    HasCleanDisk new → IsTrue new.is_open
-    → (HasNone old.now.trees × (told new ≡ Some no_tables)) ⊎ ((s : Stored) × HasRows old.now.trees s × (told new ≡ tables_in s))
+IsToldOf old new = HasCleanDisk new → IsTrue new.is_open → StartsWith old.now.trees (told new)
 
 -- and what it had noted: where it is ready no edition, or one whose rows are taken, and else this number
 abbrev pub FoundEdition : Prepared → State → State → Type 0
@@ -146,16 +177,6 @@ LeavesAll old new = Survives old new (λ _. ⊥)
 -- or the change, as after one that was asked for
 abbrev pub LeavesChange : Change → State → State → Type 0
 LeavesChange change old new = Survives old new (MayLeave change old)
-
--- what a database tells, which has all tables, is the change of what a store told, and it does so where the store told tables
-pub record TellsChanged (change : Change) (s : State) (db : Trees) : Type 0 where
-  pub all : HasAll db
-  pub was : (t : Tables) → tables_in (stored db) ≡ Some t → (before : Tables) × (told s ≡ Some before) × (t ≡ changed change before)
-  pub now : (before : Tables) → told s ≡ Some before → tables_in (stored db) ≡ Some (changed change before)
-
--- in terms of tables: what it leaves of a store that was open, and couldn't leave before, tells the change of the tables
-abbrev pub LeavesTables : Change → State → State → Type 0
-LeavesTables change old new = HasCleanDisk new → IsTrue old.is_open → (db : Trees) → new.may_leave db → old.may_leave db ⊎ TellsChanged change old db
 
 -- and only the change, once it was made
 abbrev pub IsSettled : State → State → Type 0

@@ -3,4 +3,3 @@ pub mod Writing
 pub mod Keeper
 pub mod Fitting
 pub mod Preparing
-pub mod Restart

@@ -57,6 +57,7 @@ pub record ChangesStore {A E : Type 0} (change : Change) (old new : State) (resu
   -- a crash leaves just what the change made
   pub settled : HasCleanDisk new → OnOk result ((db : Trees) → new.may_leave db → db ≡ new.now.trees)
 
--- what a crash may leave besides what it could leave before: the change, in a database that has all tables
+-- what a crash may leave besides what it could leave before: nothing of a store that was shut, and else the change, in a
+-- database that has all tables
 abbrev pub MayLeave : Change → State → Trees → Type 0
-MayLeave change s db = IsStore s → HasAll db × Applies change (rows_in s) (stored db)
+MayLeave change s db = IsTrue s.is_open × (IsStore s → HasAll db × Applies change (rows_in s) (stored db))

@@ -1,9 +1,9 @@
 //! Changes of what is kept, each of rows that read.
 
-ghost use Rattle.std.specs.Prelude.{◌≡◌, true, false};
+ghost use Rattle.std.specs.Prelude.{◌≡◌, true, false, OnOk, IsTrue};
 ghost use Rattle.std.specs.List.{All};
 ghost use Rattle.sqlite.specs.Held.{state};
-ghost use Rattle.sqlite.specs.State.{HasCleanDisk, Survives};
+ghost use Rattle.sqlite.specs.State.{HasCleanDisk, IsUnchanged, Survives};
 ghost use Rattle.sql_rows.specs.Inside.{Steps};
 ghost use Rattle.keep_core.specs.declared.page.PagePut.{PagePut};
 ghost use Rattle.keep_core.specs.declared.change.Change.TheVariants as change;
@@ -281,6 +281,32 @@ pub fn make_inside<S: Alter>(
     }
 }
 
+// Whether the store is open: over one that a fault has shut no text is read as a statement.
+fn see_open<S: Alter>(tx: &mut Transaction<'_, S>) -> Result<(), StoreFault>
+    ensures steps { Steps S.Store tx.old.conn tx.new.conn result }
+    ensures same { HasCleanDisk (state S.Store tx.new.conn.now) → OnOk result (IsUnchanged (state S.Store tx.old.conn.now) (state S.Store tx.new.conn.now)) }
+{
+    let _statement = tx.prepare("SELECT 1")?;
+    Ok(())
+}
+
+// The same over a store that is open.
+fn make_open<S: Alter>(
+    alloc: Global,
+    memo: &mut Memo,
+    tx: &mut Transaction<'_, S>,
+    change: &Change,
+    known: Option<Known>,
+) -> Result<(), StoreFault>
+    requires fits { Fits change.now }
+    ensures steps { Steps S.Store tx.old.conn tx.new.conn result }
+    ensures makes { MakesKnowing S.Store known (Applies change.now) tx.old.conn tx.new.conn result }
+    ensures was_open { HasCleanDisk (state S.Store tx.new.conn.now) → OnOk result (IsTrue (state S.Store tx.old.conn.now).is_open) }
+{
+    see_open(tx)?;
+    make_inside(alloc, memo, tx, change, known)
+}
+
 /// The same as one transaction, whose commit is the last call. After an error nothing is changed.
 #[tactic(auto, using(crate::proofs::Ready::all_left))]
 pub fn make<S: Alter>(
@@ -299,7 +325,7 @@ pub fn make<S: Alter>(
 {
     let _idle = conn.is_autocommit();
     let mut tx = conn.transaction();
-    make_inside(alloc, memo, &mut tx, change, known)?;
+    make_open(alloc, memo, &mut tx, change, known)?;
     tx.commit()?;
     Ok(())
 }

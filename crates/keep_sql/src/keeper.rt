@@ -5,10 +5,10 @@ ghost use Rattle.counts.specs.Counts.{Rose};
 ghost use Rattle.keep_core.specs.declared.fault.KeepFault.TheVariants as keep;
 ghost use Rattle.keep_core.specs.Tables.{edition_of, sites_of, site_of, page_of, heads_of, judgements_of, outcomes_of};
 ghost use Rattle.keep_core.specs.Fits.{Fits, FitsSite, FitsPage, FitsHeads, FitNames, IsThere};
-ghost use Rattle.keep_core.specs.Keeping.{Reads, Makes, CountsFaults};
+ghost use Rattle.keep_core.specs.Keeping.{Reads, Makes, Spares, Leaves, CountsFaults};
 ghost use Rattle.keep_sql.specs.declared.keeper.Prepared.TheVariants as prepared;
 ghost use Rattle.keep_sql.specs.Preparing.{is_taken};
-ghost use Rattle.keep_sql.specs.Keeper.{tables as told_tables, WaitsFailing, Across, Between, LeavesAll, LeavesChange, LeavesTables, LeavesPrepared, IsSettled, IsNoted, IsToldOf, FoundEdition, StaysStored, GivesBack, AreWell, first_of, held};
+ghost use Rattle.keep_sql.specs.Keeper.{tables as told_tables, leaves as left_tables, lost as is_lost, kept_of, WaitsFailing, Across, Between, LeavesAll, LeavesChange, LeavesPrepared, IsSettled, IsNoted, IsToldOf, FoundEdition, StaysStored, GivesBack, AreWell, first_of, held};
 
 use crate::calls::{
     read_edition, read_heads, read_judgements, read_names, read_outcomes, read_page, read_site,
@@ -194,8 +194,13 @@ impl<S: Alter> Keeper for SqlKeeper<S> {
 
     ghost faults = { λ k. k.faults };
 
+    ghost leaves = { left_tables S.Store };
+
+    ghost lost = { is_lost S.Store };
+
     fn edition(&mut self, alloc: Global) -> Result<u64, KeepFault>
         ensures reads { Reads edition_of (told_tables S.Store self.old) (told_tables S.Store self.new) result }
+        ensures spares { Spares (kept_of S.Store self.old) (kept_of S.Store self.new) }
         ensures faults { CountsFaults self.old.faults self.new.faults result }
         ensures waits { WaitsFailing self.old self.new result }
         ensures crash { Across S.Store LeavesAll self.old.ready self.new.ready }
@@ -212,6 +217,7 @@ impl<S: Alter> Keeper for SqlKeeper<S> {
 
     fn sites(&mut self, alloc: Global) -> Result<List<Text>, KeepFault>
         ensures reads { Reads sites_of (told_tables S.Store self.old) (told_tables S.Store self.new) result }
+        ensures spares { Spares (kept_of S.Store self.old) (kept_of S.Store self.new) }
         ensures fits { IfOk result FitNames }
         ensures faults { CountsFaults self.old.faults self.new.faults result }
         ensures waits { WaitsFailing self.old self.new result }
@@ -229,6 +235,7 @@ impl<S: Alter> Keeper for SqlKeeper<S> {
 
     fn site(&mut self, alloc: Global, site: &Text) -> Result<Option<Site>, KeepFault>
         ensures reads { Reads (site_of site.now) (told_tables S.Store self.old) (told_tables S.Store self.new) result }
+        ensures spares { Spares (kept_of S.Store self.old) (kept_of S.Store self.new) }
         ensures fits { IfOk result (λ found. IfSome found FitsSite) }
         ensures faults { CountsFaults self.old.faults self.new.faults result }
         ensures waits { WaitsFailing self.old self.new result }
@@ -246,6 +253,7 @@ impl<S: Alter> Keeper for SqlKeeper<S> {
 
     fn load(&mut self, alloc: Global, site: &Text, page: &Text) -> Result<Option<Page>, KeepFault>
         ensures reads { Reads (page_of site.now page.now) (told_tables S.Store self.old) (told_tables S.Store self.new) result }
+        ensures spares { Spares (kept_of S.Store self.old) (kept_of S.Store self.new) }
         ensures fits { IfOk result (λ found. IfSome found FitsPage) }
         ensures faults { CountsFaults self.old.faults self.new.faults result }
         ensures waits { WaitsFailing self.old self.new result }
@@ -263,6 +271,7 @@ impl<S: Alter> Keeper for SqlKeeper<S> {
 
     fn list(&mut self, alloc: Global, site: &Text) -> Result<List<PageHead>, KeepFault>
         ensures reads { Reads (heads_of site.now) (told_tables S.Store self.old) (told_tables S.Store self.new) result }
+        ensures spares { Spares (kept_of S.Store self.old) (kept_of S.Store self.new) }
         ensures fits { IfOk result FitsHeads }
         ensures faults { CountsFaults self.old.faults self.new.faults result }
         ensures waits { WaitsFailing self.old self.new result }
@@ -285,6 +294,7 @@ impl<S: Alter> Keeper for SqlKeeper<S> {
         page: &Text,
     ) -> Result<List<Judgement>, KeepFault>
         ensures reads { Reads (judgements_of site.now page.now) (told_tables S.Store self.old) (told_tables S.Store self.new) result }
+        ensures spares { Spares (kept_of S.Store self.old) (kept_of S.Store self.new) }
         ensures faults { CountsFaults self.old.faults self.new.faults result }
         ensures waits { WaitsFailing self.old self.new result }
         ensures crash { Across S.Store LeavesAll self.old.ready self.new.ready }
@@ -301,6 +311,7 @@ impl<S: Alter> Keeper for SqlKeeper<S> {
 
     fn outcomes(&mut self, alloc: Global, site: &Text, page: &Text) -> Result<Outcomes, KeepFault>
         ensures reads { Reads (outcomes_of site.now page.now) (told_tables S.Store self.old) (told_tables S.Store self.new) result }
+        ensures spares { Spares (kept_of S.Store self.old) (kept_of S.Store self.new) }
         ensures faults { CountsFaults self.old.faults self.new.faults result }
         ensures waits { WaitsFailing self.old self.new result }
         ensures crash { Across S.Store LeavesAll self.old.ready self.new.ready }
@@ -321,10 +332,10 @@ impl<S: Alter> Keeper for SqlKeeper<S> {
     fn apply(&mut self, alloc: Global, batch: &Batch) -> Result<(), KeepFault>
         requires fits { Fits batch.now.change }
         ensures makes { Makes batch.now.change (told_tables S.Store self.old) (told_tables S.Store self.new) result }
+        ensures leaves { Leaves batch.now.change (kept_of S.Store self.old) (kept_of S.Store self.new) result }
         ensures faults { CountsFaults self.old.faults self.new.faults result }
         ensures waits { WaitsFailing self.old self.new result }
         ensures crash { Across S.Store (LeavesChange batch.now.change) self.old.ready self.new.ready }
-        ensures leaves { Across S.Store (LeavesTables batch.now.change) self.old.ready self.new.ready }
         ensures settled { OnOk result (Across S.Store IsSettled self.old.ready self.new.ready) }
     {
         let known = self.known.take();

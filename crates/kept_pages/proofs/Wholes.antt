@@ -10,7 +10,8 @@ use Rattle.keep_core.specs.declared.tables.KeptPage.{KeptPage}
 use Rattle.keep_core.specs.declared.tables.Tables.{Tables}
 use Rattle.keep_core.specs.Tables.{page_name, kept_page, pages_of, judgements_in, outcomes_in}
 use Rattle.keep_core.specs.Listed.{listed, kept_listed}
-use Rattle.keep_core.specs.Keeping.{Stays}
+use Rattle.keep_core.specs.Keeping.{Kept, Stays, Spares}
+use Rattle.keep_core.proofs.Leaving.{spares_then}
 use Rattle.kept_pages.specs.KeptPages.{head_page, whole_at}
 
 -- the page with a name in the place of its own
@@ -34,21 +35,23 @@ pub is_named : (site page : List ℕ) (t : Tables) → IfSome (kept_page site pa
 is_named site page t = at_named page_name page (pages_of site t)
 
 -- the pages of some heads were read
-pub record ReadsSome (site : List ℕ) (langs : List (List ℕ)) (heads : List PageHead) (old new : Option Tables) (before now : ℕ) (pages : List KeptPage) : Type 0 where
-  pub stays : Stays old new
+pub record ReadsSome (site : List ℕ) (langs : List (List ℕ)) (heads : List PageHead) (old new : Kept) (before now : ℕ) (pages : List KeptPage) : Type 0 where
+  pub stays : Stays old.tables new.tables
+  pub spares : Spares old new
   pub never_falls : before ≤ now
   pub named : map page_name pages ≡ map head_page heads
-  pub found : (t : Tables) → new ≡ Some t → map (whole_at site langs t) heads ≡ map Some pages
+  pub found : (t : Tables) → new.tables ≡ Some t → map (whole_at site langs t) heads ≡ map Some pages
 
 module _ (site : List ℕ) (langs : List (List ℕ)) (heads : List PageHead) (i : ℕ) (head : PageHead) (inside : i < length heads) (is : head ≡ get_or heads i head) where
   taken : take (i + 1) heads ≡ take i heads ++ head ∷ []
   taken = take_more heads i head inside ∙ ap (λ h. take i heads ++ h ∷ []) (sym is)
 
-  module _ (old mid new : Option Tables) (from at to : ℕ) (pages next : List KeptPage) (p : KeptPage) (earlier : ReadsSome site langs (take i heads) old mid from at pages) where
-    pub one_more : Stays mid new → at ≤ to → page_name p ≡ head.page → ((t : Tables) → new ≡ Some t → whole_at site langs t head ≡ Some p) → next ≡ pages ++ p ∷ []
+  module _ (old mid new : Kept) (from at to : ℕ) (pages next : List KeptPage) (p : KeptPage) (earlier : ReadsSome site langs (take i heads) old mid from at pages) where
+    pub one_more : Stays mid.tables new.tables → Spares mid new → at ≤ to → page_name p ≡ head.page → ((t : Tables) → new.tables ≡ Some t → whole_at site langs t head ≡ Some p) → next ≡ pages ++ p ∷ []
         → ReadsSome site langs (take (i + 1) heads) old new from to next
-    one_more stays rises named found more = record {
+    one_more stays spares rises named found more = record {
       stays = λ t told. earlier.stays t (stays t told);
+      spares = spares_then old mid new earlier.spares spares;
       never_falls = omega (arith, earlier.never_falls, rises);
       named =
           ap (map page_name) more ∙ map_push page_name pages p ∙ ap (λ ns. ns ++ page_name p ∷ []) earlier.named

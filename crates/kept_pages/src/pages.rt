@@ -1,6 +1,7 @@
 ghost use Rattle.std.specs.Prelude.{◌≡◌, ◌++◌, OnOk, IfOk};
 ghost use Rattle.std.specs.Option.{option_to_list};
-ghost use Rattle.keep_core.specs.Keeping.{Reads, CountsFaults};
+ghost use Rattle.keep_core.specs.Keeping.{Reads, Spares, CountsFaults};
+ghost use Rattle.keep_core.specs.Kept.{kept_of};
 ghost use Rattle.kept_pages.specs.KeptPages.{page_at, pages_at, site_pages};
 
 use judge_core::Outcomes;
@@ -29,6 +30,7 @@ fn page_at<K: Keeper>(
     head: &PageHead,
 ) -> Result<Option<SitePage>, KeepFault>
     ensures reads { Reads (page_at site.now head.now) (K.tables keeper.old) (K.tables keeper.new) result }
+    ensures spares { Spares (kept_of K.Keeper keeper.old) (kept_of K.Keeper keeper.new) }
     ensures faults { CountsFaults (K.faults keeper.old) (K.faults keeper.new) result }
 {
     let Some(page) = keeper.load(alloc, site, &head.page)? else {
@@ -55,6 +57,7 @@ fn pages_at<K: Keeper>(
     heads: &[PageHead],
 ) -> Result<List<SitePage>, KeepFault>
     ensures reads { Reads (pages_at site.now heads.now) (K.tables keeper.old) (K.tables keeper.new) result }
+    ensures spares { Spares (kept_of K.Keeper keeper.old) (kept_of K.Keeper keeper.new) }
     ensures faults { CountsFaults (K.faults keeper.old) (K.faults keeper.new) result }
 {
     let mut pages = Vec::new(alloc);
@@ -74,6 +77,7 @@ pub fn site_pages<K: Keeper>(
     site: &Text,
 ) -> Result<List<SitePage>, KeepFault>
     ensures reads { Reads (site_pages site.now) (K.tables keeper.old) (K.tables keeper.new) result }
+    ensures spares { Spares (kept_of K.Keeper keeper.old) (kept_of K.Keeper keeper.new) }
     ensures faults { CountsFaults (K.faults keeper.old) (K.faults keeper.new) result }
 {
     let heads = keeper.list(alloc, site)?;

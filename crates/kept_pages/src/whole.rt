@@ -1,6 +1,7 @@
 ghost use Rattle.std.specs.Prelude.{◌≡◌, ◌++◌, ◌∷◌, [], OnOk, IfOk};
 ghost use Rattle.snap_tree.specs.Langs.{AreLangs};
-ghost use Rattle.keep_core.specs.Keeping.{CountsFaults};
+ghost use Rattle.keep_core.specs.Keeping.{Spares, CountsFaults};
+ghost use Rattle.keep_core.specs.Kept.{kept_of};
 ghost use Rattle.kept_pages.specs.KeptPages.{ReadsWhole, ReadsAll};
 
 use keep_core::{KeepFault, Keeper, KeptPage, Page, PageHead, listed};
@@ -18,6 +19,7 @@ fn whole_page<K: Keeper>(
 ) -> Result<KeptPage, KeepFault>
     requires { AreLangs languages.now }
     ensures reads { ReadsWhole site.now languages.now head.now (K.tables keeper.old) (K.tables keeper.new) result }
+    ensures spares { Spares (kept_of K.Keeper keeper.old) (kept_of K.Keeper keeper.new) }
     ensures faults { CountsFaults (K.faults keeper.old) (K.faults keeper.new) result }
 {
     let Some(found) = keeper.load(alloc, site, &head.page)? else {
@@ -66,6 +68,7 @@ pub fn whole_pages<K: Keeper>(
 ) -> Result<List<KeptPage>, KeepFault>
     requires { AreLangs languages.now }
     ensures reads { ReadsAll site.now languages.now heads.now (K.tables keeper.old) (K.tables keeper.new) result }
+    ensures spares { Spares (kept_of K.Keeper keeper.old) (kept_of K.Keeper keeper.new) }
     ensures faults { CountsFaults (K.faults keeper.old) (K.faults keeper.new) result }
 {
     let mut pages = Vec::new(alloc);

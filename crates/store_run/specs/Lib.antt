@@ -1,2 +1,4 @@
 pub mod Refusal
 pub mod Run
+pub mod Opening
+pub mod Crashing

@@ -2,6 +2,7 @@ ghost use Rattle.std.specs.Prelude.{◌≡◌, ◌<◌, None, vec_len};
 ghost use Rattle.desk_http.specs.Desk.{desk_of};
 ghost use Rattle.desk_run.specs.Run.{outside_of};
 ghost use Rattle.store_run.specs.Run.{RunsStore};
+ghost use Rattle.store_run.specs.Crashing.{MayRun, LeavesFit};
 
 use crate::refusal::{StoreRefusal, refuse};
 use desk_run::run;
@@ -21,6 +22,8 @@ use streams::{Sink, Source};
 /// and the status is 9. Where the store can't be prepared it is 6, with the line `store fault`, and 8 for want of memory,
 /// with `no memory`; nothing else is done then either. Where such a line can't be written the status is 4. There is one book
 /// or more, and the door doesn't listen yet.
+///
+/// Where the store tells tables that a desk may begin with, and a crash would leave no others, a crash at any end leaves no others.
 #[tactic(auto, using(crate::proofs::Told::store_refused))]
 pub fn run_store<
     R: Threads + Sync,
@@ -43,12 +46,13 @@ pub fn run_store<
 ) -> u8
     requires some { 0 < vec_len books.old }
     requires unheard { (D.told door.old).heard ≡ None }
-    ensures { RunsStore S.Store B.book words.now keeper.old keeper.new
+    ensures runs { RunsStore S.Store B.book words.now keeper.old keeper.new
         (outside_of I.Source O.Sink E.Sink input.old out.old err.old)
         (outside_of I.Source O.Sink E.Sink input.new out.new err.new)
         (desk_of D.Door D.Conn.Link ⟦<SqlKeeper<S> as Keeper>⟧ B.calls door.old keeper.old books.old.items)
         (desk_of D.Door D.Conn.Link ⟦<SqlKeeper<S> as Keeper>⟧ B.calls door.new keeper.new books.new.items)
         result }
+    ensures crash { MayRun S.Store B.book keeper.old → LeavesFit S.Store B.book keeper.new }
 {
     match keeper.prepare(alloc) {
         Ok(Prepared::Ready) => run(rt, alloc, words, input, out, err, keeper, door, books),

@@ -80,11 +80,15 @@ impl Doubtful {
 }
 
 impl Keeper for Doubtful {
-    ghost use Rattle.keep_core.specs.Telling.{told_until_fault};
+    ghost use Rattle.keep_core.specs.Telling.{told_until_fault, has_failed};
 
     ghost tables = { λ k. told_until_fault k.memory.faults k.memory.tables };
 
     ghost faults = { λ k. k.memory.faults };
+
+    ghost leaves = { λ k o. ⊥ };
+
+    ghost lost = { λ k. has_failed k.memory.faults };
 
     fn edition(&mut self, alloc: Global) -> Result<u64, KeepFault> {
         self.noted = self.noted.and(Call::Edition);

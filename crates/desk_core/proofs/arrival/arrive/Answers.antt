@@ -3,6 +3,7 @@ use Rattle.std.proofs.lemmas.List.{length-map}
 use Rattle.keep_core.specs.declared.page.PageHead.{PageHead}
 use Rattle.keep_core.specs.declared.tables.KeptPage.{KeptPage}
 use Rattle.keep_core.specs.Tables.{pages_of}
+use Rattle.keep_core.proofs.Leaving.{spares_then}
 use Rattle.desk_core.specs.Placing.{read_place}
 use Rattle.desk_core.proofs.ImportLaws.{places_read}
 use Rattle.desk_core.proofs.arrival.arrive.Goals as goal
@@ -11,6 +12,7 @@ pub returns : goal.returns
 returns g c = record {
   reads = record {
     stays = λ t told. c.in_ok-entered.ensures.reads.stays t (c.in_ok-heads.ensures.reads.stays t (c.in_ok-placed.ensures.reads.stays t told));
+    spares = spares_then _ _ _ c.in_ok-entered.ensures.reads.spares (spares_then _ _ _ c.in_ok-heads.ensures.spares c.in_ok-placed.ensures.reads.spares);
     never_falls = omega (arith, c.in_ok-entered.ensures.reads.never_falls, c.in_ok-heads.ensures.faults.never_falls, c.in_ok-placed.ensures.reads.never_falls);
     failed = λ e. cc;
   };

@@ -4,6 +4,7 @@ use Rattle.keep_core.specs.Fits.{FitsHeads}
 use Rattle.desk_core.specs.Refreshing.{AreFreshPages, heads_judgings}
 use Rattle.desk_core.proofs.ByHeads.{first_fit, others_fit}
 use Rattle.desk_core.proofs.Rounds.{steps_then, costs_then, still_away, still_listed, both_fresh, both_cost, first_cost}
+use Rattle.desk_core.proofs.Resting.{away_none, away_then}
 use Rattle.desk_core.proofs.editions.+refresh_pages.Goals as goal
 
 pub refresh_some-requires-clause-heads : goal.refresh_some-requires-clause-heads
@@ -54,3 +55,6 @@ returns-clause-counted g t c =
 pub returns-in_err-refresh_some-clause-counted : goal.returns-in_err-refresh_some-clause-counted
 returns-in_err-refresh_some-clause-counted g t c =
     first_cost g.B.RuleBook.book c.args.site.now c.min.result c.args.heads.now c.split_at.result.0.now c.split_at.result.1.now c.split_at.ensures.front _ _ _ _ c.refresh_some.ensures.counted
+
+pub returns-clause-crash : goal.returns-clause-crash
+returns-clause-crash g t c = away_then g.B.RuleBook.book _ _ _ c.refresh_some.ensures.crash c.refresh_pages.ensures.crash

@@ -4,6 +4,7 @@ use Rattle.rule_core.specs.Books.{Book}
 use Rattle.keep_core.specs.Names.{is_name}
 use Rattle.desk_core.specs.Refreshing.{Steps, IsFreshSite, AreFreshSites, site_judgings_of, sites_judgings, CostsAtMost}
 use Rattle.desk_core.proofs.Rounds.{steps_then, costs_then, still_away, first_site_fresh, first_site_cost, first_site_costs}
+use Rattle.desk_core.proofs.Resting.{away_none, away_then}
 use Rattle.desk_core.proofs.editions.+refresh_sites.Goals as goal
 
 pub returns-clause-steps : goal.returns-clause-steps
@@ -48,3 +49,6 @@ returns-in_err-refresh_site-clause-counted g t c =
 
 pub refresh_sites-requires-clause-away : goal.refresh_sites-requires-clause-away
 refresh_sites-requires-clause-away g t c = λ κs lives. still_away g.B.RuleBook.book _ _ _ _ c.refresh_site.ensures.steps c.requires.away
+
+pub returns-clause-crash : goal.returns-clause-crash
+returns-clause-crash g t c = away_then g.B.RuleBook.book _ _ _ c.refresh_site.ensures.crash c.refresh_sites.ensures.crash

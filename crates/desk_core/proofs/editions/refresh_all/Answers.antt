@@ -2,6 +2,7 @@ use Rattle.std.proofs.Common.{sum_by, ◌∙◌, arith}
 use Rattle.rule_core.specs.Books.{Book}
 use Rattle.desk_core.specs.Refreshing.{AreFreshSites, AreAllFresh, sites_judgings, all_judgings}
 use Rattle.desk_core.proofs.Rounds.{steps_after, costs_after, all_sites_fresh, all_sites_cost}
+use Rattle.desk_core.proofs.Resting.{away_spared, away_then}
 use Rattle.desk_core.proofs.editions.refresh_all.Goals as goal
 
 pub refresh_sites-requires-clause-away : goal.refresh_sites-requires-clause-away
@@ -24,3 +25,11 @@ returns-clause-counted g c =
     let to = sum_by g.B.RuleBook.calls c.refresh_sites.new.books in
     costs_after book (sites_judgings book names) (all_judgings book) _ _ _ from from to (AreFreshSites book names) c.refresh_sites.result read.stays c.refresh_sites.ensures.steps (omega arith)
     c.refresh_sites.ensures.counted (λ u is nearly. all_sites_cost book u names (c.as_slice.ensures ∙ read.answers u is) nearly)
+
+pub returns-clause-crash : goal.returns-clause-crash
+returns-clause-crash g c =
+    let book : Book = g.B.RuleBook.book in
+    away_then book _ _ _ (away_spared book _ _ c.in_ok-names.ensures.spares) c.refresh_sites.ensures.crash
+
+pub returns-in_err-names-clause-crash : goal.returns-in_err-names-clause-crash
+returns-in_err-names-clause-crash g c = away_spared g.B.RuleBook.book _ _ c.in_err-names.ensures.spares

@@ -2,6 +2,7 @@ use Rattle.std.proofs.Common.{sum_by, sym, ◌∙◌, arith}
 use Rattle.rule_core.specs.Books.{Book}
 use Rattle.desk_core.specs.Refreshing.{IsFreshSite, AreFreshPages, heads_judgings, site_judgings_of}
 use Rattle.desk_core.proofs.Rounds.{steps_after, costs_after, site_lists, all_heads_fresh, all_heads_cost}
+use Rattle.desk_core.proofs.Resting.{away_spared, away_then}
 use Rattle.desk_core.proofs.editions.refresh_site.Goals as goal
 
 pub refresh_pages-requires-clause-listed : goal.refresh_pages-requires-clause-listed
@@ -30,3 +31,17 @@ returns-clause-counted g c =
     costs_after book (heads_judgings book name heads) (site_judgings_of book name) (g.K.Keeper.tables c.args.keeper.now) (g.K.Keeper.tables c.list.new.self) (g.K.Keeper.tables c.refresh_pages.new.keeper)
     from from to (AreFreshPages book name heads) c.refresh_pages.result (λ t told. c.in_ok-site.ensures.reads.stays t (c.in_ok-heads.ensures.reads.stays t told)) c.refresh_pages.ensures.steps
     (omega arith) c.refresh_pages.ensures.counted (λ u is nearly. all_heads_cost book name u heads (c.as_slice.ensures ∙ c.in_ok-heads.ensures.reads.answers u is) nearly)
+
+pub returns-clause-crash : goal.returns-clause-crash
+returns-clause-crash g c =
+    let book : Book = g.B.RuleBook.book in
+    away_then book _ _ _ (away_spared book _ _ c.in_ok-site.ensures.spares)
+    (away_then book _ _ _ (away_spared book _ _ c.in_ok-heads.ensures.spares) c.refresh_pages.ensures.crash)
+
+pub returns-in_err-heads-clause-crash : goal.returns-in_err-heads-clause-crash
+returns-in_err-heads-clause-crash g c =
+    let book : Book = g.B.RuleBook.book in
+    away_then book _ _ _ (away_spared book _ _ c.in_ok-site.ensures.spares) (away_spared book _ _ c.in_err-heads.ensures.spares)
+
+pub returns-in_err-site-clause-crash : goal.returns-in_err-site-clause-crash
+returns-in_err-site-clause-crash g c = away_spared g.B.RuleBook.book _ _ c.in_err-site.ensures.spares

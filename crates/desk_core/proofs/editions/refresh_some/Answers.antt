@@ -3,6 +3,7 @@ use Rattle.rule_core.specs.Books.{Book}
 use Rattle.desk_core.specs.Refreshing.{AreByBook, AreFreshPages, heads_judgings}
 use Rattle.desk_core.proofs.ByHeads.{outcomes_page, outcomes_fit}
 use Rattle.desk_core.proofs.Rounds.{steps_end, goes_read, replaced, told_before, costs_before}
+use Rattle.desk_core.proofs.Resting.{away_spared, away_then}
 use Rattle.desk_core.proofs.editions.refresh_some.Goals as goal
 
 pub replace-requires-clause-away : goal.replace-requires-clause-away
@@ -28,3 +29,11 @@ pub returns-in_err-outcomes-clause-steps : goal.returns-in_err-outcomes-clause-s
 returns-in_err-outcomes-clause-steps g c =
     let book : Book = g.B.RuleBook.book in
     steps_end book _ (AreFreshPages book c.args.site.now c.args.heads.now) _ _ c.from_residual.result c.from_residual.ensures.1 (goes_read book _ _ c.in_err-outcomes.ensures.audits.stays)
+
+pub returns-clause-crash : goal.returns-clause-crash
+returns-clause-crash g c =
+    let book : Book = g.B.RuleBook.book in
+    away_then book _ _ _ (away_spared book _ _ c.in_ok-outcomes.ensures.crash) (c.replace.ensures.crash book)
+
+pub returns-in_err-outcomes-clause-crash : goal.returns-in_err-outcomes-clause-crash
+returns-in_err-outcomes-clause-crash g c = away_spared g.B.RuleBook.book _ _ c.in_err-outcomes.ensures.crash

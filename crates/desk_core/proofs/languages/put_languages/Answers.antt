@@ -1,5 +1,6 @@
 use Rattle.std.proofs.Common.{Ok, sum_by, subst, arith}
 use Rattle.rule_core.specs.Books.{Book}
+use Rattle.keep_core.proofs.Leaving.{spares_then}
 use Rattle.desk_core.specs.Told.{told_of}
 use Rattle.desk_core.specs.Relisting.{Relists, RelistCosts}
 use Rattle.desk_core.proofs.LanguageLaws.{decides_unowned, decides_relisted, costs_relisted, costs_unlisted}
@@ -23,6 +24,7 @@ returns-clause-decides g c =
     mid found c.from_vec.result c.relisted.result c.requires.site c.requires.languages
     (record {
       stays = λ t told. c.in_ok-kept.ensures.reads.stays t (c.in_ok-heads.ensures.reads.stays t (relists.reads.stays t told));
+      spares = spares_then _ _ _ c.in_ok-kept.ensures.reads.spares (spares_then _ _ _ c.in_ok-heads.ensures.spares relists.reads.spares);
       never_falls = omega (arith, c.in_ok-kept.ensures.reads.never_falls, c.in_ok-heads.ensures.faults.never_falls, relists.reads.never_falls);
       failed = λ e. cc;
     })

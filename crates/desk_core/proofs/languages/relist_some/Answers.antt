@@ -17,7 +17,7 @@ returns-clause-relists g c =
     let works = c.as_slice.result.now in
     let are = c.as_slice.ensures.value ∙ c.in_ok-works.ensures in
     record {
-      reads = record { stays = c.in_ok-pages.ensures.reads.stays; never_falls = c.in_ok-pages.ensures.faults.never_falls; failed = λ e. cc };
+      reads = record { stays = c.in_ok-pages.ensures.reads.stays; spares = c.in_ok-pages.ensures.spares; never_falls = c.in_ok-pages.ensures.faults.never_falls; failed = λ e. cc };
       named =
           relists_named book a.site.now a.languages.now a.new.now a.heads.now _ _ c.in_ok-pages.pages c.in_ok-pages.ensures.reads works c.in_ok-outcomes.outcomes.items _ are
           c.in_ok-outcomes.ensures.as_many c.in_ok-name_all.ensures;

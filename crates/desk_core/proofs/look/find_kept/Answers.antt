@@ -4,6 +4,7 @@ pub returns : goal.returns
 returns g c = record {
   reads = record {
     stays = c.in_ok-found.ensures.reads.stays;
+    spares = c.in_ok-found.ensures.reads.spares;
     never_falls = c.in_ok-found.ensures.reads.never_falls;
     failed = λ e. cc;
   };

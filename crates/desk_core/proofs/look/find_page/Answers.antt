@@ -1,6 +1,7 @@
 use Rattle.std.proofs.Common.{Some, ap, sym, ◌∙◌, refl, arith}
 use Rattle.keep_core.specs.declared.page.Page.{Page}
 use Rattle.keep_core.specs.Tables.{kept_page, kept_site, languages_of, languages_in}
+use Rattle.keep_core.proofs.Leaving.{spares_then}
 use Rattle.desk_core.specs.State.{PageState, listed}
 use Rattle.desk_core.proofs.Ways.{followed, held, not_held, languages_are}
 use Rattle.desk_core.proofs.Views.{state_page}
@@ -10,6 +11,7 @@ pub returns-in-Some : goal.returns-in-Some
 returns-in-Some g c = record {
   reads = record {
     stays = λ t told. c.in_ok-entered.ensures.reads.stays t (c.in_ok-found.ensures.reads.stays t told);
+    spares = spares_then _ _ _ c.in_ok-entered.ensures.reads.spares c.in_ok-found.ensures.spares;
     never_falls = omega (arith, c.in_ok-entered.ensures.reads.never_falls, c.in_ok-found.ensures.faults.never_falls);
     failed = λ e. cc;
   };
@@ -33,6 +35,7 @@ pub returns : goal.returns
 returns g c = record {
   reads = record {
     stays = λ t told. c.in_ok-entered.ensures.reads.stays t (c.in_ok-found.ensures.reads.stays t told);
+    spares = spares_then _ _ _ c.in_ok-entered.ensures.reads.spares c.in_ok-found.ensures.spares;
     never_falls = omega (arith, c.in_ok-entered.ensures.reads.never_falls, c.in_ok-found.ensures.faults.never_falls);
     failed = λ e. cc;
   };

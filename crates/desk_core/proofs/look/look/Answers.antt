@@ -1,6 +1,7 @@
 use Rattle.std.proofs.Common.{sym, ◌∙◌, arith}
 use Rattle.keep_core.specs.Fits.{FitsPage}
 use Rattle.keep_core.specs.Tables.{kept_page}
+use Rattle.keep_core.proofs.Leaving.{spares_then}
 use Rattle.desk_core.proofs.Sound.{some_has}
 use Rattle.desk_core.proofs.Ways.{looked, listed_fits}
 use Rattle.desk_core.proofs.look.look.Goals as goal
@@ -9,6 +10,7 @@ pub returns-in_ok-page-in-Some : goal.returns-in_ok-page-in-Some
 returns-in_ok-page-in-Some g c = record {
   reads = record {
     stays = λ t told. c.in_ok-kept.ensures.reads.stays t (c.in_ok-judgements-in-Some.ensures.reads.stays t told);
+    spares = spares_then _ _ _ c.in_ok-kept.ensures.spares c.in_ok-judgements-in-Some.ensures.spares;
     never_falls = omega (arith, c.in_ok-kept.ensures.faults.never_falls, c.in_ok-judgements-in-Some.ensures.faults.never_falls);
     failed = λ e. cc;
   };

@@ -18,7 +18,7 @@ returns-in-None g c =
     let request : Request = record { caller = c.args.caller.now; command = PutSite c.args.name } in
     let none : Result (Option Site) Refusal = Ok c.in_ok-site.field-0 in
     let reads : OnlyReads (told_of g.K.Keeper c.args.keeper.now) (told_of g.K.Keeper c.site.new.self) none =
-    record { stays = c.in_ok-site.ensures.reads.stays; never_falls = c.in_ok-site.ensures.faults.never_falls; failed = λ e. cc } in
+    record { stays = c.in_ok-site.ensures.reads.stays; spares = c.in_ok-site.ensures.spares; never_falls = c.in_ok-site.ensures.faults.never_falls; failed = λ e. cc } in
     decides_by book request _ _ none c.new_site.result (put_site c.args.name c.args.caller.now None) reads c.new_site.ensures
     (put_site_fits c.args.name c.args.caller.now None c.requires.site c.requires.caller) (put_site_keeps c.args.name c.args.caller.now None) (put_site_accepts c.args.name c.args.caller.now None)
     (λ t told. site_is_new c.args.name c.args.caller.now t (sym (c.in_ok-site.ensures.reads.answers t told) ∙ c.in-None.is))
@@ -26,7 +26,7 @@ returns-in-None g c =
 pub returns-in-Some : goal.returns-in-Some
 returns-in-Some g c =
     λ book. record {
-      reads = record { stays = c.in_ok-site.ensures.reads.stays; never_falls = c.in_ok-site.ensures.faults.never_falls; failed = λ e. cc };
+      reads = record { stays = c.in_ok-site.ensures.reads.stays; spares = c.in_ok-site.ensures.spares; never_falls = c.in_ok-site.ensures.faults.never_falls; failed = λ e. cc };
       agrees = λ t told sound. site_is_there c.args.name c.args.caller.now t _ (sym (c.in_ok-site.ensures.reads.answers t told) ∙ c.in-Some.is);
       fits = tt;
       there = tt;

@@ -7,7 +7,7 @@ use Rattle.desk_core.proofs.reads.read_page.Goals as goal
 pub returns : goal.returns
 returns g c =
     λ book. record {
-      reads = record { stays = c.in_ok-found.ensures.reads.stays; never_falls = c.in_ok-found.ensures.reads.never_falls; failed = λ e. cc };
+      reads = record { stays = c.in_ok-found.ensures.reads.stays; spares = c.in_ok-found.ensures.reads.spares; never_falls = c.in_ok-found.ensures.reads.never_falls; failed = λ e. cc };
       shows =
           λ t told sound.
           let f = c.in_ok-found.ensures.found t told in

@@ -5,8 +5,8 @@ use Rattle.desk_http.specs.Desk.{moment_of}
 use Rattle.desk_http.proofs.Responding.{unhandled}
 use Rattle.desk_http.proofs.answering.answer_request.Goals as goal
 
-pub returns-in-Err : goal.returns-in-Err
-returns-in-Err g c =
+pub returns-in-Err-clause-responds : goal.returns-in-Err-clause-responds
+returns-in-Err-clause-responds g c =
     let keeper = g.K.Keeper in
     let beside = moment_of keeper g.B.RuleBook.calls in
     let book : Book = g.B.RuleBook.book in

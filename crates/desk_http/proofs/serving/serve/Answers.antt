@@ -18,6 +18,7 @@ loop-table-init g c =
     record {
       served = door_none book (desk_with link.wire link.faults (door.told c.args.door.now) (door.log c.args.door.now) (beside c.args.keeper.now c.args.books.now));
       sound = λ t is. (t, is, refl, λ sound. sound);
+      ready = λ ready. ready;
       heard = refl;
       given_back = refl;
       kept = omega arith;
@@ -52,6 +53,7 @@ loop-table-preserved g c =
           (beside c.args.keeper.now c.args.books.now) (beside c.loop-table.keeper c.loop-table.books) (beside c.serve_next.new.keeper c.serve_next.new.books)
           i.served c.next.ensures.log gave one.served one.took;
       sound = keeps_join book (keeper.tables c.args.keeper.now) (keeper.tables c.loop-table.keeper) (keeper.tables c.serve_next.new.keeper) i.sound one.sound;
+      ready = λ ready. one.ready (i.ready ready);
       heard = one.took.heard ∙ gave.heard ∙ i.heard;
       given_back = omega (arith, i.given_back, gave.out, one.took.out);
       kept = omega (arith, i.kept, one.kept);
@@ -72,6 +74,9 @@ returns-in-None-clause-served g c =
 
 pub returns-in-None-clause-sound : goal.returns-in-None-clause-sound
 returns-in-None-clause-sound g c = c.loop-table.invariant.sound
+
+pub returns-in-None-clause-ready : goal.returns-in-None-clause-ready
+returns-in-None-clause-ready g c = c.loop-table.invariant.ready
 
 pub returns-in-None-clause-heard : goal.returns-in-None-clause-heard
 returns-in-None-clause-heard g c = let ended = rw c.in-None.is at c.in_ok-link.ensures.gives in ended.0.heard ∙ c.loop-table.invariant.heard
@@ -105,6 +110,9 @@ returns-in_err-link-clause-served g c =
 
 pub returns-in_err-link-clause-sound : goal.returns-in_err-link-clause-sound
 returns-in_err-link-clause-sound g c = c.loop-table.invariant.sound
+
+pub returns-in_err-link-clause-ready : goal.returns-in_err-link-clause-ready
+returns-in_err-link-clause-ready g c = c.loop-table.invariant.ready
 
 pub returns-in_err-link-clause-heard : goal.returns-in_err-link-clause-heard
 returns-in_err-link-clause-heard g c = c.in_err-link.ensures.gives.heard ∙ c.loop-table.invariant.heard

@@ -18,6 +18,7 @@ loop-held-init g c =
     record {
       served = begins book c.new-held.result.items (link.wire c.args.link.now) (beside c.args.keeper.now c.args.books.now) c.new-held.ensures.items;
       sound = λ t is. (t, is, refl, λ sound. sound);
+      ready = λ ready. ready;
       faults = refl;
       kept = omega arith;
     }
@@ -34,6 +35,9 @@ returns-in-Ok-Ended-clause-served g c =
 
 pub returns-in-Ok-Ended-clause-sound : goal.returns-in-Ok-Ended-clause-sound
 returns-in-Ok-Ended-clause-sound g c = c.loop-held.invariant.sound
+
+pub returns-in-Ok-Ended-clause-ready : goal.returns-in-Ok-Ended-clause-ready
+returns-in-Ok-Ended-clause-ready g c = c.loop-held.invariant.ready
 
 pub returns-in-Ok-Ended-clause-faults : goal.returns-in-Ok-Ended-clause-faults
 returns-in-Ok-Ended-clause-faults g c = c.in-Ok-Ended.ensures.counted.same ∙ c.loop-held.invariant.faults
@@ -57,6 +61,9 @@ returns-in-Ok-Cut-clause-served g c =
 pub returns-in-Ok-Cut-clause-sound : goal.returns-in-Ok-Cut-clause-sound
 returns-in-Ok-Cut-clause-sound g c = c.loop-held.invariant.sound
 
+pub returns-in-Ok-Cut-clause-ready : goal.returns-in-Ok-Cut-clause-ready
+returns-in-Ok-Cut-clause-ready g c = c.loop-held.invariant.ready
+
 pub returns-in-Ok-Cut-clause-faults : goal.returns-in-Ok-Cut-clause-faults
 returns-in-Ok-Cut-clause-faults g c = c.in-Ok-Cut.ensures.counted.same ∙ c.loop-held.invariant.faults
 
@@ -78,6 +85,9 @@ returns-in-Err-Failed-clause-served g c =
 
 pub returns-in-Err-Failed-clause-sound : goal.returns-in-Err-Failed-clause-sound
 returns-in-Err-Failed-clause-sound g c = c.loop-held.invariant.sound
+
+pub returns-in-Err-Failed-clause-ready : goal.returns-in-Err-Failed-clause-ready
+returns-in-Err-Failed-clause-ready g c = c.loop-held.invariant.ready
 
 pub returns-in-Err-Failed-clause-faults : goal.returns-in-Err-Failed-clause-faults
 returns-in-Err-Failed-clause-faults g c =
@@ -106,6 +116,9 @@ returns-in-Err-clause-sound g c =
     let keeper = g.K.Keeper in
     let book : Book = g.B.RuleBook.book in
     keeps_join book (keeper.tables c.args.keeper.now) (keeper.tables c.loop-held.keeper) (keeper.tables c.serve_item.new.keeper) c.loop-held.invariant.sound c.serve_item.ensures.sound
+
+pub returns-in-Err-clause-ready : goal.returns-in-Err-clause-ready
+returns-in-Err-clause-ready g c = λ ready. c.serve_item.ensures.ready (c.loop-held.invariant.ready ready)
 
 pub returns-in-Err-clause-faults : goal.returns-in-Err-clause-faults
 returns-in-Err-clause-faults g c =
@@ -137,6 +150,9 @@ returns-then-closes-clause-sound g c =
     let book : Book = g.B.RuleBook.book in
     keeps_join book (keeper.tables c.args.keeper.now) (keeper.tables c.loop-held.keeper) (keeper.tables c.serve_item.new.keeper) c.loop-held.invariant.sound c.serve_item.ensures.sound
 
+pub returns-then-closes-clause-ready : goal.returns-then-closes-clause-ready
+returns-then-closes-clause-ready g c = λ ready. c.serve_item.ensures.ready (c.loop-held.invariant.ready ready)
+
 pub returns-then-closes-clause-faults : goal.returns-then-closes-clause-faults
 returns-then-closes-clause-faults g c = c.in-Ok.ensures.counts.same ∙ (c.in-Ok-Came.ensures.counted.same ∙ c.loop-held.invariant.faults)
 
@@ -166,6 +182,7 @@ loop-held-preserved g c =
           (SoFar book.infos c.read_item.new.held.items)
           c.loop-held.invariant.served (rw c.in-Ok-Came.field-0-is at c.in-Ok-Came.ensures.says) c.in-Ok.ensures.served (goes_on book c.in-Ok-Came.item c.read_item.new.held.items c.in-Ok.field-0 c.if-closes.false);
       sound = keeps_join book (keeper.tables c.args.keeper.now) (keeper.tables c.loop-held.keeper) (keeper.tables c.serve_item.new.keeper) c.loop-held.invariant.sound c.serve_item.ensures.sound;
+      ready = λ ready. c.serve_item.ensures.ready (c.loop-held.invariant.ready ready);
       faults = c.in-Ok.ensures.counts.same ∙ (c.in-Ok-Came.ensures.counted.same ∙ c.loop-held.invariant.faults);
       kept = omega (arith, c.loop-held.invariant.kept, rises);
     }
@@ -182,6 +199,9 @@ returns-in-Err-OutOfMemory-clause-served g c =
 
 pub returns-in-Err-OutOfMemory-clause-sound : goal.returns-in-Err-OutOfMemory-clause-sound
 returns-in-Err-OutOfMemory-clause-sound g c = c.loop-held.invariant.sound
+
+pub returns-in-Err-OutOfMemory-clause-ready : goal.returns-in-Err-OutOfMemory-clause-ready
+returns-in-Err-OutOfMemory-clause-ready g c = c.loop-held.invariant.ready
 
 pub returns-in-Err-OutOfMemory-clause-faults : goal.returns-in-Err-OutOfMemory-clause-faults
 returns-in-Err-OutOfMemory-clause-faults g c =

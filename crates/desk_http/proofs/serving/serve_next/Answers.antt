@@ -17,6 +17,9 @@ returns-clause-served g c =
 pub returns-clause-sound : goal.returns-clause-sound
 returns-clause-sound g c = c.serve_by.ensures.sound
 
+pub returns-clause-ready : goal.returns-clause-ready
+returns-clause-ready g c = c.serve_by.ensures.ready
+
 pub returns-clause-took : goal.returns-clause-took
 returns-clause-took g c = c.done.ensures.took
 

@@ -4,8 +4,8 @@ use Rattle.desk_run.proofs.FirstBooks.{lent_costs}
 use Rattle.desk_run.proofs.Spared.{spared}
 use Rattle.desk_run.proofs.refreshing.refresh_by.Goals as goal
 
-pub returns : goal.returns
-returns g c =
+pub returns-clause-refreshed : goal.returns-clause-refreshed
+returns-clause-refreshed g c =
     let n = c.args.workers in
     let calls = g.B.RuleBook.calls in
     record {

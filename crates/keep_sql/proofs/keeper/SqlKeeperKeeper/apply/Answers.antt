@@ -1,6 +1,7 @@
 use Rattle.std.proofs.Common.{sym, ap, ◌∙◌}
 use Rattle.keep_sql.specs.Keeper.{Keeper, LeavesChange, IsSettled}
-use Rattle.keep_sql.proofs.KeepLemmas.{made_of, kept_of, leaves_of, across_of}
+use Rattle.keep_sql.proofs.KeepLemmas.{made_of, kept_of, across_of}
+use Rattle.keep_sql.proofs.CrashLemmas.{leaves_made, leaves_kept}
 use Rattle.keep_sql.proofs.keeper.SqlKeeperKeeper.apply.Goals as goal
 
 pub returns-in-Ok-clause-makes : goal.returns-in-Ok-clause-makes
@@ -26,10 +27,10 @@ returns-in-Ok-clause-settled g c = across_of g.S.Store IsSettled c.args.self.now
 
 pub returns-in-Ok-clause-leaves : goal.returns-in-Ok-clause-leaves
 returns-in-Ok-clause-leaves g c =
-    leaves_of g.S.Store c.self.inside.ready c.args.self.now.ready c.in-Some.conn c.make.new.conn c.in-Some.is (ap (λ (k : Keeper g.row.S.Denot). k.ready) (sym c.self.view_is) ∙ c.in-Some.is)
-    c.make.ensures.crash.clean c.self.invariant.well.ready_is c.args.batch.now.change c.requires.fits c.see_numbers.ensures c.make.ensures.crash
+    leaves_made g.S.Store c.args.batch.now.change c.requires.fits c.see_numbers.ensures c.args.self.now.ready _ _ _ _ c.in-Some.conn c.make.new.conn (ap (λ (k : Keeper g.row.S.Denot). k.ready) (sym c.self.view_is) ∙ c.in-Some.is) c.self.inside.ready c.in-Some.is
+    c.self.invariant.well.ready_is c.make.ensures.crash c.in-Ok.ensures.changes
 
 pub returns-in-Err-clause-leaves : goal.returns-in-Err-clause-leaves
 returns-in-Err-clause-leaves g c =
-    leaves_of g.S.Store c.self.inside.ready c.args.self.now.ready c.in-Some.conn c.make.new.conn c.in-Some.is (ap (λ (k : Keeper g.row.S.Denot). k.ready) (sym c.self.view_is) ∙ c.in-Some.is)
-    c.make.ensures.crash.clean c.self.invariant.well.ready_is c.args.batch.now.change c.requires.fits c.see_numbers.ensures c.make.ensures.crash
+    leaves_kept g.S.Store c.args.batch.now.change c.requires.fits c.see_numbers.ensures c.args.self.now.ready _ _ _ _ c.in-Some.conn c.make.new.conn (ap (λ (k : Keeper g.row.S.Denot). k.ready) (sym c.self.view_is) ∙ c.in-Some.is) c.self.inside.ready c.in-Some.is
+    c.self.invariant.well.ready_is c.make.ensures.crash c.in-Err.fault c.fault_of.result c.in-Err.ensures.changes

@@ -5,6 +5,7 @@ use Rattle.store_tables.proofs.Shown.{judgements_told}
 use Rattle.keep_sql.specs.Reading.{rows_in, judgements_in}
 use Rattle.keep_sql.specs.Keeper.{Keeper, LeavesAll}
 use Rattle.keep_sql.proofs.KeepLemmas.{reads_of, fails_of, across_of}
+use Rattle.keep_sql.proofs.CrashLemmas.{spares_of, spares_none}
 use Rattle.keep_sql.proofs.keeper.SqlKeeperKeeper.judgements.Goals as goal
 
 pub returns-in-Ok-clause-reads : goal.returns-in-Ok-clause-reads
@@ -23,3 +24,9 @@ returns-in-Ok-clause-crash g c = across_of g.S.Store LeavesAll c.args.self.now.r
 
 pub returns-in-Err-clause-crash : goal.returns-in-Err-clause-crash
 returns-in-Err-clause-crash g c = across_of g.S.Store LeavesAll c.args.self.now.ready c.in-Some.conn c.read_judgements.new.conn (ap (λ (k : Keeper g.row.S.Denot). k.ready) (sym c.self.view_is) ∙ c.in-Some.is) c.read_judgements.ensures.only.survives
+
+pub returns-in-Ok-clause-spares : goal.returns-in-Ok-clause-spares
+returns-in-Ok-clause-spares g c = spares_of g.S.Store c.args.self.now.ready _ _ _ _ c.in-Some.conn c.read_judgements.new.conn (ap (λ (k : Keeper g.row.S.Denot). k.ready) (sym c.self.view_is) ∙ c.in-Some.is) c.read_judgements.ensures.only
+
+pub returns-in-Err-clause-spares : goal.returns-in-Err-clause-spares
+returns-in-Err-clause-spares g c = spares_of g.S.Store c.args.self.now.ready _ _ _ _ c.in-Some.conn c.read_judgements.new.conn (ap (λ (k : Keeper g.row.S.Denot). k.ready) (sym c.self.view_is) ∙ c.in-Some.is) c.read_judgements.ensures.only

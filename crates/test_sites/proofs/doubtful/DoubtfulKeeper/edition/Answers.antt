@@ -1,5 +1,5 @@
 use Rattle.keep_core.specs.Tables.{edition_of}
-use Rattle.keep_core.proofs.Telling.{reads_told}
+use Rattle.keep_core.proofs.Telling.{reads_told, spares_told}
 use Rattle.test_sites.proofs.doubtful.DoubtfulKeeper.edition.Goals as goal
 
 pub returns-clause-reads : goal.returns-clause-reads
@@ -7,3 +7,9 @@ returns-clause-reads c =
     let old = c.args.self.now.memory in
     let new = c.edition.new.self in
     reads_told edition_of old.faults new.faults old.tables new.tables c.edition.result c.edition.ensures.faults.never_falls c.edition.ensures.reads
+
+pub returns-clause-spares : goal.returns-clause-spares
+returns-clause-spares c =
+    let old = c.args.self.now.memory in
+    let new = c.edition.new.self in
+    spares_told old.faults new.faults old.tables new.tables c.edition.ensures.faults.never_falls c.edition.ensures.spares
