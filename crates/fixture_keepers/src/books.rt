@@ -2,7 +2,7 @@
 
 use book_forty::Forty;
 use fixture_rules::Marks;
-use fixture_words::Wrong;
+use fixture_talks::Wrong;
 use rule_book::Thirty;
 use rule_core::RuleBook;
 use std::alloc::Global;

@@ -1,6 +1,6 @@
 //! Faults of keepers and stores, of which a script knows no more than that there is one.
 
-use fixture_words::Wrong;
+use fixture_talks::Wrong;
 use keep_core::KeepFault;
 use store_tables::StoreFault;
 

@@ -1,10 +1,9 @@
 //! What keeps while a case is played.
 
+use crate::failing::FailingKeeper;
 use crate::faults::{wrong_of, wrong_of_store};
-use fixture_failing_keeper::FailingKeeper;
-use fixture_stores::{MemStore, ready_keeper, waiting_keeper};
-use fixture_talks::{Prepares, Setting};
-use fixture_words::Wrong;
+use crate::stores::{MemStore, ready_keeper, waiting_keeper};
+use fixture_talks::{Prepares, Setting, Wrong};
 use keep_core::{Keeper, MemoryKeeper};
 use keep_sql::{Prepared, SqlKeeper};
 use snap_tree::List;

@@ -1,7 +1,7 @@
 //! What a keeper answers of a site and pages of it, in lines.
 
 use crate::faults::wrong_of;
-use fixture_words::Wrong;
+use fixture_talks::Wrong;
 use judge_core::{Judgement, OutRow};
 use keep_core::{KeepFault, Keeper, MemberRole, PageHead, Site};
 use rule_core::Auto;

@@ -19,9 +19,10 @@
 //! so is refused, but for other letters behind `!`, which say nothing. The rows may be such that they make no
 //! tree, with tags and names that are empty.
 //!
-//! [`row_in`] reads one row, and [`facts`] the letters of facts.
+//! [`row_in`] reads one row, and [`facts`] the letters of facts. [`Dice`] gives numbers at random, the same for the same seed.
 #![tactic(auto)]
 
+mod dice;
 mod fault;
 mod grammar;
 mod letters;
@@ -29,6 +30,7 @@ mod node;
 mod pages;
 mod words;
 
+pub use dice::Dice;
 pub use fault::{PageFault, RowFault};
 pub use grammar::{page_in, row_in};
 pub use letters::facts;

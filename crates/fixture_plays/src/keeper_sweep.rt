@@ -2,11 +2,8 @@
 
 use crate::playing::Play;
 use crate::states::{Swept, WHOLE};
-use fixture_failing_keeper::FailingKeeper;
-use fixture_keepers::{Made, Played, failing_store_keeper, memory_keeper};
-use fixture_stores::MemStore;
-use fixture_talks::{End, Kind, Setting, Talk, talk_differs};
-use fixture_words::{Difference, Wrong};
+use fixture_keepers::{FailingKeeper, Made, MemStore, Played, failing_store_keeper, memory_keeper};
+use fixture_talks::{Difference, End, Kind, Setting, Talk, Wrong, talk_differs};
 use keep_core::{Keeper, MemoryKeeper};
 use keep_sql::SqlKeeper;
 use sqlite::Alter;
@@ -148,7 +145,7 @@ fn first_other<R: Threads + Sync, B: Made>(
 }
 
 /// The first call that goes otherwise, of so many; or the one after them, where that is made too.
-pub fn sweep_keeper<R: Threads + Sync, B: Made>(
+pub(crate) fn sweep_keeper<R: Threads + Sync, B: Made>(
     rt: &R,
     swept: &Swept<'_>,
     calls: u64,

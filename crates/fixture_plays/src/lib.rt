@@ -1,18 +1,21 @@
-//! Plays what is said over connections in a script, over a keeper and by books of either kind.
+//! Plays the cases of a script, over keepers and by books of any kind: talks over connections, runs of the program over sources,
+//! sinks and doors in memory, and looks at what is kept.
 //!
-//! Start with [`Play`], which asks what a talk asks and compares what comes back. [`sweep_keeper`], [`sweep_link`] and
-//! [`sweep_cuts`] play the talks of a case once for each call that may fail.
+//! Start with [`case_differs`], which plays a case in each of its ways, and then once for each call that may fail.
 #![tactic(auto)]
 
+mod cases;
+mod door_sweep;
 mod keeper_sweep;
 mod link_sweep;
 mod looks;
+mod over;
 mod playing;
+mod run_sweep;
+mod running;
 mod states;
+mod steps;
+mod streaming;
 mod watched;
 
-pub use keeper_sweep::sweep_keeper;
-pub use link_sweep::{sweep_cuts, sweep_link};
-pub use looks::look_differs;
-pub use playing::{Answer, Play, Way, link_of};
-pub use states::{Swept, kept_now, swept_states};
+pub use cases::case_differs;

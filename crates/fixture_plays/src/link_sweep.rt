@@ -1,11 +1,10 @@
 //! Each call of a connection fails in turn, and a connection is cut after each of its bytes.
 
-use crate::playing::{Play, Way, link_of};
+use crate::playing::{Play, Way};
 use crate::states::{Swept, kept_now};
 use crate::watched::Watched;
-use fixture_keepers::{FailingMemory, Made, Played, memory_keeper};
-use fixture_talks::{End, Talk};
-use fixture_words::{Difference, Wrong};
+use fixture_keepers::{FailingMemory, Made, Played, link_of, memory_keeper};
+use fixture_talks::{Difference, End, Talk, Wrong};
 use std::thread::Threads;
 
 fn way_of(piece: u64) -> Way {
@@ -105,7 +104,7 @@ fn fails_at<R: Threads + Sync, B: Made>(
 }
 
 /// The first call of the connection that goes otherwise, of so many; or the one after them, where that is made too.
-pub fn sweep_link<R: Threads + Sync, B: Made>(
+pub(crate) fn sweep_link<R: Threads + Sync, B: Made>(
     rt: &R,
     swept: &Swept<'_>,
     piece: u64,
@@ -171,7 +170,7 @@ fn asked_before(talks: &[&Talk], count: usize) -> usize {
 }
 
 /// The least number of bytes after which a connection that is cut goes otherwise.
-pub fn sweep_cuts<R: Threads + Sync, B: Made>(
+pub(crate) fn sweep_cuts<R: Threads + Sync, B: Made>(
     rt: &R,
     swept: &Swept<'_>,
     piece: u64,

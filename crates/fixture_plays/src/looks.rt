@@ -2,13 +2,12 @@
 
 use crate::playing::Play;
 use fixture_keepers::{Made, Played, failing_reads, judgements_of, kept_edition, kept_lines};
-use fixture_talks::{Judged, Kept, Prepares, Reads, Step};
-use fixture_words::{Difference, Wrong, bytes_differ};
+use fixture_talks::{Difference, Judged, Kept, Prepares, Reads, Step, Wrong, bytes_differ};
 use snap_tree::Text;
 use std::alloc::Global;
 
 /// The first difference between what is kept and what a step says of it; none where it is another step.
-pub fn look_differs<K: Played, B: Made>(
+pub(crate) fn look_differs<K: Played, B: Made>(
     play: &mut Play<K, B>,
     step: &Step,
 ) -> Result<Option<Difference>, Wrong> {

@@ -1,14 +1,9 @@
 //! Plays a talk over a keeper.
 
-ghost use Rattle.std.specs.Prelude.{IfOk};
-ghost use Rattle.links.specs.Memory.{IsUntouchedLink};
-
 use desk_http::{LinkEnd, serve_link};
-use fixture_keepers::{Made, Played, calls_of, made_books};
-use fixture_talks::{End, Talk, talk_differs};
-use fixture_words::{Difference, Wrong};
-use links::{Link, MemLink};
-use snap_tree::List;
+use fixture_keepers::{Made, Played, calls_of, link_of, made_books};
+use fixture_talks::{Difference, End, Talk, Wrong, talk_differs};
+use links::Link;
 use std::alloc::Global;
 use std::thread::Threads;
 
@@ -18,20 +13,6 @@ pub struct Way {
     pub piece: u64,
     pub is_joined: bool,
     pub books: u64,
-}
-
-// Room for what is written to a connection, and how many reads it allows.
-const ROOM: usize = 1_048_576;
-
-const MOST_READS: u64 = 16_777_216;
-
-/// A connection that brings these bytes, of whose calls these fail.
-pub fn link_of(alloc: Global, bytes: &[u8], piece: u64, fails: &[u64]) -> Result<MemLink, Wrong>
-    ensures { IfOk result IsUntouchedLink }
-{
-    let bytes = List::from_vec(Vec::from_slice(alloc, bytes)?);
-    let fails = List::from_vec(Vec::from_slice(alloc, fails)?);
-    Ok(MemLink::new(alloc, bytes, piece as usize, ROOM, MOST_READS, fails)?)
 }
 
 /// What comes back over a connection, how its service ends, and how many judgings that cost.

@@ -2,8 +2,7 @@
 
 use crate::playing::{Play, Way};
 use fixture_keepers::{FailingMemory, Made, Played, kept_lines, memory_keeper};
-use fixture_talks::{Kept, Plot, Step, Talk};
-use fixture_words::{Difference, Wrong};
+use fixture_talks::{Difference, Kept, Plot, Step, Talk, Wrong};
 use std::alloc::Global;
 use std::thread::Threads;
 

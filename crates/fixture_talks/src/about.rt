@@ -1,10 +1,12 @@
 //! What the lines of a script say of a talk, of a run, and of a step that is one line.
 
+use crate::escapes::unescaped;
 use crate::run::{Run, Sink};
 use crate::script::{Judged, Prepares, Reads, Step};
 use crate::settings::set_failing;
 use crate::talk::{End, Judgings, Talk};
-use fixture_words::{Wrong, first_word, number, unescaped};
+use crate::wording::{first_word, number};
+use crate::wrong::Wrong;
 use std::alloc::Global;
 
 /// Takes up what a line says of what is said over a connection.

@@ -1,6 +1,8 @@
 //! Where a script is read, and the texts that have names there.
 
-use fixture_words::{Named, Wrong, filled, first_word, listed, number, repeated};
+use crate::names::{Named, filled, listed, repeated};
+use crate::wording::{first_word, number};
+use crate::wrong::Wrong;
 use std::alloc::Global;
 
 /// The line that is read, and the texts that have names.

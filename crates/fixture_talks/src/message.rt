@@ -1,6 +1,7 @@
 //! The message whose lines are read.
 
-use fixture_words::{Wrong, unescaped};
+use crate::escapes::unescaped;
+use crate::wrong::Wrong;
 use std::alloc::Global;
 
 /// What a message is.

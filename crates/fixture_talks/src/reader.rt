@@ -3,15 +3,16 @@
 use crate::about::{about_run, about_talk, is_of_run, step_of};
 use crate::context::{Context, gives_a_name};
 use crate::message::{Message, Part, Sort, sort_of};
+use crate::messages::{reply_begins, reply_bytes, request_bytes};
+use crate::parts::{parts_of, value_of};
 use crate::run::Run;
 use crate::script::{Case, Kept, Script, Step};
 use crate::setting::Setting;
 use crate::settings::{set, set_failing};
 use crate::steps::Steps;
 use crate::talk::Talk;
-use fixture_words::{
-    Wrong, first_word, parts_of, reply_begins, reply_bytes, request_bytes, value_of, words,
-};
+use crate::wording::{first_word, words};
+use crate::wrong::Wrong;
 use std::alloc::Global;
 
 /// What is read so far of a script.

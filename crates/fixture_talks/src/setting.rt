@@ -1,6 +1,6 @@
 //! How a case is played.
 
-use fixture_words::Wrong;
+use crate::wrong::Wrong;
 use std::alloc::Global;
 
 /// The book of rules that judges.

@@ -1,7 +1,8 @@
 //! What the lines of a script say of how it is played.
 
 use crate::setting::{Book, Kind, Setting, Store, Sweep};
-use fixture_words::{Wrong, first_word, number, numbers};
+use crate::wording::{first_word, number, numbers};
+use crate::wrong::Wrong;
 use std::alloc::Global;
 
 /// Takes up what a line says of how a case is played.

@@ -3,7 +3,7 @@
 use crate::run::Run;
 use crate::script::{Kept, Step};
 use crate::talk::{End, Talk};
-use fixture_words::Wrong;
+use crate::wrong::Wrong;
 use std::alloc::Global;
 
 /// The steps so far, and what may still go on: a talk, a run in which it may be, and what is to be kept.

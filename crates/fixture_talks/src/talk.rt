@@ -1,7 +1,8 @@
 //! What is said over a connection.
 
+use crate::difference::{Difference, same_front};
 use crate::told::Told;
-use fixture_words::{Difference, Wrong, same_front};
+use crate::wrong::Wrong;
 use std::alloc::Global;
 
 /// How the service of a connection ends.

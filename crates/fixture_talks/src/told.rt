@@ -1,6 +1,6 @@
 //! What must come back over a connection.
 
-use fixture_words::Wrong;
+use crate::wrong::Wrong;
 use std::alloc::Global;
 
 /// What must come back over a connection.

@@ -12,7 +12,7 @@ static COUNTS: [(u64, u64); 4] = [
 #[test]
 fn a_count_rises_by_one_to_the_greatest(rt: HostRuntime) {
     for (count, wanted) in COUNTS.as_slice() {
-        assert_eq!(rt; next(*count), *wanted);
+        assert!(rt; next(*count) == *wanted);
     }
 }
 
@@ -33,6 +33,6 @@ static CALLS: [(&[u64], u64, bool); 6] = [
 #[test]
 fn a_list_names_calls_from_1(rt: HostRuntime) {
     for (list, calls, wanted) in CALLS.as_slice() {
-        assert_eq!(rt; is_named(list, *calls), *wanted);
+        assert!(rt; is_named(list, *calls) == *wanted);
     }
 }

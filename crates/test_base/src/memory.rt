@@ -8,13 +8,14 @@ use std::test::Fail;
 use streams::Failed;
 use texts::{List, OutOfMemory};
 
-fn list<T: Copy>(alloc: Global, items: &[T]) -> Result<List<T>, OutOfMemory> {
+/// The list of some items.
+pub fn list<T: Copy>(alloc: Global, items: &[T]) -> Result<List<T>, OutOfMemory> {
     Ok(List::from_vec(Vec::from_slice(alloc, items)?))
 }
 
 fn link(
     alloc: Global,
-    bytes: &[u8],
+    bytes: &str,
     piece: usize,
     room: usize,
     reads: u64,
@@ -22,7 +23,7 @@ fn link(
 ) -> Result<MemLink, OutOfMemory>
     ensures { IfOk result IsUntouchedLink }
 {
-    let bytes = list(alloc, bytes)?;
+    let bytes = list(alloc, bytes.as_bytes())?;
     let fails = list(alloc, fails)?;
     MemLink::new(alloc, bytes, piece, room, reads, fails)
 }
@@ -65,7 +66,7 @@ fn called(link: &mut MemLink, reads: bool) -> i8 {
 }
 
 fn answers_so(alloc: Global, fails: &[u64], answers: &[i8]) -> Result<bool, OutOfMemory> {
-    let mut link = link(alloc, b"abcde", 2, 3, 4, fails)?;
+    let mut link = link(alloc, "abcde", 2, 3, 4, fails)?;
     let mut reads = true;
     for wanted in answers {
         if called(&mut link, reads) != *wanted {
@@ -97,7 +98,7 @@ fn byte_in(link: &mut MemLink) -> Result<u8, Failed> {
 }
 
 fn counts_reads(alloc: Global) -> Result<bool, OutOfMemory> {
-    let mut link = link(alloc, b"abc", 0, 0, 3, &[])?;
+    let mut link = link(alloc, "abc", 0, 0, 3, &[])?;
     for byte in b"abc".as_slice() {
         if byte_in(&mut link) != Ok(*byte) {
             return Ok(false);
@@ -123,7 +124,7 @@ fn writes_so(
     fails: &[u64],
     written: &str,
 ) -> Result<bool, OutOfMemory> {
-    let mut link = link(alloc, b"", 1, room, 0, fails)?;
+    let mut link = link(alloc, "", 1, room, 0, fails)?;
     let is_whole = write_all(&mut link, b"abcde").is_ok();
     Ok(is_whole == (written.len() == 5) && link.written() == written.as_bytes())
 }
@@ -143,8 +144,8 @@ fn door(alloc: Global, fails: &[u64]) -> Result<MemDoor, OutOfMemory>
     ensures { IfOk result (λ door. door.heard ≡ None) }
 {
     let mut links = Vec::new(alloc);
-    links.push(link(alloc, b"a", 1, 1, 2, &[])?)?;
-    links.push(link(alloc, b"b", 1, 1, 2, &[])?)?;
+    links.push(link(alloc, "a", 1, 1, 2, &[])?)?;
+    links.push(link(alloc, "b", 1, 1, 2, &[])?)?;
     let fails = list(alloc, fails)?;
     MemDoor::new(alloc, List::from_vec(links), fails)
 }

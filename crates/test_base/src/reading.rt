@@ -1,8 +1,9 @@
+use crate::memory::list;
 use http_messages::{Field, Got, HeadFault, Item, Message, ReadFault, Sent, read_item};
 use links::MemLink;
 use std::alloc::Global;
 use std::test::Fail;
-use texts::{List, OutOfMemory};
+use texts::OutOfMemory;
 
 // The most items that a case has.
 const MOST_ITEMS: usize = 4;
@@ -122,10 +123,6 @@ static CASES: [(&str, &str); 40] = [
         "GET /; 400; closed",
     ),
 ];
-
-fn list<T: Copy>(alloc: Global, items: &[T]) -> Result<List<T>, OutOfMemory> {
-    Ok(List::from_vec(Vec::from_slice(alloc, items)?))
-}
 
 fn write_field(out: &mut Vec<u8>, field: &Field) -> Result<(), OutOfMemory> {
     out.push(b' ')?;

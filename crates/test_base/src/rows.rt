@@ -1,8 +1,8 @@
-ghost use Rattle.std.specs.Prelude.{◌≡◌, map, IfOk};
+ghost use Rattle.std.specs.Prelude.{◌≡◌, IfOk};
+ghost use Rattle.named_rows.specs.ByName.{IsInOrder};
 
 use named_rows::{Named, Place, Rows, laws_of_lookups, laws_of_order, laws_of_views};
 use std::alloc::Global;
-use std::process::Abort;
 use std::test::Fail;
 use texts::{OutOfMemory, Text};
 
@@ -28,6 +28,8 @@ static STANDING: [(&str, u8); 5] = [("", 5), ("B", 6), ("a", 2), ("ab", 4), ("b"
 
 static WITHOUT_AB: [(&str, u8); 4] = [("", 5), ("B", 6), ("a", 2), ("b", 3)];
 
+static CHANGED: [(&str, u8); 5] = [("", 5), ("B", 6), ("a", 2), ("ab", 9), ("b", 3)];
+
 fn labelled(alloc: Global, label: &str, value: u8) -> Result<Line, OutOfMemory> {
     let label = Text::from_str(alloc, label)?;
     Ok(Line { label, value })
@@ -41,37 +43,70 @@ fn lines(alloc: Global, rows: &[(&str, u8)]) -> Result<Vec<Line>, OutOfMemory> {
     Ok(made)
 }
 
-fn assert_stand(rt: &impl Abort, rows: &Rows<Line>, wanted: &[(&str, u8)]) {
-    assert_eq!(rt; rows.as_slice().len(), wanted.len());
-    for (row, (label, value)) in rows.as_slice().iter().zip(wanted) {
-        assert_eq!(rt; row.label.as_str(), *label);
-        assert_eq!(rt; row.value, *value, "{label}");
+fn stand(rows: &[Line], wanted: &[(&str, u8)]) -> bool {
+    for (row, (label, value)) in rows.iter().zip(wanted) {
+        if row.label.as_str() != *label || row.value != *value {
+            return false;
+        }
     }
+    rows.len() == wanted.len()
+}
+
+fn all_put(alloc: Global) -> Result<Rows<Line>, OutOfMemory>
+    ensures { IfOk result (λ rows. IsInOrder ⟦<Line as Named>⟧.name rows) }
+{
+    let mut rows = Rows::new(alloc);
+    rows.put_all(lines(alloc, PUT.as_slice())?)?;
+    Ok(rows)
+}
+
+// Whether there is a row of a name, which stands here.
+fn is_found<T: Named>(rows: &Rows<T>, name: &Text, place: usize) -> bool
+    requires { IsInOrder T.name rows.now }
+{
+    rows.get(name).is_some() && rows.place(name) == Place::Found(place)
+}
+
+// Whether there is none, which would stand here.
+fn is_vacant<T: Named>(rows: &Rows<T>, name: &Text, place: usize) -> bool
+    requires { IsInOrder T.name rows.now }
+{
+    rows.get(name).is_none() && rows.place(name) == Place::Vacant(place)
+}
+
+// Whether the row of a name goes from its place, and comes there when it is put again.
+fn goes_and_comes(alloc: Global, rows: &mut Rows<Line>) -> Result<bool, OutOfMemory>
+    requires { IsInOrder ⟦<Line as Named>⟧.name rows.old }
+{
+    let ab = Text::from_str(alloc, "ab")?;
+    let was_there = is_found(rows, &ab, 3);
+    rows.take(&ab);
+    let has_gone = stand(rows.as_slice(), WITHOUT_AB.as_slice()) && is_vacant(rows, &ab, 3);
+    rows.put(labelled(alloc, "ab", 4)?)?;
+    Ok(was_there && has_gone)
+}
+
+// Whether a row's value is changed where it stands.
+fn is_changed(mut rows: Rows<Line>) -> bool {
+    if rows.as_slice().len() <= 3 {
+        return false;
+    }
+    rows.at_mut(3).value = 9;
+    let kept = Rows::from_vec(rows.into_vec());
+    stand(kept.as_slice(), CHANGED.as_slice())
+}
+
+fn all_hold(alloc: Global) -> Result<bool, OutOfMemory> {
+    let mut rows = all_put(alloc)?;
+    let are_put = stand(rows.as_slice(), STANDING.as_slice());
+    let goes_and_comes = goes_and_comes(alloc, &mut rows)?;
+    let stand_again = stand(rows.as_slice(), STANDING.as_slice());
+    Ok(are_put && goes_and_comes && stand_again && is_changed(rows))
 }
 
 #[test]
 fn rows_stand_in_byte_order(rt: HostRuntime) -> Result<(), Fail> {
-    let alloc = rt.alloc();
-    let mut rows = Rows::new(alloc);
-    rows.put_all(lines(alloc, PUT.as_slice())?)?;
-    assert_stand(&rt, &rows, STANDING.as_slice());
-    let ab = Text::from_str(alloc, "ab")?;
-    assert_eq!(rt; rows.get(&ab).map(|row| row.value), Some(4));
-    assert_eq!(rt; rows.place(&ab), Place::Found(3));
-    rows.take(&ab);
-    assert_stand(&rt, &rows, WITHOUT_AB.as_slice());
-    assert!(rt; rows.get(&ab).is_none());
-    assert_eq!(rt; rows.place(&ab), Place::Vacant(3));
-    rows.put(labelled(alloc, "ab", 4)?)?;
-    assert_stand(&rt, &rows, STANDING.as_slice());
-    if rows.as_slice().len() > 3 {
-        rows.at_mut(3).value = 9;
-    }
-    let kept = Rows::from_vec(rows.into_vec());
-    assert_eq!(rt;
-        kept.as_slice().iter().map(|row| u32::from(row.value)).max(),
-        Some(9)
-    );
+    assert!(rt; all_hold(rt.alloc())?);
     laws_of_lookups::<Line>();
     laws_of_order::<Line>();
     laws_of_views::<Line, Line>();

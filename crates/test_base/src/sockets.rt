@@ -1,10 +1,33 @@
 use links::{Door, Link, write_all};
+use std::io;
 use std::io::{Read, Write};
-use std::net::{Ipv4Addr, Shutdown, TcpStream};
+use std::net::{Ipv4Addr, Net, Shutdown, TcpListener, TcpStream};
 use std::test::Fail;
-use std::time::Duration;
+use std::time::{Clock, Duration};
 use streams::Failed;
 use tcp_door::{Patience, TcpDoor};
+
+// A door that listens at a free port.
+fn listening<R: Net<Listener = TcpListener, Stream = TcpStream> + Clock + Copy + Drop>(
+    system: R,
+    patience: Patience,
+    count: u64,
+) -> Result<TcpDoor<R>, Failed> {
+    let mut door = TcpDoor::new(system, patience);
+    door.listen(0, count)?;
+    Ok(door)
+}
+
+// A peer that sends `ping`.
+fn pinging<R: Net<Listener = TcpListener, Stream = TcpStream>>(
+    system: &R,
+    port: u16,
+) -> io::Result<TcpStream> {
+    let mut peer = TcpStream::connect(system, (Ipv4Addr::LOCALHOST, port))?;
+    peer.write_all(b"ping")?;
+    peer.shutdown(Shutdown::Write)?;
+    Ok(peer)
+}
 
 // Whether a link brings `ping`; it gets `pong`.
 fn answers<L: Link>(link: &mut L) -> Result<bool, Failed> {
@@ -17,29 +40,36 @@ fn answers<L: Link>(link: &mut L) -> Result<bool, Failed> {
 }
 
 // Whether nothing more comes over a link.
-fn has_ended<L: Link>(link: &mut L) -> Result<bool, Failed> {
+fn has_ended<L: Link>(link: &mut L) -> bool {
     let mut buf = [0; 16];
-    Ok(link.read(&mut buf)? == 0)
+    link.read(&mut buf) == Ok(0)
+}
+
+// Whether a door gives one link that brings `ping` alone.
+fn serves<R: Net<Listener = TcpListener, Stream = TcpStream> + Clock + Copy + Drop>(
+    door: &mut TcpDoor<R>,
+) -> Result<bool, Failed> {
+    let Some(mut link) = door.next()? else {
+        return Ok(false);
+    };
+    let is_served = answers(&mut link) == Ok(true) && has_ended(&mut link);
+    door.done(link);
+    Ok(is_served && door.next()?.is_none())
+}
+
+// Whether `pong` came.
+fn is_told(peer: &mut TcpStream, reply: &mut Vec<u8>) -> io::Result<bool> {
+    peer.read_to_end(reply)?;
+    Ok(reply.as_slice() == b"pong".as_slice())
 }
 
 // One thread is both sides: what a peer sends waits in the system until the desk reads it.
 #[test]
 fn links_carry_bytes_both_ways_and_the_door_counts_them(rt: HostRuntime) -> Result<(), Fail> {
-    let mut door = TcpDoor::new(&rt, Patience::usual());
-    door.listen(0, 1)?;
-    let mut peer = TcpStream::connect(&rt, (Ipv4Addr::LOCALHOST, door.port()))?;
-    peer.write_all(b"ping")?;
-    let Some(mut link) = door.next()? else {
-        return Err(Fail::from("no link"));
-    };
-    let is_answered = answers(&mut link)?;
-    peer.shutdown(Shutdown::Write)?;
-    assert!(rt; is_answered && has_ended(&mut link)?);
-    door.done(link);
-    assert!(rt; door.next()?.is_none());
+    let mut door = listening(&rt, Patience::usual(), 1)?;
+    let mut peer = pinging(&rt, door.port())?;
     let mut reply = Vec::new(rt.alloc());
-    peer.read_to_end(&mut reply)?;
-    assert_eq!(rt; reply.as_slice(), b"pong".as_slice());
+    assert!(rt; serves(&mut door)? && is_told(&mut peer, &mut reply)?);
     Ok(())
 }
 
@@ -55,6 +85,21 @@ fn two_fail<L: Link>(link: &mut L) -> bool {
     first && second
 }
 
+// Whether a door's next link waits no longer for this peer, and isn't read either once that has sent something.
+fn waits_no_longer<R: Net<Listener = TcpListener, Stream = TcpStream> + Clock + Copy + Drop>(
+    door: &mut TcpDoor<R>,
+    peer: &mut TcpStream,
+) -> bool {
+    let Ok(Some(mut link)) = door.next() else {
+        return false;
+    };
+    let are_cut = two_fail(&mut link);
+    let is_late = peer.write_all(b"late").is_ok();
+    let is_cut = read_fails(&mut link);
+    door.done(link);
+    are_cut && is_late && is_cut
+}
+
 #[test]
 fn a_peer_that_sends_nothing_is_waited_for_no_longer_than_said(
     rt: HostRuntime,
@@ -63,27 +108,25 @@ fn a_peer_that_sends_nothing_is_waited_for_no_longer_than_said(
         once: Duration::from_millis(40),
         in_all: Duration::from_millis(60),
     };
-    let mut door = TcpDoor::new(&rt, patience);
-    door.listen(0, 2)?;
+    let mut door = listening(&rt, patience, 2)?;
     let mut peer = TcpStream::connect(&rt, (Ipv4Addr::LOCALHOST, door.port()))?;
-    let Some(mut link) = door.next()? else {
-        return Err(Fail::from("no link"));
-    };
-    let are_cut = two_fail(&mut link);
-    peer.write_all(b"late")?;
-    assert!(rt; are_cut && read_fails(&mut link));
-    door.done(link);
+    assert!(rt; waits_no_longer(&mut door, &mut peer));
     Ok(())
+}
+
+// Whether a port isn't to be had.
+fn is_taken<R: Net<Listener = TcpListener, Stream = TcpStream> + Clock + Copy + Drop>(
+    system: R,
+    port: u16,
+) -> bool {
+    let mut door = TcpDoor::new(system, Patience::usual());
+    door.listen(port, 1).is_err() && door.port() == 0
 }
 
 #[test]
 fn a_port_has_one_door(rt: HostRuntime) -> Result<(), Fail> {
-    let mut first = TcpDoor::new(&rt, Patience::usual());
-    let mut second = TcpDoor::new(&rt, Patience::usual());
-    first.listen(0, 1)?;
-    let port = first.port();
-    assert_ne!(rt; port, 0);
-    assert!(rt; second.listen(port, 1).is_err());
-    assert_eq!(rt; second.port(), 0);
+    let door = listening(&rt, Patience::usual(), 1)?;
+    let port = door.port();
+    assert!(rt; port != 0 && is_taken(&rt, port));
     Ok(())
 }

@@ -1,8 +1,7 @@
 //! Plays the cases of a script, and prints those that don't hold.
 
-use fixture_runs::case_differs;
-use fixture_talks::{Case, Plot, Reader, Script};
-use fixture_words::{Difference, Wrong};
+use fixture_plays::case_differs;
+use fixture_talks::{Case, Difference, Plot, Reader, Script, Wrong};
 use std::alloc::Global;
 use std::rt::Files;
 use std::thread::Threads;

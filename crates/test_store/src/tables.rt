@@ -1,6 +1,6 @@
+use fixture_keepers::empty_store;
 use sqlite::types::ValueRef;
-use sqlite::{Alter, Connection, Error, FileStore, Files, Options, Row, Transaction};
-use sqlite_disk::Memory;
+use sqlite::{Alter, Connection, Error, Row, Transaction};
 use std::alloc::Global;
 use std::test::Fail;
 use store_statements::{
@@ -9,17 +9,6 @@ use store_statements::{
     make_tables, page_judgements, page_outcomes, page_row, put_outcome, put_page, put_site,
     site_languages, site_members, site_names, site_row,
 };
-
-fn opened(alloc: Global) -> Result<Connection<FileStore<Memory>>, Error> {
-    let files = Files {
-        log: Memory::new(alloc),
-        db: Memory::new(alloc),
-    };
-    match Connection::open_files(alloc, files, Options::new(7)) {
-        Ok(conn) => Ok(conn),
-        Err((error, _)) => Err(error),
-    }
-}
 
 // A text that writes, with its parameters.
 #[derive(Clone, Copy)]
@@ -256,6 +245,6 @@ fn shows_all<S: Alter + Drop>(alloc: Global, mut conn: Connection<S>) -> Result<
 
 #[test]
 fn texts_show_what_was_written(rt: HostRuntime) -> Result<(), Fail> {
-    let conn = opened(rt.alloc())?;
+    let conn = empty_store(rt.alloc())?;
     shows_all(rt.alloc(), conn)
 }
