@@ -9,3 +9,7 @@ pub mod ReadBack
 pub mod Readable
 pub mod ReadTree
 pub mod NeverTooLong
+pub mod Turns
+pub mod TokenValues
+pub mod OneMore
+pub mod StraightRows

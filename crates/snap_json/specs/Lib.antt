@@ -5,3 +5,4 @@ pub mod Pages
 pub mod Small
 pub mod Written
 pub mod Tokens
+pub mod Straight

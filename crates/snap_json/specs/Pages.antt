@@ -101,11 +101,13 @@ abbrev pub in_json : Option Data → Result Data SnapFault
 in_json (Some d) = Ok d
 in_json None = Err NotJson
 
+-- the page that bytes are, however many
+abbrev pub page_by_value : Limits → List ℕ → Result Raw SnapFault
+page_by_value limits bytes = in_json (json_of bytes) >>= page_of limits
+
 -- the page that bytes are
 unfoldable pub page_in : Limits → List ℕ → Result Raw SnapFault
-page_in limits bytes =
-    if within limits.snapshot (length bytes) then in_json (json_of bytes) >>= page_of limits
-    else Err TooLong
+page_in limits bytes = if within limits.snapshot (length bytes) then page_by_value limits bytes else Err TooLong
 
 -- the tree of a page, unless its rows have a fault
 abbrev pub built_unless : Option TreeFault → Raw → Result Document SnapFault

@@ -78,7 +78,7 @@ pub(crate) fn space_of(member: Option<&Value>) -> Option<Space>
     }
 }
 
-fn space_named(name: &str) -> Option<Space>
+pub(crate) fn space_named(name: &str) -> Option<Space>
     ensures { result ≡ space_named name.now }
 {
     if name == "html" {
@@ -103,7 +103,7 @@ pub fn facts_of(member: Option<&Value>) -> Option<Facts>
     }
 }
 
-fn facts_named(letters: &str) -> Option<Facts>
+pub(crate) fn facts_named(letters: &str) -> Option<Facts>
     ensures { result ≡ facts_named letters.now }
 {
     let letters = letters.as_bytes();

@@ -15,6 +15,9 @@
 //! read back, within the limits. The address is a URL of the scheme http or https by the URL Standard, and
 //! is kept as that standard writes it.
 //!
+//! Bytes are read straight from their tokens where those are what snapshots mostly have (`straight`), and else by
+//! the JSON value that they are; both read the same.
+//!
 //! What else is sent as JSON is read by the same words: [`json_of`] reads bytes, [`raw_of`] and [`rows_of`] a
 //! snapshot and rows within a value, and [`number_of`], [`text_of`], [`lent_text`] and [`facts_of`] a member.
 #![tactic(auto)]
@@ -24,6 +27,9 @@ mod fields;
 mod limits;
 mod reading;
 mod rows;
+mod straight;
+mod tokens;
+mod unread;
 mod writing;
 
 pub use fault::{Field, SnapFault};

@@ -2,12 +2,13 @@ ghost use Rattle.std.specs.Prelude.{◌≡◌, ◌≢◌, [], Err, IfOk, option_
 ghost use Rattle.serde_json.specs.View.{view};
 ghost use Rattle.web_address.specs.Address.{IsWebAddress};
 ghost use Rattle.snap_json.specs.Faults.{Gives, Answers};
-ghost use Rattle.snap_json.specs.Pages.{address_from, json_of, page_of, page_in, built, tree_in, sent_page, sent_page_of, sent_tree, kept_tree, within};
+ghost use Rattle.snap_json.specs.Pages.{address_from, json_of, page_of, page_by_value, page_in, built, tree_in, sent_page, sent_page_of, sent_tree, kept_tree, within};
 
 use crate::fault::{Field, SnapFault};
-use crate::fields;
 use crate::limits::{KEPT, Limits, SENT};
 use crate::rows::{each_row, in_shape};
+use crate::unread::Unread;
+use crate::{fields, straight};
 use serde_json::Value;
 use snap_tree::{BuildFault, OutOfMemory, Raw, Text, Tree};
 use std::alloc::Global;
@@ -88,6 +89,18 @@ fn page_in(alloc: Global, limits: Limits, bytes: &[u8]) -> Result<Raw, SnapFault
     if !within(limits.snapshot, bytes.len()) {
         return Err(SnapFault::TooLong);
     }
+    match straight::page(alloc, limits, bytes) {
+        Ok(page) => Ok(page),
+        Err(Unread::OutOfMemory) => Err(SnapFault::OutOfMemory),
+        Err(Unread::Unusual) => page_by_value(alloc, limits, bytes),
+    }
+}
+
+/// The same, by the JSON value that the bytes are.
+fn page_by_value(alloc: Global, limits: Limits, bytes: &[u8]) -> Result<Raw, SnapFault>
+    ensures exact { Gives result (page_by_value limits bytes.now) }
+    ensures web_address { IfOk result (λ raw. IsWebAddress raw.address) }
+{
     match json_of(alloc, bytes)? {
         Some(value) => page_of(alloc, limits, &value),
         None => Err(SnapFault::NotJson),
@@ -122,7 +135,11 @@ fn page_of(alloc: Global, limits: Limits, page: &Value) -> Result<Raw, SnapFault
     Ok(Raw { address, rows })
 }
 
-fn address_from(alloc: Global, limit: Option<usize>, text: &str) -> Result<Text, SnapFault>
+pub(crate) fn address_from(
+    alloc: Global,
+    limit: Option<usize>,
+    text: &str,
+) -> Result<Text, SnapFault>
     ensures exact { Gives result (address_from limit text.now) }
     ensures web_address { IfOk result IsWebAddress }
 {
