@@ -114,10 +114,11 @@ class Script:
         yield f"POST {HOME}/judgements", self.judgement, (200,)
         yield f"POST {HOME}/edits", lambda: {"body": encoded({"edits": []}), "rev": 77}, (409,)
         yield "POST /sites/acme/import", self.pages, (200,)
-        for end in ("", "/outcomes", "/report", "/earl", "/names"):
+        for end in ("", "/outcomes", "/report", "/earl", "/names", "/verdicts"):
             yield f"GET {HOME}{end}", dict, (200,)
-        for end in ("report", "csv", "earl"):
+        for end in ("report", "csv", "earl", "members"):
             yield f"GET /sites/acme/{end}", dict, (200,)
+        yield "GET /memberships", dict, (200,)
         yield "PUT /sites/acme/languages", lambda: {"body": encoded({"languages": ["gsw"]})}, (200,)
         yield "DELETE /sites/acme/pages/two", lambda: {"rev": self.rev("two")}, (200, 404)
 

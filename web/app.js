@@ -7,9 +7,14 @@ import { showStart, showSite } from './sites.js';
 import { showPage } from './findings.js';
 import { showJudging } from './judging.js';
 import { showLanguages } from './languages.js';
+import { showMembers } from './members.js';
+import { showDropping, showPutting } from './putting.js';
 import { showNames } from './names.js';
 
 const byId = (id) => document.getElementById(id);
+
+/** What is shown of a site, by the address's word. */
+const SITE_VIEWS = { languages: showLanguages, members: showMembers, put: showPutting };
 
 /** What the views share: the rules, the address's words, and how to say things. */
 class App {
@@ -75,11 +80,11 @@ class App {
     this.say('Asking the desk…');
     try {
       const current = () => mine === this.shown;
-      if (!site) showStart(this);
-      else if (!page && show === 'languages') await showLanguages(this, site, current);
-      else if (!page) await showSite(this, site, current);
+      if (!site) await showStart(this, current);
+      else if (!page) await (SITE_VIEWS[show] ?? showSite)(this, site, current);
       else if (judge) await showJudging(this, site, page, judge, current, loaded);
       else if (show === 'names') await showNames(this, site, page, current);
+      else if (show === 'drop') await showDropping(this, site, page, current);
       else await showPage(this, site, page, current, loaded);
       if (current()) this.say('');
     } catch (error) {

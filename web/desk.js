@@ -42,9 +42,12 @@ async function replyTo(path, given) {
   }
 }
 
+/** What is sent: a file as it is, and anything else as JSON. */
+const sent = (body) => (body instanceof Blob ? body : JSON.stringify(body));
+
 /** An accepted reply, whose body is yet to be read; a Refusal otherwise. */
-async function accepted(method, path, body) {
-  const reply = await replyTo(path, { method, ...(body === undefined ? {} : { body: JSON.stringify(body) }) });
+async function accepted(method, path, body, rev) {
+  const reply = await replyTo(path, { method, ...(rev === undefined ? {} : { headers: { 'x-rev': String(rev) } }), ...(body === undefined ? {} : { body: sent(body) }) });
   noteCaller(reply);
   if (reply.ok) return reply;
   const refused = readable(await reached(reply.text()));
@@ -52,7 +55,7 @@ async function accepted(method, path, body) {
 }
 
 /** The text of an accepted reply; a Refusal otherwise. */
-const ask = async (method, path, body) => reached((await accepted(method, path, body)).text());
+const ask = async (method, path, body, rev) => reached((await accepted(method, path, body, rev)).text());
 
 const sitePath = (site) => `/sites/${encodeURIComponent(site)}`;
 const pagePath = (site, page) => `${sitePath(site)}/pages/${encodeURIComponent(page)}`;
@@ -61,6 +64,13 @@ export const outcomes = async (site, page) => JSON.parse(await ask('GET', `${pag
 export const snapshot = async (site, page) => JSON.parse(await ask('GET', pagePath(site, page)));
 export const names = async (site, page) => JSON.parse(await ask('GET', `${pagePath(site, page)}/names`)).names;
 export const putLanguages = async (site, languages) => JSON.parse(await ask('PUT', `${sitePath(site)}/languages`, { languages }));
+export const verdicts = async (site, page) => JSON.parse(await ask('GET', `${pagePath(site, page)}/verdicts`));
+export const members = async (site) => JSON.parse(await ask('GET', `${sitePath(site)}/members`)).members;
+export const memberships = async () => JSON.parse(await ask('GET', '/memberships')).memberships;
+export const makeSite = async (site) => JSON.parse(await ask('PUT', sitePath(site)));
+export const putMember = async (site, member, role) => JSON.parse(await ask('PUT', `${sitePath(site)}/members/${encodeURIComponent(member)}`, { role }));
+export const putPage = async (site, page, rev, file) => JSON.parse(await ask('PUT', pagePath(site, page), file, rev));
+export const dropPage = async (site, page, rev) => JSON.parse(await ask('DELETE', pagePath(site, page), undefined, rev));
 export const siteReport = (site) => ask('GET', `${sitePath(site)}/report`);
 export const judge = async (site, page, judgement) => JSON.parse(await ask('POST', `${pagePath(site, page)}/judgements`, judgement));
 
@@ -89,12 +99,21 @@ const ROLES = { judge: 'a judge', reader: 'a reader', editor: 'an editor', owner
 /** What is needed, as a person would say it. */
 export const roleNamed = (needed) => ROLES[needed] ?? needed;
 
+const SNAPSHOT = 'The file is no snapshot of a page';
+
 const SENTENCES = {
   EvidenceMoved: () => 'The page has changed since you opened it: what the rule looks at is not what you saw.',
   SameHand: () => 'You sent this revision of the page yourself, so somebody else has to judge it.',
-  NotAllowed: ({ needed }) => `You are not allowed to do this on this site: it takes ${roleNamed(needed)}.`,
+  NotAllowed: ({ needed }) => (needed === 'another owner' ? 'Nobody sets the own role: another owner has to.'
+    : `You are not allowed to do this on this site: it takes ${roleNamed(needed)}.`),
   NoCaller: () => 'You are not signed in, or under a name that the desk does not take. Sign in again, in another tab, and try once more.',
   NoRoute: () => 'The desk does not know what was asked: a name is not of the form that it takes, or the desk is older than this page.',
+  SiteExists: () => 'There is a site of this name already.',
+  StaleRevision: ({ current }) => (current ? `The page has been changed: its revision is ${current} now, which you have not seen.` : 'The page is not there any more.'),
+  PageLimit: ({ limit }) => (limit === 'pages' ? 'The site is full: it holds 500 pages at most.' : 'The site can give no revision more.'),
+  BadJson: () => `${SNAPSHOT}: it is no JSON in UTF-8, or it is cut.`,
+  BadShape: ({ field, place }) => `${SNAPSHOT}: what stands at “${field}”, number ${place}, is missing or not of the form.`,
+  TreeFault: ({ node }) => `${SNAPSHOT}: its nodes make none, from node ${node} on.`,
   NoSite: () => 'There is no such site.',
   NoPage: () => 'There is no such page.',
   NoTarget: () => 'The page has changed: the rule has nothing to say of this element any more.',

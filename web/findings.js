@@ -3,6 +3,7 @@
 import { choices, filter } from './choosing.js';
 import * as desk from './desk.js';
 import { counted, el, grouped } from './dom.js';
+import { historyDetails } from './history.js';
 import * as kept from './kept.js';
 import { loadPage } from './pages.js';
 import { pager, partOf } from './paging.js';
@@ -37,7 +38,7 @@ function judgeLink(app, page, outcome, about) {
 function target(app, page, outcome) {
   const about = `${page.nodes.kind(outcome.node)}, node ${outcome.node}`;
   return el('li', { class: 'target' },
-    el('div', { class: 'facts' }, el('h4', {}, about), facts(page, outcome), judgeLink(app, page, outcome, about)));
+    el('div', { class: 'facts' }, el('h4', {}, about), facts(page, outcome), historyDetails(page.verdicts, outcome, about), judgeLink(app, page, outcome, about)));
 }
 
 /** The findings of one rule with one outcome, of which some are shown; targets with one reason stand together. */
@@ -105,7 +106,9 @@ function waysOn(app, site, name, page) {
   return [page.needed && open.length ? el('p', {}, `${many} open. Judging on ${site} takes ${desk.roleNamed(page.needed)}.`) : null,
     el('p', { class: 'buttons' },
       open.length && !page.needed ? app.link({ site, page: name, judge: placeOf(open[0][0]) }, `Judge ${many}, one after another`, { class: 'button' }) : null,
-      app.link({ site, page: name, show: 'names' }, 'Names as a screen reader says them', { class: 'button second' }))];
+      app.link({ site, page: name, show: 'names' }, 'Names as a screen reader says them', { class: 'button second' }),
+      app.link({ site, show: 'put', name }, 'Put its next version', { class: 'button second' }),
+      app.link({ site, page: name, show: 'drop' }, 'Take this page away', { class: 'button second' }))];
 }
 
 /** The findings of a page that are as the address says, a part of them. */

@@ -2,6 +2,7 @@
 
 import * as desk from './desk.js';
 import { counted, el } from './dom.js';
+import { countingOf, historyPart } from './history.js';
 import * as kept from './kept.js';
 import { acceptLink } from './languages.js';
 import { loadPage } from './pages.js';
@@ -17,10 +18,14 @@ const size = (text) => new TextEncoder().encode(text).length;
 /** Whether a tenth of all has just been reached: so often progress is said. */
 const isTenth = (done, all) => Math.floor((10 * done) / all) > Math.floor((10 * (done - 1)) / all);
 
-/** What a person began of a finding: its own note and verdict, or those of another of its question. */
-function begunOf(place, findings) {
-  const all = [place.node, ...findings.map(({ node }) => node)].map((node) => kept.draft({ ...place, node }));
-  return all.find(({ note, verdict }) => note || verdict) ?? all[0];
+/** What a person began of the finding, or of another of its question; undefined where nothing. */
+const draftOf = (place, findings) => [place.node, ...findings.map(({ node }) => node)]
+  .map((node) => kept.draft({ ...place, node })).find(({ note, verdict }) => note || verdict);
+
+/** What a person begins from: what they began, and else what counts of the finding now. */
+function begunOf(place, findings, verdicts) {
+  const { note = '', verdict = '' } = draftOf(place, findings) ?? countingOf(verdicts, place) ?? {};
+  return { note, verdict };
 }
 
 function verdictField(begun) {
@@ -44,7 +49,7 @@ const aloneField = (findings) => (findings.length === 1 ? null : el('div', { cla
 
 /** A form for the answer to a question, and what becomes of it. */
 class Answer {
-  constructor(app, place, findings, outcome) {
+  constructor(app, place, findings, outcome, begun) {
     this.app = app;
     this.place = place;
     this.outcome = outcome;
@@ -52,7 +57,7 @@ class Answer {
     this.isStopped = false;
     // The one that is shown comes first; what the desk took isn't sent again.
     this.left = [outcome, ...findings.filter((one) => one !== outcome)];
-    this.begun = begunOf(place, findings);
+    this.begun = begun;
     this.told = el('div', { role: 'alert' });
     this.bar = el('div');
   }
@@ -173,10 +178,11 @@ function notOffered(app, place, needed, note) {
 }
 
 /** What is said in place of a finding that is no more. */
-function nothingHere(app, place, back) {
+function nothingHere(app, place, page, back) {
   const { note } = kept.draft(place);
   app.put('Nothing to judge here', el('p', {}, 'The page has changed: this finding is no more, or the rule decides it by itself.'),
-    note ? [el('h2', {}, 'Your note on it'), el('pre', {}, note)] : null, back);
+    note ? [el('h2', {}, 'Your note on it'), el('pre', {}, note)] : null,
+    historyPart(page.verdicts, place, page.outcomes.find((one) => placeOf(one) === placeOf(place))), back);
 }
 
 /** How many questions wait on the page, and which this one is. */
@@ -197,15 +203,17 @@ export async function showJudging(app, site, name, judge, current, loaded) {
   const outcome = page.outcomes.find((one) => placeOf(one) === judge && isForPeople(one));
   const back = el('p', {}, app.link({ site, page: name }, `All findings of ${name}`));
   if (!outcome) {
-    nothingHere(app, place, back);
+    nothingHere(app, place, page, back);
     return;
   }
   const findings = alike(page.outcomes, outcome);
   const needed = kept.neededRole(place);
   const next = nextQuestion(page.outcomes, outcome);
+  const begun = begunOf(place, findings, page.verdicts);
   app.put(app.rules.rule(rule).name, introOf(page, outcome), ruleMeta(app.rules, rule), adviceOf(app.rules, outcome), acceptLink(app, site, outcome),
     placesPart(app, place, findings, outcome),
     el('div', { class: 'card close' }, el('div', { class: 'facts' }, closeFacts(page, outcome)),
       picture ? pictureOf(picture, page.nodes, outcome.node, page.rev) : null),
-    needed ? notOffered(app, place, needed, begunOf(place, findings).note) : new Answer(app, place, findings, outcome).form(next), back);
+    historyPart(page.verdicts, place, outcome),
+    needed ? notOffered(app, place, needed, draftOf(place, findings)?.note) : new Answer(app, place, findings, outcome, begun).form(next), back);
 }

@@ -17,10 +17,10 @@ export async function atOneRevision(ask) {
   throw new desk.Refusal(409, { refused: 'EvidenceMoved' });
 }
 
-/** The outcomes of a page, and its nodes. */
+/** The outcomes of a page, what people judged of it, and its nodes. */
 export const loadPage = (site, page) => atOneRevision(async () => {
-  const [reply, shown] = await Promise.all([desk.outcomes(site, page), desk.snapshot(site, page)]);
-  if (reply.rev !== shown.rev) return null;
+  const [reply, shown, said] = await Promise.all([desk.outcomes(site, page), desk.snapshot(site, page), desk.verdicts(site, page)]);
+  if (reply.rev !== shown.rev || reply.rev !== said.rev) return null;
   const { outcomes, inapplicable, rev } = reply;
-  return { outcomes, inapplicable, rev, nodes: new Nodes(shown.snapshot), address: shown.snapshot.url };
+  return { outcomes, inapplicable, rev, verdicts: said.verdicts, nodes: new Nodes(shown.snapshot), address: shown.snapshot.url };
 });

@@ -12,13 +12,13 @@ export function partOf(app, list) {
 }
 
 /** The ways to the other parts of a list of so many things; null where it has one part. */
-export function pager(app, start, all, where) {
+export function pager(app, start, all, where, what = 'Findings') {
   if (all <= MOST) return null;
   const last = all - 1 - ((all - 1) % MOST);
   const to = (from, text) => el('li', {},
     app.link({ ...app.words, from: from ? String(from + 1) : '' }, `${text}: ${from + 1} to ${Math.min(from + MOST, all)}`));
   const ways = [start > MOST ? to(0, 'First') : null, start > 0 ? to(start - MOST, 'Before') : null,
     start < last ? to(start + MOST, 'Next') : null, start + MOST < last ? to(last, 'Last') : null];
-  return el('nav', { class: 'places', 'aria-label': `Parts of the findings, ${where}` },
-    el('p', {}, `Findings ${start + 1} to ${Math.min(start + MOST, all)} of ${all}.`), el('ul', {}, ways));
+  return el('nav', { class: 'places', 'aria-label': `Parts of the ${what.toLowerCase()}, ${where}` },
+    el('p', {}, `${what} ${start + 1} to ${Math.min(start + MOST, all)} of ${all}.`), el('ul', {}, ways));
 }

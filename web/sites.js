@@ -3,23 +3,51 @@
 import * as desk from './desk.js';
 import { counted, el, table } from './dom.js';
 import { filesPart } from './files.js';
+import { nameForm } from './naming.js';
+import { pager, partOf } from './paging.js';
 import { readReport, RESULTS } from './report.js';
 
 const NARROW = '(max-width: 30rem)';
-const NAME = '[a-z0-9._\\-]{1,64}';
 
-/** A form with one name, and what is done with it. */
-function nameForm(id, label, button, done) {
-  const hint = `${id}-hint`;
-  const input = el('input', { type: 'text', id, required: true, pattern: NAME, autocomplete: 'off', spellcheck: 'false', autocapitalize: 'none', 'aria-describedby': hint });
-  return el('form', { class: 'choose', onsubmit: (event) => { event.preventDefault(); done(input.value); } },
-    el('div', {}, el('label', { for: id }, label), input), el('div', {}, el('button', { type: 'submit' }, button)),
-    el('p', { class: 'quiet', id: hint }, 'Small letters, digits, dots, underscores and hyphens, at most 64.'));
+/** The sites of which this person is a member, each with the role there, a part of them. */
+function ownPart(app, memberships) {
+  const { start, part } = partOf(app, memberships);
+  const rows = part.map(({ site, role }) => [app.link({ site }, site), role]);
+  return el('section', { 'aria-labelledby': 'own' }, el('h2', { id: 'own' }, 'Your sites'),
+    memberships.length ? [table('Your sites with your role', ['Site', 'Your role'], rows), pager(app, start, memberships.length, 'below', 'Sites')].filter(Boolean)
+      : el('p', {}, 'You are no member of a site. Make one, or ask an owner of one to let you in.'));
 }
 
-/** Asks for a site. */
-export function showStart(app) {
-  app.put('Choose a site', nameForm('site', 'Site', 'Show the site', (site) => app.go({ site })));
+/** A form that makes a site, with why it wasn't made. */
+function makingPart(app) {
+  const told = el('div', { role: 'alert' });
+  let isSending = false;
+  const make = async (site) => {
+    if (isSending) return;
+    isSending = true;
+    told.replaceChildren();
+    app.say(`Sending: the site ${site} is to be made…`);
+    try {
+      await desk.makeSite(site);
+      await app.go({ site });
+      app.say(`The desk has the site ${site}, and you own it.`);
+    } catch (error) {
+      told.replaceChildren(el('div', { class: 'told' }, el('p', {}, `${desk.told(error)} Nothing was changed.`)));
+      app.say('');
+    }
+    isSending = false;
+  };
+  return el('section', { 'aria-labelledby': 'make' }, el('h2', { id: 'make' }, 'Make a site'),
+    el('p', {}, 'Whoever makes a site owns it, and lets others in.'), nameForm('new', 'Name of the new site', 'Make the site', make), told);
+}
+
+/** Shows the sites of this person, and asks for one. */
+export async function showStart(app, current) {
+  const memberships = await desk.memberships();
+  if (!current()) return;
+  app.put('Choose a site', ownPart(app, memberships),
+    el('section', { 'aria-labelledby': 'by-name' }, el('h2', { id: 'by-name' }, 'A site by name'), nameForm('site', 'Site', 'Show the site', (site) => app.go({ site }))),
+    makingPart(app));
 }
 
 /** A count, which leads to the findings of this outcome where there are some. */
@@ -86,5 +114,6 @@ export async function showSite(app, site, current) {
   app.put(`Site ${site}`,
     el('p', {}, `${counted(pages.length, 'page', 'pages')}. Findings: ${total.failed} failed, ${total.cantTell} undecided, ${total.passed} passed.`),
     pages.length ? criteriaPart(app, criteria) : null, pagesPart(app, site, pages),
-    el('p', {}, app.link({ site, show: 'languages' }, 'Languages that this site accepts')), filesPart(site));
+    el('ul', { class: 'ways' }, [['members', 'Members and their roles'], ['put', 'Put a page from a snapshot'], ['languages', 'Languages that this site accepts']]
+      .map(([show, text]) => el('li', {}, app.link({ site, show }, text)))), filesPart(site));
 }

@@ -14,6 +14,7 @@ from silvervole.view.page import Page
 from silvervole.view.pictures import Picture
 from silvervole.view.report import Finding, Report
 from silvervole.view.rules import RuleTable
+from silvervole.view.verdicts import Said
 
 from .earlier import NO_EARLIER, Earlier
 from .fingerprints import Key, fingerprints, kept
@@ -24,8 +25,9 @@ from .source import Lines
 class EntryMaker:
     """Makes the entries of one audit of a page; without its snapshot they have no path and no start tag."""
 
-    def __init__(self, about: AboutPage, audit: Audit, table: RuleTable, targets: TargetMaker | None = None) -> None:
+    def __init__(self, about: AboutPage, audit: Audit, table: RuleTable, targets: TargetMaker | None = None, said: Said | None = None) -> None:
         self.about = about
+        self.said = said or {}
         self.table = table
         self.targets = targets or (TargetMaker(audit.page, None) if audit.page is not None else None)
         self.places = self.places_of(audit)
@@ -48,7 +50,8 @@ class EntryMaker:
             self.about, rule, finding.outcome, finding.reason, finding.judge, finding.automatic,
             advice_on(rule, finding.reason, finding.outcome, finding.automatic), self.target(finding),
             self.places[finding.node], self.marks[finding.rule, finding.node], self.lines.path, self.lines.line(finding.node),
-            change, tuple(self.entry(merged, merged_in=finding.rule) for merged in beneath), merged_in)
+            change, tuple(self.entry(merged, merged_in=finding.rule) for merged in beneath), merged_in,
+            said=self.said.get((finding.rule, finding.node), ()))
 
     def target(self, finding: Finding) -> Target:
         """What is said of the finding's node."""
@@ -64,13 +67,14 @@ def about_page(page: Page, report: Report, name: str = "", file: str = "", snaps
     return AboutPage(name or address, address, page.title, page.state, report.revision, len(page.nodes), file, snapshot, seconds, note)
 
 
-def listed_page(about: AboutPage, page: Page, report: Report, table: RuleTable, picture: Picture | None = None) -> ListedPage:
+def listed_page(about: AboutPage, page: Page, report: Report, table: RuleTable, picture: Picture | None = None,
+                said: Said | None = None) -> ListedPage:
     """The findings of a report on a page; a Stop with the status INPUT where the report is of another page."""
     targets = TargetMaker(page, picture)
     view = bring_together(report, page, table, picture, targets)
     findings = of_frame(report.findings, table) if page.in_frame else report.findings
     count = counted(findings, table)
-    maker = EntryMaker(about, Audit(about.name, findings, page), table, targets)
+    maker = EntryMaker(about, Audit(about.name, findings, page), table, targets, said)
     entries = [maker.entry(finding, count.beneath.get((finding.rule, finding.node), ())) for finding in count.findings]
     return ListedPage(about, tuple(worst_first(entries)), view.inapplicable, view, picture)
 

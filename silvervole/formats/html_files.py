@@ -42,7 +42,7 @@ def view_of(page: ListedPage) -> Findings:
     counts = {outcome: sum(part.count for part in parts) for outcome, parts in sections.items()}
     criteria = tuple(line_of(line, sections, apart) for line in page.view.criteria)
     return replace(page.view, sections=sections, counts=counts, accepted=apart, criteria=criteria,
-                   notes={key_of(entry): notes for entry in page.entries if (notes := notes_of(entry))})
+                   notes={key_of(one): notes for entry in page.entries for one in (entry, *entry.beneath) if (notes := notes_of(one))})
 
 
 def key_of(entry: Entry) -> Key:
@@ -71,4 +71,4 @@ def line_of(line: CriterionLine, sections: dict[str, tuple[RulePart, ...]], apar
 def notes_of(entry: Entry) -> tuple[str, ...]:
     """What is said of a finding besides what its audit says."""
     new = ("New since the earlier audit.",) if entry.change == NEW else ()
-    return (*new, f"{accepted_line(entry.acceptance)}.") if entry.acceptance else new
+    return (*new, *entry.said, f"{accepted_line(entry.acceptance)}.") if entry.acceptance else (*new, *entry.said)

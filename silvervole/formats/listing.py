@@ -49,7 +49,7 @@ class Entry:
     """A finding with all that the formats say of it.
 
     `change` is empty where nothing was compared. `beneath` are the findings that a composite merges; each of those has the
-    composite in `merged_in`, and fails through it alone. `acceptance` is there where the team's file has one for it, also
+    composite in `merged_in`, and fails through it alone. `said` has a line for each judgement, where those were given. `acceptance` is there where the team's file has one for it, also
     where that doesn't last any more.
     """
 
@@ -69,6 +69,7 @@ class Entry:
     beneath: tuple[Entry, ...] = ()
     merged_in: str = ""
     acceptance: Acceptance | None = None
+    said: tuple[str, ...] = ()
 
     @property
     def is_accepted(self) -> bool:
@@ -123,12 +124,13 @@ class LostPage:
 
 @dataclass(frozen=True)
 class Listing:
-    """The findings of all pages; whether two audits were compared; pages that couldn't be checked; acceptances that match nothing."""
+    """The findings of all pages; whether two audits were compared, and judgements given; pages that couldn't be checked; acceptances that match nothing."""
 
     pages: tuple[ListedPage, ...]
     compared: bool = False
     unmatched: tuple[Acceptance, ...] = ()
     lost: tuple[LostPage, ...] = ()
+    said: bool = False
 
     def __iter__(self) -> Iterator[Entry]:
         """All findings, the worst first whatever their page."""

@@ -10,6 +10,8 @@ from .listing import WORDS, Entry, Listing
 from .words import accepted_line, criteria_of, rule_title, unmatched_line
 
 HEADER = ("address", "page", "rule", "criterion", "outcome", "path", "start tag", "by whom", "since the earlier audit", "accepted")
+# The column behind them, where what people judged was given.
+SAID = "what was said"
 # A spreadsheet computes a cell that begins so, and what a page says must not be computed.
 COMPUTED = ("=", "+", "-", "@", "\t", "\r")
 
@@ -18,15 +20,19 @@ def write_csv(listing: Listing) -> bytes:
     """The rows: what fails first, what is accepted last, beneath a composite what it merges. Excel tells by the mark at the front that it's UTF-8."""
     made = io.StringIO()
     writer = csv.writer(made)
-    writer.writerow(HEADER)
+    writer.writerow((*HEADER, SAID) if listing.said else HEADER)
+
+    def write(row: tuple[str, ...], said: tuple[str, ...] = ()) -> None:
+        writer.writerow(map(cell, (*row, "; ".join(said)) if listing.said else row))
+
     for entry in listing:
-        writer.writerow(map(cell, row_of(entry)))
+        write(row_of(entry), entry.said)
         for merged in entry.beneath:
-            writer.writerow(map(cell, row_of(merged, f"counts under {entry.rule.id}: ")))
+            write(row_of(merged, f"counts under {entry.rule.id}: "), merged.said)
     for lost in listing.lost:
-        writer.writerow(map(cell, (lost.name, "", "", "", f"not checked: {lost.why}", "", "", "", "", "")))
+        write((lost.name, "", "", "", f"not checked: {lost.why}", "", "", "", "", ""))
     for acceptance in listing.unmatched:
-        writer.writerow(map(cell, ("", "", acceptance.rule, "", "", acceptance.place, "", "", "", unmatched_line(acceptance))))
+        write(("", "", acceptance.rule, "", "", acceptance.place, "", "", "", unmatched_line(acceptance)))
     return made.getvalue().encode("utf-8-sig", "replace")
 
 

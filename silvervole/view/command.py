@@ -2,6 +2,7 @@
 from __future__ import annotations
 
 import argparse
+from dataclasses import replace
 from typing import Sequence
 
 from silvervole.collect.ends import End, Stop, run_command, write_out
@@ -15,8 +16,9 @@ from .page import Page, read_page
 from .pictures import Picture, read_picture
 from .report import Report, read_report
 from .rules import read_rules
+from .verdicts import Said, read_verdicts
 
-USAGE = "{0} SNAPSHOT REPORT [--shot PICTURE] [--accepted FILE] [--FORMAT FILE ..]"
+USAGE = "{0} SNAPSHOT REPORT [--shot PICTURE] [--verdicts FILE] [--accepted FILE] [--FORMAT FILE ..]"
 
 
 def parser(program: str = "view", example: str = "") -> Parser:
@@ -28,6 +30,7 @@ def parser(program: str = "view", example: str = "") -> Parser:
     made.add_argument("snapshot", metavar="SNAPSHOT", help="the page's snapshot, or the desk's reply to the page")
     made.add_argument("report", metavar="REPORT", help="the desk's text report of it, or its reply to outcomes; - is standard input")
     made.add_argument("--shot", metavar="PICTURE", help="the picture that collect --shot wrote with the snapshot")
+    made.add_argument("--verdicts", metavar="FILE", help="the desk's reply to verdicts, of the same revision: what people judged, with their notes")
     add_format_options(made)
     return made
 
@@ -48,23 +51,24 @@ def write(words: Sequence[str], asked: Parser) -> int:
     page = read_page(snapshot, given.snapshot)
     report = read_findings(given.report)
     picture = read_picture(given.shot, snapshot) if given.shot is not None else None
+    said = read_verdicts(read(given.verdicts), given.verdicts, report) if given.verdicts is not None else None
     if any_format(given):
-        write_files(given, asked.prog, page, report, picture)
+        write_files(given, asked.prog, page, report, picture, said)
         return End.WRITTEN
-    findings = bring_together(report, page, read_rules(), picture)
+    findings = replace(bring_together(report, page, read_rules(), picture), notes=said or {})
     from .writing import write_view  # only here Jinja2 is needed
     write_out(write_view(findings, picture).encode("utf-8"))
     return End.WRITTEN
 
 
-def write_files(given: argparse.Namespace, program: str, page: Page, report: Report, picture: Picture | None) -> None:
+def write_files(given: argparse.Namespace, program: str, page: Page, report: Report, picture: Picture | None, said: Said | None) -> None:
     """Writes the files of the formats that the words name."""
     from silvervole.formats.gathering import about_page, listed_page  # only here, since they load slowly
     from silvervole.formats.listing import Listing
     from silvervole.formats.writing import accept, write_formats
     table = read_rules()
-    listed = listed_page(about_page(page, report, snapshot=given.snapshot), page, report, table, picture)
-    write_formats(accept(Listing((listed,)), given, table, program), given)
+    listed = listed_page(about_page(page, report, snapshot=given.snapshot), page, report, table, picture, said)
+    write_formats(accept(Listing((listed,), said=said is not None), given, table, program), given)
 
 
 def main(words: Sequence[str], program: str = "view", example: str = "") -> int:

@@ -36,6 +36,9 @@ def let_in(proxy: Proxy) -> None:
     same("the site is the other's", ask(proxy, "GET /sites/acme/pages/home", None, {**basic("bob"), "x-caller": "ann"}).brief,
          (403, refused(13, "NotAllowed", needed="reader")))
     same("and not the forged one's", ask(proxy, "GET /sites/acme/pages/home", None, basic("ann")).brief, (404, refused(14, "NoPage")))
+    own = {name: ask(proxy, "GET /memberships", None, {**basic(name), "x-caller": "ann"}) for name in ("ann", "bob")}
+    same("whose sites are told", [reply.body for reply in own.values()],
+         [b'{"memberships":[{"role":"owner","site":"acme"}]}', b'{"memberships":[]}'])
     foreign = ask(proxy, "PUT /sites/other", b"", {**basic("ann"), "sec-fetch-site": "cross-site"})
     same("a page of another site", foreign.brief, (403, '{"refused":"OtherSite"}'))
     link = http.client.HTTPConnection(HOST, proxy.plain_port, timeout=60)

@@ -51,6 +51,7 @@ use Rattle.desk_core.specs.State.{PageState, site_state, state_of, page_at, site
 use Rattle.desk_core.specs.Pages.{revision_in, rev_of, judged, page_put, edit_page, drop_page}
 use Rattle.desk_core.specs.Imports.{puts, first_stale}
 use Rattle.desk_core.specs.Steps.{Request, site_of, decision, decided, stepped, step}
+use Rattle.desk_core.specs.Memberships.{memberships}
 use Rattle.desk_core.specs.Changes.{after}
 use Rattle.desk_core.specs.Fitting.{FitsParts, FitsRequest, FitsEntries}
 use Rattle.desk_core.specs.Soundness.{rev_in, IsSoundSite, IsSound, made}
@@ -173,7 +174,7 @@ Nothing change = ⊥
 module _ (book : Book) (t : Tables) (sound : IsSound book t) (caller : List ℕ) where
   -- what holds of the change that is decided after a change
   abbrev Second : (Option Change → Type 0) → Command → Option Change → Type 0
-  Second P c change = Brings P (decision book caller c (site_at (site_of c) (state_of (made change t))))
+  Second P c change = Brings P (decision book caller c (site_at (site_of c) (state_of (made change t))) (memberships caller (state_of (made change t))))
 
   -- the second change leaves what the first one made
   abbrev Stays : Command → Option Change → Type 0
@@ -256,7 +257,7 @@ module _ (book : Book) (t : Tables) (sound : IsSound book t) (caller : List ℕ)
       -- the same judgement is the latest of these
       module _ (t' : Tables) (k' : KeptSite) (p' : KeptPage) (js : List Judgement) (is' : kept_site site t' ≡ Some k') (found' : at page_name page k'.pages ≡ Some p')
           (langs : k'.site.languages ≡ k.site.languages) (tree : p'.page.tree ≡ p.page.tree) (judgements : p'.judgements ≡ js) (latest : is_latest (judgement row.evidence) js ≡ true) where
-        judged_then : Brings (λ second. made second t' ≡ t') (decision book caller (command.Judge site page rule node verdict seen note) (site_at site (state_of t')))
+        judged_then : Brings (λ second. made second t' ≡ t') (decision book caller (command.Judge site page rule node verdict seen note) (site_at site (state_of t')) (memberships caller (state_of t')))
         judged_then =
             let P : Option Change → Type 0 = λ second. made second t' ≡ t' in
             entering_kept P t' needed.Judge caller site _ (λ k2 is2 _.
@@ -325,7 +326,7 @@ module _ (book : Book) (t : Tables) (sound : IsSound book t) (caller : List ℕ)
 
   -- ---- commands
 
-  once_by : (c : Command) → IsOnce c → FitsParts book c → Brings (Second Nothing c) (decision book caller c (site_at (site_of c) (state_of t)))
+  once_by : (c : Command) → IsOnce c → FitsParts book c → Brings (Second Nothing c) (decision book caller c (site_at (site_of c) (state_of t)) (memberships caller (state_of t)))
   once_by (command.PutSite site) once parts = new_site_kept (Second Nothing (command.PutSite site)) t site caller (λ none. site_once site none)
   once_by (command.PutMember site user held) once parts = absurd once
   once_by (command.PutLanguages site langs) once parts = absurd once
@@ -358,17 +359,20 @@ module _ (book : Book) (t : Tables) (sound : IsSound book t) (caller : List ℕ)
   once_by (command.SiteReport site) once parts = absurd once
   once_by (command.SiteEarl site) once parts = absurd once
   once_by (command.SiteCsv site) once parts = absurd once
+  once_by (command.GetVerdicts site page) once parts = absurd once
+  once_by (command.GetMembers site) once parts = absurd once
+  once_by command.GetMemberships once parts = absurd once
 
   -- what is refused leaves what is kept
-  once_stays : (c : Command) → IsOnce c → FitsParts book c → Brings (Stays c) (decision book caller c (site_at (site_of c) (state_of t)))
+  once_stays : (c : Command) → IsOnce c → FitsParts book c → Brings (Stays c) (decision book caller c (site_at (site_of c) (state_of t)) (memberships caller (state_of t)))
   once_stays c once parts =
       weakened (Second Nothing c) (Stays c)
       (λ change refused. weakened Nothing (λ second. made second (made change t) ≡ made change t) (λ _ no. absurd no)
-      (decision book caller c (site_at (site_of c) (state_of (made change t)))) refused)
-      (decision book caller c (site_at (site_of c) (state_of t))) (once_by c once parts)
+      (decision book caller c (site_at (site_of c) (state_of (made change t))) (memberships caller (state_of (made change t)))) refused)
+      (decision book caller c (site_at (site_of c) (state_of t)) (memberships caller (state_of t))) (once_by c once parts)
 
   judge_again : (site page : List ℕ) (rule : RuleNo) (node : NodeId) (verdict : Auto) (seen note : List ℕ)
-      → Brings (Stays (command.Judge site page rule node verdict seen note)) (decision book caller (command.Judge site page rule node verdict seen note) (site_at site (state_of t)))
+      → Brings (Stays (command.Judge site page rule node verdict seen note)) (decision book caller (command.Judge site page rule node verdict seen note) (site_at site (state_of t)) (memberships caller (state_of t)))
   judge_again site page rule node verdict seen note =
       let P = Stays (command.Judge site page rule node verdict seen note) in
       entering_kept P t needed.Judge caller site _ (λ k is _.
@@ -385,7 +389,7 @@ module _ (book : Book) (t : Tables) (sound : IsSound book t) (caller : List ℕ)
         λ _. judged_then site page k is p found rule node verdict seen note row at_row t1 k1 p1 (p.judgements ++ j ∷ []) is1 found1 refl refl refl (latest_itself j p.judgements),
       ))))
 
-  again_by : (c : Command) → FitsParts book c → Brings (Stays c) (decision book caller c (site_at (site_of c) (state_of t)))
+  again_by : (c : Command) → FitsParts book c → Brings (Stays c) (decision book caller c (site_at (site_of c) (state_of t)) (memberships caller (state_of t)))
   again_by (command.PutSite site) parts = once_stays (command.PutSite site) tt parts
   again_by (command.PutMember site user held) parts =
       let P = Stays (command.PutMember site user held) in
@@ -406,6 +410,9 @@ module _ (book : Book) (t : Tables) (sound : IsSound book t) (caller : List ℕ)
   again_by (command.SiteReport site) parts = site_read _ t caller site _ (site_read _ t caller site _ refl)
   again_by (command.SiteEarl site) parts = site_read _ t caller site _ (site_read _ t caller site _ refl)
   again_by (command.SiteCsv site) parts = site_read _ t caller site _ (site_read _ t caller site _ refl)
+  again_by (command.GetVerdicts site page) parts = page_read _ t caller site page _ (page_read _ t caller site page _ refl)
+  again_by (command.GetMembers site) parts = site_read _ t caller site _ (site_read _ t caller site _ refl)
+  again_by command.GetMemberships parts = refl
 
 -- ---- steps
 

@@ -32,7 +32,8 @@ use Rattle.desk_core.specs.Pages.{revision_in, judged, has_room, page_put, edit_
 use Rattle.desk_core.specs.Imports.{puts}
 use Rattle.desk_core.specs.Judging.{judge}
 use Rattle.desk_core.specs.Steps.{Request, site_of, decision, decided}
-use Rattle.desk_core.specs.Fitting.{FitsParts, FitsRequest}
+use Rattle.desk_core.specs.Memberships.{memberships}
+use Rattle.desk_core.specs.Fitting.{FitsParts, NamesSite, FitsRequest}
 use Rattle.desk_core.specs.Soundness.{IsNearlySite, IsNearlySound, IsSoundPage, IsSoundSite, IsSound, made}
 use Rattle.desk_core.proofs.Views.{state_page, state_pages, page_seen}
 use Rattle.desk_core.proofs.Deciding.{Brings, brought, put_member_brings, put_languages_brings, put_page_brings, edit_page_brings, drop_page_brings, import_brings, judge_brings}
@@ -49,8 +50,8 @@ module _ (book : Book) (t : Tables) (fit : FitTables t) where
   fits_in : (site : List ℕ) (k : KeptSite) → kept_site site t ≡ Some k → FitsKept k
   fits_in site k is = some_has FitsKept (kept_site site t) k is (all_at site_name FitsKept site t.sites fit.each)
 
-  fits_by : (caller : List ℕ) (c : Command) → IsTrue (is_name caller) → IsTrue (is_name (site_of c)) → FitsParts book c
-      → Brings IfAnyFits (decision book caller c (site_at (site_of c) (state_of t)))
+  fits_by : (caller : List ℕ) (c : Command) → IsTrue (is_name caller) → NamesSite c → FitsParts book c
+      → Brings IfAnyFits (decision book caller c (site_at (site_of c) (state_of t)) (memberships caller (state_of t)))
   fits_by caller (command.PutSite site) user named parts = put_site_fits site caller (site_at site (state_of t)) named user
   fits_by caller (command.PutMember site user held) caller_named named parts =
       entering_kept IfAnyFits t needed.Owner caller site _ (λ k is may. put_member_fits site caller user held k.site named parts (fits_in site k is).site)
@@ -83,6 +84,9 @@ module _ (book : Book) (t : Tables) (fit : FitTables t) where
   fits_by caller (command.SiteReport site) user named parts = site_read IfAnyFits t caller site _ tt
   fits_by caller (command.SiteEarl site) user named parts = site_read IfAnyFits t caller site _ tt
   fits_by caller (command.SiteCsv site) user named parts = site_read IfAnyFits t caller site _ tt
+  fits_by caller (command.GetVerdicts site page) user named parts = page_read IfAnyFits t caller site page _ tt
+  fits_by caller (command.GetMembers site) user named parts = site_read IfAnyFits t caller site _ tt
+  fits_by caller command.GetMemberships user named parts = tt
 
 pub decided_fits : (book : Book) (q : Request) (t : Tables) → FitsRequest book q → FitTables t → Brings IfAnyFits (decided book q (state_of t))
 decided_fits book q t fits fit = fits_by book t fit q.caller q.command fits.caller fits.site fits.parts
@@ -134,8 +138,8 @@ module _ (book : Book) (t : Tables) (sound : IsSound book t) where
       (put_keeps site caller page tree k is well
       (ap (λ o. has_room (revision_in o) (length (state_pages k.site.languages k.pages))) there ∙ room_there (length (state_pages k.site.languages k.pages)) k.pages (length-map k.pages (state_page k.site.languages)) (kept_sound book t sound site k is).few))
 
-  keeps_by : (caller : List ℕ) (c : Command) → IsTrue (is_name caller) → IsTrue (is_name (site_of c)) → FitsParts book c
-      → Brings Owes (decision book caller c (site_at (site_of c) (state_of t)))
+  keeps_by : (caller : List ℕ) (c : Command) → IsTrue (is_name caller) → NamesSite c → FitsParts book c
+      → Brings Owes (decision book caller c (site_at (site_of c) (state_of t)) (memberships caller (state_of t)))
   keeps_by caller (command.PutSite site) user named parts =
       new_site_kept Owes t site caller (λ none _. new_site_sound book t sound site caller named user none)
   keeps_by caller (command.PutMember site user held) caller_named named parts =
@@ -177,6 +181,9 @@ module _ (book : Book) (t : Tables) (sound : IsSound book t) where
   keeps_by caller (command.SiteReport site) user named parts = site_read Owes t caller site _ (λ _. sound)
   keeps_by caller (command.SiteEarl site) user named parts = site_read Owes t caller site _ (λ _. sound)
   keeps_by caller (command.SiteCsv site) user named parts = site_read Owes t caller site _ (λ _. sound)
+  keeps_by caller (command.GetVerdicts site page) user named parts = page_read Owes t caller site page _ (λ _. sound)
+  keeps_by caller (command.GetMembers site) user named parts = site_read Owes t caller site _ (λ _. sound)
+  keeps_by caller command.GetMemberships user named parts = λ _. sound
 
 pub decided_keeps : (book : Book) (q : Request) (t : Tables) → FitsRequest book q → IsSound book t → Brings (λ change. IsSound book (made change t)) (decided book q (state_of t))
 decided_keeps book q t fits sound =

@@ -23,6 +23,7 @@ use Rattle.desk_core.specs.Pages.{revision_in, judged, edit_page, drop_page}
 use Rattle.desk_core.specs.Judging.{judge}
 use Rattle.desk_core.specs.Reading.{answered}
 use Rattle.desk_core.specs.Steps.{Request, site_of, read_page, read_site, decision, decided}
+use Rattle.desk_core.specs.Memberships.{memberships}
 use Rattle.desk_core.proofs.Views.{state_page, state_pages, page_seen, site_seen}
 use Rattle.desk_core.proofs.Deciding.{Brings, unless_brings, put_member_brings, put_languages_brings, put_page_brings, edit_page_brings, drop_page_brings, import_brings, judge_brings}
 
@@ -76,7 +77,7 @@ module _ (t : Tables) where
   page_there : (site page : List ℕ) (k : KeptSite) (p : KeptPage) → kept_site site t ≡ Some k → at kept.page_name page k.pages ≡ Some p → IsSome (kept_page site page t)
   page_there site page k p is found = subst (λ (o : Option KeptPage). IsSome o) (sym (ap (λ s. at kept.page_name page (pages_in s)) is ∙ found)) refl
 
-  there_by : (book : Book) (caller : List ℕ) (c : Command) → Brings (IfAnyIsThere t) (decision book caller c (site_at (site_of c) (state_of t)))
+  there_by : (book : Book) (caller : List ℕ) (c : Command) → Brings (IfAnyIsThere t) (decision book caller c (site_at (site_of c) (state_of t)) (memberships caller (state_of t)))
   there_by book caller (command.PutSite site) = new_site_kept (IfAnyIsThere t) t site caller (λ _. tt)
   there_by book caller (command.PutMember site user held) =
       entering_kept (IfAnyIsThere t) t needed.Owner caller site _ (λ k is may. put_member_brings (IfAnyIsThere t) site caller user held k.site (λ _. tt))
@@ -107,6 +108,9 @@ module _ (t : Tables) where
   there_by book caller (command.SiteReport site) = site_read (IfAnyIsThere t) t caller site _ tt
   there_by book caller (command.SiteEarl site) = site_read (IfAnyIsThere t) t caller site _ tt
   there_by book caller (command.SiteCsv site) = site_read (IfAnyIsThere t) t caller site _ tt
+  there_by book caller (command.GetVerdicts site page) = page_read (IfAnyIsThere t) t caller site page _ tt
+  there_by book caller (command.GetMembers site) = site_read (IfAnyIsThere t) t caller site _ tt
+  there_by book caller command.GetMemberships = tt
 
   pub decided_is_there : (book : Book) (q : Request) → Brings (IfAnyIsThere t) (decided book q (state_of t))
   decided_is_there book q = there_by book q.caller q.command

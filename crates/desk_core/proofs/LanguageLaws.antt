@@ -39,6 +39,7 @@ use Rattle.desk_core.specs.Soundness.{IsSoundPage, IsSoundSite, IsSound}
 use Rattle.desk_core.specs.Serving.{IsAccepted, KeepsEdition, RestsOnKept, OnlyReads, IsIn, Enters, IsTrueTo, Decides}
 use Rattle.desk_core.specs.State.{SiteState, kept_listed, page_state, site_state, state_of, site_at}
 use Rattle.desk_core.specs.Steps.{Request, decision}
+use Rattle.desk_core.specs.Memberships.{memberships}
 use Rattle.desk_core.specs.Summaries.{told}
 use Rattle.desk_core.specs.Told.{Told}
 use Rattle.desk_core.proofs.ByHeads.{outcomes_fit}
@@ -74,7 +75,7 @@ same_outcomes book langs old (p ∷ ps) = ap (λ (rest : List PageOutcomes). rel
 pub relisting_is : (book : Book) (caller site : List ℕ) (langs : List (List ℕ)) (t : Tables) (s : Site) (found : List PageOutcomes) (d : Decided)
     → IsIn Owner caller site s t → found ≡ map (relisted_kept book langs) (listed_pages s.languages (pages_of site t))
     → d ≡ record { change = Some (PutLanguages site langs found); reply = reply.Languages (told (length langs)) (told (length found)) }
-    → decision book caller (command.PutLanguages site langs) (site_at site (state_of t)) ≡ Ok d
+    → decision book caller (command.PutLanguages site langs) (site_at site (state_of t)) (memberships caller (state_of t)) ≡ Ok d
 relisting_is book caller site langs t s found d is are same =
     entered Owner caller site t s (put_languages book site langs) (Ok d) is
     (λ k kept row.

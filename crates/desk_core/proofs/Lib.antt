@@ -12,6 +12,7 @@ pub mod PutLaws
 pub mod EditLaws
 pub mod MemberLaws
 pub mod ReadLaws
+pub mod ToldLaws
 pub mod Accepting
 pub mod SheetLaws
 pub mod SheetSteps

@@ -36,6 +36,7 @@ use Rattle.desk_core.specs.Pages.{revision_in, rev_of, judged, has_room, has_roo
 use Rattle.desk_core.specs.Imports.{new_pages, first_stale, puts}
 use Rattle.desk_core.specs.Changes.{after}
 use Rattle.desk_core.specs.Steps.{Request, site_of, decision, decided}
+use Rattle.desk_core.specs.Memberships.{memberships}
 use Rattle.desk_core.specs.Fitting.{FitsParts, FitsRequest, FitsEntries}
 use Rattle.desk_core.specs.Soundness.{IsSound, made}
 use Rattle.desk_core.specs.Once.{IsOnce, Refuses, IsBehind, IsFor}
@@ -102,7 +103,7 @@ not_full pages new most few none full = grind (arith, nat_tests)
 module _ (book : Book) (t : Tables) (sound : IsSound book t) (caller : List ℕ) where
   -- what a command is refused with after a change that keeps the tables sound
   abbrev After : Command → Option Change → Type 0
-  After c change = IsSound book (made change t) → Refuses (IsFor c) (decision book caller c (site_at (site_of c) (state_of (made change t))))
+  After c change = IsSound book (made change t) → Refuses (IsFor c) (decision book caller c (site_at (site_of c) (state_of (made change t))) (memberships caller (state_of (made change t))))
 
   -- the tables with a site changed so
   abbrev with_site : List ℕ → (KeptSite → KeptSite) → Tables
@@ -184,7 +185,7 @@ module _ (book : Book) (t : Tables) (sound : IsSound book t) (caller : List ℕ)
 
   -- ---- commands
 
-  refused_by : (c : Command) → IsOnce c → FitsParts book c → Brings (After c) (decision book caller c (site_at (site_of c) (state_of t)))
+  refused_by : (c : Command) → IsOnce c → FitsParts book c → Brings (After c) (decision book caller c (site_at (site_of c) (state_of t)) (memberships caller (state_of t)))
   refused_by (command.PutSite site) once parts = new_site_kept (After (command.PutSite site)) t site caller (λ _. site_refused site)
   refused_by (command.PutMember site user held) once parts = absurd once
   refused_by (command.PutLanguages site langs) once parts = absurd once
@@ -217,6 +218,9 @@ module _ (book : Book) (t : Tables) (sound : IsSound book t) (caller : List ℕ)
   refused_by (command.SiteReport site) once parts = absurd once
   refused_by (command.SiteEarl site) once parts = absurd once
   refused_by (command.SiteCsv site) once parts = absurd once
+  refused_by (command.GetVerdicts site page) once parts = absurd once
+  refused_by (command.GetMembers site) once parts = absurd once
+  refused_by command.GetMemberships once parts = absurd once
 
 -- a request that made a site, or put, edited or dropped pages, is refused where it is sent again at once
 pub refused_then : (book : Book) (q : Request) (t : Tables) (d : Decided) → FitsRequest book q → IsSound book t → IsOnce q.command → decided book q (state_of t) ≡ Ok d

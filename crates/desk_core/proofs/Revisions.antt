@@ -24,6 +24,7 @@ use Rattle.keep_core.specs.Changes.{put_over, with_pages, without_page, with_jud
 use Rattle.desk_core.specs.declared.command.Command.{Command}
 use Rattle.desk_core.specs.declared.command.Command.TheVariants as command
 use Rattle.desk_core.specs.declared.command.Entry.{Entry}
+use Rattle.keep_core.specs.declared.member.Membership.{Membership}
 use Rattle.desk_core.specs.declared.decided.Decided.{Decided}
 use Rattle.desk_core.specs.declared.refusal.Needed.TheVariants as needed
 use Rattle.desk_core.specs.declared.refusal.Refusal.TheVariants as refusal
@@ -36,6 +37,7 @@ use Rattle.desk_core.specs.Imports.{puts, first_stale}
 use Rattle.desk_core.specs.Judging.{judge}
 use Rattle.desk_core.specs.Changes.{after}
 use Rattle.desk_core.specs.Steps.{Request, site_of, decision, decided, stepped, step}
+use Rattle.desk_core.specs.Memberships.{memberships}
 use Rattle.desk_core.specs.Runs.{Answers, Runs}
 use Rattle.desk_core.specs.Fitting.{FitsRequest}
 use Rattle.desk_core.specs.Soundness.{rev_in, IsSound, made}
@@ -132,7 +134,7 @@ module _ (book : Book) (t : Tables) (sound : IsSound book t) (caller n : List �
   put_rises site k put is next =
       pages_rise site k (k.site.counter + 1) (put ∷ []) is (omega arith) (put_moves k.site.languages k.site.counter (rev_at k.site.languages n k.pages) n (put_over k.pages put) k.pages (omega arith) (inl refl))
 
-  rises_by : (c : Command) → Brings (RisesBy (site_of c)) (decision book caller c (site_at (site_of c) (state_of t)))
+  rises_by : (c : Command) → Brings (RisesBy (site_of c)) (decision book caller c (site_at (site_of c) (state_of t)) (memberships caller (state_of t)))
   rises_by (command.PutSite site) =
       new_site_kept (RisesBy site) t site caller (λ none.
       let row : KeptSite = record { site = new_site site caller; pages = pages_of site t } in
@@ -188,6 +190,9 @@ module _ (book : Book) (t : Tables) (sound : IsSound book t) (caller n : List �
   rises_by (command.SiteReport site) = site_read (RisesBy site) t caller site _ (still n (site_at site (state_of t)))
   rises_by (command.SiteEarl site) = site_read (RisesBy site) t caller site _ (still n (site_at site (state_of t)))
   rises_by (command.SiteCsv site) = site_read (RisesBy site) t caller site _ (still n (site_at site (state_of t)))
+  rises_by (command.GetVerdicts site page) = page_read (RisesBy site) t caller site page _ (still n (site_at site (state_of t)))
+  rises_by (command.GetMembers site) = site_read (RisesBy site) t caller site _ (still n (site_at site (state_of t)))
+  rises_by command.GetMemberships = still n (site_at [] (state_of t))
 
 -- ---- steps
 
@@ -255,7 +260,7 @@ each_fresh pages (e ∷ entries) page rev fresh (inl is) =
 each_fresh pages (e ∷ entries) page rev fresh (inr has) =
     each_fresh pages entries page rev (each_fresh_by pages e entries page rev (e.rev == rev_of (page_at e.page pages)) refl fresh) has
 
-module _ (book : Book) (caller page : List ℕ) (rev : ℕ) where
+module _ (book : Book) (caller page : List ℕ) (rev : ℕ) (own : List Membership) where
   -- what a request that carries a revision is accepted by
   abbrev Current : Option SiteState → Option Change → Type 0
   Current kept change = rev ≡ revision_of page kept
@@ -264,7 +269,7 @@ module _ (book : Book) (caller page : List ℕ) (rev : ℕ) where
   carried sent p s kept is same current =
       sym same.1 ∙ current ∙ ap (λ n. rev_of (page_at n s.pages)) same.0 ∙ sym (ap (revision_of page) is)
 
-  current_by : (c : Command) (kept : Option SiteState) → Carries page rev c → Brings (Current kept) (decision book caller c kept)
+  current_by : (c : Command) (kept : Option SiteState) → Carries page rev c → Brings (Current kept) (decision book caller c kept own)
   current_by (command.PutSite site) kept carries = absurd carries
   current_by (command.PutMember site user held) kept carries = absurd carries
   current_by (command.PutLanguages site langs) kept carries = absurd carries
@@ -292,6 +297,9 @@ module _ (book : Book) (caller page : List ℕ) (rev : ℕ) where
   current_by (command.SiteReport site) kept carries = absurd carries
   current_by (command.SiteEarl site) kept carries = absurd carries
   current_by (command.SiteCsv site) kept carries = absurd carries
+  current_by (command.GetVerdicts site p) kept carries = absurd carries
+  current_by (command.GetMembers site) kept carries = absurd carries
+  current_by command.GetMemberships kept carries = absurd carries
 
 -- ---- what is put has a newer revision
 
@@ -325,7 +333,7 @@ module _ (book : Book) (t : Tables) (sound : IsSound book t) (caller page : List
       newer_pages site k (k.site.counter + 1) (put ∷ []) is
       (subst (λ n. k.site.counter < rev_at k.site.languages n (put_row page_name (put_over k.pages put) k.pages)) named (put_newer k.site.languages k.site.counter (put_over k.pages put) k.pages (omega arith)))
 
-  newer_by_put : (c : Command) → Puts page rev c → Brings (Newer (site_of c)) (decision book caller c (site_at (site_of c) (state_of t)))
+  newer_by_put : (c : Command) → Puts page rev c → Brings (Newer (site_of c)) (decision book caller c (site_at (site_of c) (state_of t)) (memberships caller (state_of t)))
   newer_by_put (command.PutSite site) puts = absurd puts
   newer_by_put (command.PutMember site user held) puts = absurd puts
   newer_by_put (command.PutLanguages site langs) puts = absurd puts
@@ -353,15 +361,18 @@ module _ (book : Book) (t : Tables) (sound : IsSound book t) (caller page : List
   newer_by_put (command.SiteReport site) puts = absurd puts
   newer_by_put (command.SiteEarl site) puts = absurd puts
   newer_by_put (command.SiteCsv site) puts = absurd puts
+  newer_by_put (command.GetVerdicts site p) puts = absurd puts
+  newer_by_put (command.GetMembers site) puts = absurd puts
+  newer_by_put command.GetMemberships puts = absurd puts
 
   -- a page's revision is a new one, or the page is gone
   abbrev Renewed : List ℕ → Option Change → Type 0
   Renewed site change = (revision_of page (site_at site (state_of (made change t))) ≡ 0) ⊎ Newer site change
 
-  put_renewed : (c : Command) → Puts page rev c → Brings (Renewed (site_of c)) (decision book caller c (site_at (site_of c) (state_of t)))
-  put_renewed c puts = weakened (Newer (site_of c)) (Renewed (site_of c)) (λ change newer. inr newer) (decision book caller c (site_at (site_of c) (state_of t))) (newer_by_put c puts)
+  put_renewed : (c : Command) → Puts page rev c → Brings (Renewed (site_of c)) (decision book caller c (site_at (site_of c) (state_of t)) (memberships caller (state_of t)))
+  put_renewed c puts = weakened (Newer (site_of c)) (Renewed (site_of c)) (λ change newer. inr newer) (decision book caller c (site_at (site_of c) (state_of t)) (memberships caller (state_of t))) (newer_by_put c puts)
 
-  drop_renewed : (site p : List ℕ) (sent : ℕ) → p ≡ page → Brings (Renewed site) (decision book caller (command.DropPage site p sent) (site_at site (state_of t)))
+  drop_renewed : (site p : List ℕ) (sent : ℕ) → p ≡ page → Brings (Renewed site) (decision book caller (command.DropPage site p sent) (site_at site (state_of t)) (memberships caller (state_of t)))
   drop_renewed site p sent same =
       entering_kept (Renewed site) t needed.Editor caller site _ (λ k is _.
       on_page_kept (Renewed site) t p k (λ (q : PageState). drop_page site p sent q.page) (λ q _.
@@ -372,7 +383,7 @@ module _ (book : Book) (t : Tables) (sound : IsSound book t) (caller page : List
       let gone : rev_at k.site.languages p (take_row page_name p k.pages) ≡ 0 = gone_rev k.site.languages p (take_row page_name p k.pages) (at_take page_name p k.pages (kept_fits book t sound site k is).in_order) in
       inl (ap (revision_of page) new ∙ ap (λ n. rev_at k.site.languages n (take_row page_name p k.pages)) (sym same) ∙ gone))))
 
-  renewed_by : (c : Command) → Carries page rev c → Brings (Renewed (site_of c)) (decision book caller c (site_at (site_of c) (state_of t)))
+  renewed_by : (c : Command) → Carries page rev c → Brings (Renewed (site_of c)) (decision book caller c (site_at (site_of c) (state_of t)) (memberships caller (state_of t)))
   renewed_by (command.PutSite site) carries = absurd carries
   renewed_by (command.PutMember site user held) carries = absurd carries
   renewed_by (command.PutLanguages site langs) carries = absurd carries
@@ -389,6 +400,9 @@ module _ (book : Book) (t : Tables) (sound : IsSound book t) (caller page : List
   renewed_by (command.SiteReport site) carries = absurd carries
   renewed_by (command.SiteEarl site) carries = absurd carries
   renewed_by (command.SiteCsv site) carries = absurd carries
+  renewed_by (command.GetVerdicts site p) carries = absurd carries
+  renewed_by (command.GetMembers site) carries = absurd carries
+  renewed_by command.GetMemberships carries = absurd carries
 
 -- what an accepted put, edit or import puts has a revision above every one that the site had
 pub put_is_newer : (book : Book) (q : Request) (t : Tables) (d : Decided) (page : List ℕ) (rev : ℕ) → IsSound book t → Puts page rev q.command → decided book q (state_of t) ≡ Ok d
@@ -445,10 +459,10 @@ module _ (book : Book) (site page : List ℕ) (P : Option SiteState → Type 0) 
       (reached_answer q old run.0 reply run.1 run.2 (All-head (FitsRequest book) q qs fits) run.5 r)
 
 -- a request that carries a past revision is refused
-past_refused : (book : Book) (caller page : List ℕ) (rev : ℕ) (c : Command) (kept : Option SiteState) → Carries page rev c → Past page rev kept → IsRefused (decision book caller c kept)
-past_refused book caller page rev c kept carries past =
-    refused_by (decision book caller c kept)
-    (weakened (Current book caller page rev kept) Nothing (λ _ is. past.gone is) (decision book caller c kept) (current_by book caller page rev c kept carries))
+past_refused : (book : Book) (caller page : List ℕ) (rev : ℕ) (c : Command) (kept : Option SiteState) (own : List Membership) → Carries page rev c → Past page rev kept → IsRefused (decision book caller c kept own)
+past_refused book caller page rev c kept own carries past =
+    refused_by (decision book caller c kept own)
+    (weakened (Current book caller page rev own kept) Nothing (λ _ is. past.gone is) (decision book caller c kept own) (current_by book caller page rev own c kept carries))
 
 -- of all requests in a run that carry one revision of a page, at most one is accepted
 pub accepted_once : (book : Book) (t : Tables) (q later : Request) (d : Decided) (qs : List Request) (replies : List Reply) (new : State) (from to : ℕ) (page : List ℕ) (rev : ℕ) → 1 ≤ rev
@@ -457,8 +471,9 @@ pub accepted_once : (book : Book) (t : Tables) (q later : Request) (d : Decided)
 accepted_once book t q later d qs replies new from to page rev some sound fits is all run same carries later_carries =
     let site = site_of q.command in
     let old = site_at site (state_of t) in
+    let own = memberships q.caller (state_of t) in
     let stays : (old new : Option SiteState) → Past page rev old → Rises page old new → Past page rev new = λ old new past rises. past_stays page rev old new some past rises in
-    let current : rev ≡ revision_of page old = brought (Current book q.caller page rev old) (decided book q (state_of t)) d is (current_by book q.caller page rev q.command old carries) in
+    let current : rev ≡ revision_of page old = brought (Current book q.caller page rev own old) (decided book q (state_of t)) d is (current_by book q.caller page rev own q.command old carries) in
     let rises = subst (λ decision. Rises page old (site_at site (stepped (state_of t) decision).0)) is (revisions_rise book q t site page sound) in
     let renewed = brought (λ change. (revision_of page (site_at site (state_of (made change t))) ≡ 0) ⊎ (counter_of old < revision_of page (site_at site (state_of (made change t)))))
     (decided book q (state_of t)) d is (renewed_by book t sound q.caller page rev q.command carries) in
@@ -466,7 +481,7 @@ accepted_once book t q later d qs replies new from to page rev some sound fits i
     let past = renewed_past page rev old (site_at site (after d.change (state_of t))) some current (revisions_within book t site page sound) rises.counter here in
     let first = reached_by book site page (Past page rev) stays t q (Ok d) is sound fits past in
     let last = reached_run book site page (Past page rev) stays qs replies (after d.change (state_of t)) new from to all run first in
-    past_refused book later.caller page rev later.command (site_at (site_of later.command) new) later_carries
+    past_refused book later.caller page rev later.command (site_at (site_of later.command) new) (memberships later.caller new) later_carries
     (subst (λ n. Past page rev (site_at n new)) (sym same) (subst (λ state. Past page rev (site_at site state)) (sym last.is) last.holds))
 
 -- what an accepted put, edit or import puts has a revision above every one that the site had before a run

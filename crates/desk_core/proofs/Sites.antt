@@ -1,6 +1,9 @@
 -- All other sites stay as they are, whatever is asked of one.
-use Rattle.std.proofs.Common.{◌≡◌, ℕ, List, length, Option, Some, None, Ok, Err, refl, ap, ◌∙◌}
+use Rattle.std.proofs.Common.{◌≡◌, ℕ, List, [], ◌∷◌, ◌++◌, length, Option, Some, None, Ok, Err, refl, sym, ap, ◌∙◌}
+use Rattle.std.specs.List.{cons_option}
 use Rattle.rule_core.specs.Books.{Book}
+use Rattle.judge_core.proofs.Lists.{filter_map-append}
+use Rattle.keep_core.specs.declared.member.MemberRole.{MemberRole}
 use Rattle.named_rows.specs.ByName.{take_row, with_row}
 use Rattle.named_rows.proofs.Lookups.{at_put_other, at_with_row_other}
 use Rattle.keep_core.specs.declared.change.Change.{Change}
@@ -11,6 +14,7 @@ use Rattle.keep_core.proofs.Making as rows
 use Rattle.desk_core.specs.declared.command.Command.{Command}
 use Rattle.desk_core.specs.declared.command.Command.TheVariants as command
 use Rattle.desk_core.specs.declared.refusal.Needed.TheVariants as needed
+use Rattle.keep_core.specs.declared.member.Membership.{Membership}
 use Rattle.desk_core.specs.declared.reply.Reply.{Reply}
 use Rattle.desk_core.specs.Refusals.{Decision}
 use Rattle.desk_core.specs.State.{PageState, SiteState, State, page_name, site_name, page_at, site_at}
@@ -20,7 +24,10 @@ use Rattle.desk_core.specs.Reading.{answered}
 use Rattle.desk_core.specs.Changes.{with_counter, with_pages, in_pages, with_judgements, with_languages, changed, after}
 use Rattle.desk_core.specs.Soundness.{made}
 use Rattle.desk_core.specs.Serving.{OthersStay}
-use Rattle.desk_core.specs.Steps.{Request, site_of, read_page, read_site, decision, decided, stepped, step}
+use Rattle.desk_core.specs.declared.reply.Reply.TheVariants as reply
+use Rattle.desk_core.specs.Steps.{Request, asked_by, site_of, OfSite, read_page, read_site, decision, decided, stepped, step}
+use Rattle.desk_core.specs.Rights.{role_of}
+use Rattle.desk_core.specs.Memberships.{held_in, membership, memberships}
 use Rattle.desk_core.proofs.Deciding.{Brings, entering_brings, on_page_brings, put_site_brings, put_member_brings, put_languages_brings, put_page_brings, edit_page_brings, drop_page_brings, import_brings, judge_brings}
 
 -- a change leaves the sites that it doesn't name
@@ -49,39 +56,42 @@ module _ (caller site : List ℕ) (kept : Option SiteState) where
   site_names : (reply : SiteState → Reply) → Brings (Names site) (read_site caller kept reply)
   site_names reply = entering_brings (Names site) needed.Reader caller kept _ (λ _ _ _. tt)
 
-names_by : (book : Book) (caller : List ℕ) (c : Command) (kept : Option SiteState) → Brings (Names (site_of c)) (decision book caller c kept)
-names_by book caller (command.PutSite site) kept = put_site_brings (Names site) site caller kept (λ _. refl)
-names_by book caller (command.PutMember site user held) kept =
+names_by : (book : Book) (caller : List ℕ) (c : Command) (kept : Option SiteState) (own : List Membership) → Brings (Names (site_of c)) (decision book caller c kept own)
+names_by book caller (command.PutSite site) kept own = put_site_brings (Names site) site caller kept (λ _. refl)
+names_by book caller (command.PutMember site user held) kept own =
     entering_brings (Names site) needed.Owner caller kept _ (λ s _ _. put_member_brings (Names site) site caller user held s.site (λ _. refl))
-names_by book caller (command.PutLanguages site langs) kept =
+names_by book caller (command.PutLanguages site langs) kept own =
     entering_brings (Names site) needed.Owner caller kept _ (λ s _ _. put_languages_brings (Names site) book site langs s refl)
-names_by book caller (command.PutPage site page rev raw) kept =
+names_by book caller (command.PutPage site page rev raw) kept own =
     entering_brings (Names site) needed.Editor caller kept _ (λ s _ _.
     put_page_brings (Names site) book site caller page rev raw s.site (revision_in (page_at page s.pages)) (judged (page_at page s.pages)) (length s.pages) (λ _ _ _ _. refl))
-names_by book caller (command.DropPage site page rev) kept =
+names_by book caller (command.DropPage site page rev) kept own =
     entering_brings (Names site) needed.Editor caller kept _ (λ s _ _.
     on_page_brings (Names site) page s (λ (q : PageState). drop_page site page rev q.page) (λ p _. drop_page_brings (Names site) site page rev p.page (λ _. refl)))
-names_by book caller (command.Import site entries) kept =
+names_by book caller (command.Import site entries) kept own =
     entering_brings (Names site) needed.Editor caller kept _ (λ s _ _. import_brings (Names site) book site caller entries s (λ _ _ _ _. refl))
-names_by book caller (command.EditPage site page rev edits) kept =
+names_by book caller (command.EditPage site page rev edits) kept own =
     entering_brings (Names site) needed.Editor caller kept _ (λ s _ _.
     on_page_brings (Names site) page s (edit_page book site caller page rev edits s.site) (λ p _.
     edit_page_brings (Names site) book site caller page rev edits s.site p (λ _ _ _ _. refl)))
-names_by book caller (command.Judge site page rule node verdict seen note) kept =
+names_by book caller (command.Judge site page rule node verdict seen note) kept own =
     entering_brings (Names site) needed.Judge caller kept _ (λ s _ _.
     on_page_brings (Names site) page s (judge book site caller page rule node verdict seen note) (λ p _.
     judge_brings (Names site) book site caller page rule node verdict seen note p (λ _ _. (λ _. tt, λ _. refl))))
-names_by book caller (command.GetPage site page) kept = page_names caller site kept page _
-names_by book caller (command.GetOutcomes site page) kept = page_names caller site kept page _
-names_by book caller (command.GetReport site page) kept = page_names caller site kept page _
-names_by book caller (command.GetEarl site page) kept = page_names caller site kept page _
-names_by book caller (command.GetNames site page) kept = page_names caller site kept page _
-names_by book caller (command.SiteReport site) kept = site_names caller site kept _
-names_by book caller (command.SiteEarl site) kept = site_names caller site kept _
-names_by book caller (command.SiteCsv site) kept = site_names caller site kept _
+names_by book caller (command.GetPage site page) kept own = page_names caller site kept page _
+names_by book caller (command.GetOutcomes site page) kept own = page_names caller site kept page _
+names_by book caller (command.GetReport site page) kept own = page_names caller site kept page _
+names_by book caller (command.GetEarl site page) kept own = page_names caller site kept page _
+names_by book caller (command.GetNames site page) kept own = page_names caller site kept page _
+names_by book caller (command.SiteReport site) kept own = site_names caller site kept _
+names_by book caller (command.SiteEarl site) kept own = site_names caller site kept _
+names_by book caller (command.SiteCsv site) kept own = site_names caller site kept _
+names_by book caller (command.GetVerdicts site page) kept own = page_names caller site kept page _
+names_by book caller (command.GetMembers site) kept own = site_names caller site kept _
+names_by book caller command.GetMemberships kept own = tt
 
 pub decided_names : (book : Book) (q : Request) (state : State) → Brings (Names (site_of q.command)) (decided book q state)
-decided_names book q state = names_by book q.caller q.command (site_at (site_of q.command) state)
+decided_names book q state = names_by book q.caller q.command (site_at (site_of q.command) state) (memberships q.caller state)
 
 -- so the rows of the others stay
 pub rows_stay : (site : List ℕ) (change : Option Change) (t : Tables) → Names site change → OthersStay site t (made change t)
@@ -101,6 +111,41 @@ pub other_sites_stay : (book : Book) (q : Request) (state : State) (n : List ℕ
 other_sites_stay book q state n other =
     stays_stepped n (site_of q.command) (decided book q state) state (decided_names book q state) other
 
--- what is decided depends on the row of the named site alone
-pub decided_by_site : (book : Book) (q : Request) (one other : State) → site_at (site_of q.command) one ≡ site_at (site_of q.command) other → decided book q one ≡ decided book q other
-decided_by_site book q one other same = ap (decision book q.caller q.command) same
+-- what is decided on a command that names a site depends on the row of that site alone
+alone_by : (book : Book) (caller : List ℕ) (c : Command) (kept : Option SiteState) (own other : List Membership) → OfSite c → decision book caller c kept own ≡ decision book caller c kept other
+alone_by book caller (command.PutSite site) kept own other of = refl
+alone_by book caller (command.PutMember site user held) kept own other of = refl
+alone_by book caller (command.PutLanguages site langs) kept own other of = refl
+alone_by book caller (command.PutPage site page rev raw) kept own other of = refl
+alone_by book caller (command.DropPage site page rev) kept own other of = refl
+alone_by book caller (command.Import site entries) kept own other of = refl
+alone_by book caller (command.EditPage site page rev edits) kept own other of = refl
+alone_by book caller (command.Judge site page rule node verdict seen note) kept own other of = refl
+alone_by book caller (command.GetPage site page) kept own other of = refl
+alone_by book caller (command.GetOutcomes site page) kept own other of = refl
+alone_by book caller (command.GetReport site page) kept own other of = refl
+alone_by book caller (command.GetEarl site page) kept own other of = refl
+alone_by book caller (command.GetNames site page) kept own other of = refl
+alone_by book caller (command.SiteReport site) kept own other of = refl
+alone_by book caller (command.SiteEarl site) kept own other of = refl
+alone_by book caller (command.SiteCsv site) kept own other of = refl
+alone_by book caller (command.GetVerdicts site page) kept own other of = refl
+alone_by book caller (command.GetMembers site) kept own other of = refl
+alone_by book caller command.GetMemberships kept own other of = absurd of
+
+pub decided_by_site : (book : Book) (q : Request) (one other : State) → OfSite q.command → site_at (site_of q.command) one ≡ site_at (site_of q.command) other → decided book q one ≡ decided book q other
+decided_by_site book q one other of same =
+    ap (λ kept. decision book q.caller q.command kept (memberships q.caller one)) same
+    ∙ alone_by book q.caller q.command (site_at (site_of q.command) other) (memberships q.caller one) (memberships q.caller other) of
+
+-- what is decided on a request for memberships depends on these alone
+pub decided_by_own : (book : Book) (caller : List ℕ) (one other : State) → memberships caller one ≡ memberships caller other
+    → decided book (asked_by caller command.GetMemberships) one ≡ decided book (asked_by caller command.GetMemberships) other
+decided_by_own book caller one other same = ap (λ own. answered (reply.Memberships own)) same
+
+-- a site in which a user is a stranger is none of the user's
+pub strange : (user : List ℕ) (before after : State) (s : SiteState) → role_of user s.site.members ≡ None → memberships user (before ++ s ∷ after) ≡ memberships user (before ++ after)
+strange user before after s none =
+    filter_map-append (λ (s : SiteState). membership user s.site) before (s ∷ after)
+    ∙ ap (λ (held : Option MemberRole). memberships user before ++ cons_option (held_in s.site.name held) (memberships user after)) none
+    ∙ sym (filter_map-append (λ (s : SiteState). membership user s.site) before after)

@@ -63,8 +63,16 @@ FitsParts book (command.GetNames site page) = IsTrue (is_name page)
 FitsParts book (command.SiteReport site) = Unit {0}
 FitsParts book (command.SiteEarl site) = Unit {0}
 FitsParts book (command.SiteCsv site) = Unit {0}
+FitsParts book (command.GetVerdicts site page) = IsTrue (is_name page)
+FitsParts book (command.GetMembers site) = Unit {0}
+FitsParts book command.GetMemberships = Unit {0}
+
+-- the site of a command is named by a name, where it names one
+abbrev pub NamesSite : Command → Type 0
+NamesSite command.GetMemberships = Unit {0}
+NamesSite c = IsTrue (is_name (site_of c))
 
 pub record FitsRequest (book : Book) (q : Request) : Type 0 where
   pub caller : IsTrue (is_name q.caller)
-  pub site : IsTrue (is_name (site_of q.command))
+  pub site : NamesSite q.command
   pub parts : FitsParts book q.command

@@ -8,6 +8,8 @@ pub mod Pages
 pub mod Imports
 pub mod Judging
 pub mod Reading
+pub mod Verdicts
+pub mod Memberships
 pub mod Changes
 pub mod Steps
 pub mod Fitting
@@ -18,6 +20,7 @@ pub mod Runs
 pub mod Told
 pub mod Serving
 pub mod Sheets
+pub mod ToldReads
 pub mod Placing
 pub mod Building
 pub mod InHand

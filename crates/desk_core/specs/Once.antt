@@ -25,6 +25,9 @@ IsOnce (command.GetNames site page) = ⊥
 IsOnce (command.SiteReport site) = ⊥
 IsOnce (command.SiteEarl site) = ⊥
 IsOnce (command.SiteCsv site) = ⊥
+IsOnce (command.GetVerdicts site page) = ⊥
+IsOnce (command.GetMembers site) = ⊥
+IsOnce command.GetMemberships = ⊥
 
 -- a request is refused
 abbrev pub IsRefused : Decision → Type 0

@@ -47,6 +47,9 @@ Carries page rev (command.GetNames site p) = ⊥
 Carries page rev (command.SiteReport site) = ⊥
 Carries page rev (command.SiteEarl site) = ⊥
 Carries page rev (command.SiteCsv site) = ⊥
+Carries page rev (command.GetVerdicts site p) = ⊥
+Carries page rev (command.GetMembers site) = ⊥
+Carries page rev command.GetMemberships = ⊥
 
 -- and of these all but dropping put the page
 abbrev pub Puts : List ℕ → ℕ → Command → Type 0

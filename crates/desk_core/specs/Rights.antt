@@ -1,20 +1,14 @@
 -- Who may do what in a site.
-use Rattle.std.specs.Prelude.{ℕ, List, Bool, true, false, Option, Some, None, option_map}
-use Rattle.std.specs.List.{find}
-use Rattle.std.specs.Str.{bytes_eq}
+use Rattle.std.specs.Prelude.{ℕ, List, Bool, true, false, Option, Some, None}
 use Rattle.keep_core.specs.declared.member.MemberRole.{MemberRole}
 use Rattle.keep_core.specs.declared.member.MemberRole.TheVariants as role
-use Rattle.keep_core.specs.declared.member.Member.{Member}
+pub use Rattle.keep_core.specs.Members.{role_of}
 use Rattle.keep_core.specs.declared.site.Site.{Site}
 use Rattle.desk_core.specs.declared.refusal.Needed.{Needed}
 use Rattle.desk_core.specs.declared.refusal.Needed.TheVariants as needed
 use Rattle.desk_core.specs.declared.refusal.Refusal.TheVariants.{NoSite, NotAllowed, NoPage}
 use Rattle.desk_core.specs.Refusals.{Decision, unless, on}
 use Rattle.desk_core.specs.State.{PageState, SiteState, page_at}
-
--- the role of a user among a site's members: none for a stranger
-abbrev pub role_of : List ℕ → List Member → Option MemberRole
-role_of user members = option_map (λ member. member.role) (find (λ member. bytes_eq member.user user) members)
 
 abbrev pub is_owner : MemberRole → Bool
 is_owner role.Owner = true

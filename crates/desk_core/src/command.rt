@@ -94,4 +94,15 @@ pub enum Command {
     SiteCsv {
         site: Text,
     },
+    /// The judgements of a page.
+    GetVerdicts {
+        site: Text,
+        page: Text,
+    },
+    /// The members of a site.
+    GetMembers {
+        site: Text,
+    },
+    /// The sites of which the caller is a member. It names none.
+    GetMemberships,
 }

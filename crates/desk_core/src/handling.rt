@@ -14,12 +14,15 @@ use crate::import::import;
 use crate::judge::{Said, judge};
 use crate::languages::put_languages;
 use crate::members::{put_member, put_site};
+use crate::members_told::get_members;
+use crate::memberships::get_memberships;
 use crate::put_page::put_page;
 use crate::reads::{PageForm, get_names, get_page, get_shown};
 use crate::refusal::Refusal;
 use crate::reply::Reply;
 use crate::sent::SentPage;
 use crate::sheets::{SheetForm, get_sheet};
+use crate::verdicts::get_verdicts;
 use keep_core::Keeper;
 use rule_core::RuleBook;
 use snap_tree::Text;
@@ -147,5 +150,8 @@ fn decide<R: Threads + Sync, K: Keeper, B: RuleBook + Send>(
         Command::SiteReport { site } => get_sheet(alloc, keeper, caller, site, SheetForm::Report),
         Command::SiteEarl { site } => get_sheet(alloc, keeper, caller, site, SheetForm::Earl),
         Command::SiteCsv { site } => get_sheet(alloc, keeper, caller, site, SheetForm::Csv),
+        Command::GetVerdicts { site, page } => get_verdicts(alloc, keeper, caller, &site, &page),
+        Command::GetMembers { site } => get_members(alloc, keeper, caller, &site),
+        Command::GetMemberships => get_memberships(alloc, keeper, caller),
     }
 }

@@ -1,4 +1,4 @@
-ghost use Rattle.std.specs.Prelude.{◌≡◌, ◌≢◌, ◌<◌, ◌≤◌, [], List, ℕ, Ok, IfSome};
+ghost use Rattle.std.specs.Prelude.{◌≡◌, ◌≢◌, ◌<◌, ◌≤◌, [], ◌∷◌, ◌++◌, List, ℕ, None, Ok, IfSome};
 ghost use Rattle.std.specs.List.{All};
 ghost use Rattle.rule_core.specs.Books.{Book};
 ghost use Rattle.keep_core.specs.declared.change.Change.{Change};
@@ -7,11 +7,14 @@ ghost use Rattle.keep_core.specs.declared.page.PageOutcomes.{PageOutcomes};
 ghost use Rattle.keep_core.specs.declared.tables.Tables.{Tables};
 ghost use Rattle.keep_core.specs.Changes as tables;
 ghost use Rattle.keep_core.specs.Fits.{Fits, IsThere};
+ghost use Rattle.desk_core.specs.declared.command.Command.TheVariants as command;
 ghost use Rattle.desk_core.specs.declared.decided.Decided.{Decided};
 ghost use Rattle.desk_core.specs.declared.reply.Reply.{Reply};
-ghost use Rattle.desk_core.specs.State.{State, state_of, site_at};
+ghost use Rattle.desk_core.specs.Memberships.{memberships};
+ghost use Rattle.desk_core.specs.Rights.{role_of};
+ghost use Rattle.desk_core.specs.State.{State, SiteState, state_of, site_at};
 ghost use Rattle.desk_core.specs.Changes.{changed, after};
-ghost use Rattle.desk_core.specs.Steps.{Request, site_of, decided, step};
+ghost use Rattle.desk_core.specs.Steps.{Request, asked_by, site_of, OfSite, decided, step};
 ghost use Rattle.desk_core.specs.Runs.{Runs};
 ghost use Rattle.desk_core.specs.Fitting.{FitsRequest};
 ghost use Rattle.desk_core.specs.Soundness.{IsNearlySound, IsSound, made};
@@ -75,14 +78,21 @@ pub fn laws_of_requests()
 /// Laws of sites. It does nothing: the clauses are what it is for.
 ///
 /// A request leaves all sites but the one that it names, and what is decided on it depends on the row of
-/// that site alone.
-#[tactic(auto, using(crate::proofs::Sites::other_sites_stay, crate::proofs::Sites::decided_by_site))]
+/// that site alone. A request for the caller's memberships names none: it depends on these alone, and a site of
+/// which the caller is no member is none of them.
+#[tactic(auto, using(crate::proofs::Sites::other_sites_stay, crate::proofs::Sites::decided_by_site, crate::proofs::Sites::decided_by_own, crate::proofs::Sites::strange))]
 pub fn laws_of_sites()
     ensures others { (book : Book) (q : Request) (state : State) (n : List ℕ)
         → (n ≡ site_of q.command → ⊥) → site_at n (step book state q).0 ≡ site_at n state }
-    ensures alone { (book : Book) (q : Request) (one other : State)
+    ensures alone { (book : Book) (q : Request) (one other : State) → OfSite q.command
         → site_at (site_of q.command) one ≡ site_at (site_of q.command) other
         → decided book q one ≡ decided book q other }
+    ensures own { (book : Book) (caller : List ℕ) (one other : State)
+        → memberships caller one ≡ memberships caller other
+        → decided book (asked_by caller command.GetMemberships) one ≡ decided book (asked_by caller command.GetMemberships) other }
+    ensures strange { (caller : List ℕ) (before after : State) (s : SiteState)
+        → role_of caller s.site.members ≡ None
+        → memberships caller (before ++ s ∷ after) ≡ memberships caller (before ++ after) }
 {}
 
 /// Laws of revisions. It does nothing: the clauses are what it is for.

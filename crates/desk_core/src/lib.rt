@@ -21,6 +21,8 @@ mod limits;
 mod listed;
 mod look;
 mod members;
+mod members_told;
+mod memberships;
 mod page_state;
 mod placed;
 mod put_page;
@@ -34,6 +36,7 @@ mod sent;
 mod sheets;
 mod store;
 mod summaries;
+mod verdicts;
 
 pub use command::{Command, Entry};
 pub use decided::Decided;
@@ -46,4 +49,4 @@ pub use laws::{
 pub use limits::{MOST_BATCH, MOST_ENTRIES, MOST_NOTE, MOST_PAGES, laws_of_limits};
 pub use page_state::PageState;
 pub use refusal::{Limit, Needed, Refusal};
-pub use reply::{Reply, Sheet, Stored, Summary};
+pub use reply::{PageVerdicts, Reply, Sheet, Stored, Summary};

@@ -1,5 +1,6 @@
 use crate::refusal::Refusal;
-use keep_core::{MemberRole, Page, SitePage};
+use keep_core::{Member, MemberRole, Membership, Page, SitePage};
+use kept_verdicts::KeptVerdict;
 use rule_core::{Auto, RuleNo};
 use snap_tree::{List, NodeId, Text, Tree};
 
@@ -25,6 +26,13 @@ pub struct Stored {
 pub struct Sheet {
     pub site: Text,
     pub pages: List<SitePage>,
+}
+
+/// The judgements of a page, in the order in which they were accepted, with its current revision.
+#[derive(Debug, Drop)]
+pub struct PageVerdicts {
+    pub rev: u64,
+    pub verdicts: List<KeptVerdict>,
 }
 
 /// What the desk answers. Each command has its own reply, and `Refused` answers any.
@@ -65,5 +73,14 @@ pub enum Reply {
     SiteReport(Sheet),
     SiteEarl(Sheet),
     SiteCsv(Sheet),
+    Verdicts(PageVerdicts),
+    /// In byte order of their names.
+    Members {
+        members: List<Member>,
+    },
+    /// In byte order of the sites.
+    Memberships {
+        memberships: List<Membership>,
+    },
     Refused(Refusal),
 }

@@ -1,8 +1,9 @@
 ghost use Rattle.std.specs.Prelude.{◌≡◌};
-ghost use Rattle.desk_core.specs.Rights.{gives, may, role_of};
+ghost use Rattle.keep_core.specs.Members.{role_of};
+ghost use Rattle.desk_core.specs.Rights.{gives, may};
 
 use crate::refusal::Needed;
-use keep_core::{Member, MemberRole, Site};
+use keep_core::{MemberRole, Site, role_of};
 use snap_tree::Text;
 
 /// Whether a role gives this leave.
@@ -15,16 +16,6 @@ fn gives(needed: Needed, held: MemberRole) -> bool
         Needed::Judge => matches!(held, MemberRole::Owner | MemberRole::Judge),
         Needed::Reader => true,
     }
-}
-
-/// The role of a user among the members of a site; None for a stranger.
-fn role_of(user: &Text, members: &[Member]) -> Option<MemberRole>
-    ensures { result ≡ role_of user.now members.now }
-{
-    members
-        .iter()
-        .find(|member| member.user == *user)
-        .map(|member| member.role)
 }
 
 /// Whether a caller has this leave in a site.

@@ -39,6 +39,7 @@ use Rattle.desk_core.specs.declared.refusal.Limit.TheVariants as limit
 use Rattle.desk_core.specs.declared.refusal.Refusal.{Refusal}
 use Rattle.desk_core.specs.declared.refusal.Refusal.TheVariants as refusal
 use Rattle.desk_core.specs.declared.reply.Stored.{Stored}
+use Rattle.keep_core.specs.declared.member.Membership.{Membership}
 use Rattle.desk_core.specs.declared.reply.Reply.{Reply}
 use Rattle.desk_core.specs.declared.reply.Reply.TheVariants as reply
 use Rattle.desk_core.specs.declared.page_state.PageState.{PageState}
@@ -52,7 +53,9 @@ use Rattle.desk_core.specs.Imports.{puts, new_pages, first_stale, first_fault, i
 use Rattle.desk_core.specs.Judging.{is_latest, added, judged_row, judge}
 use Rattle.desk_core.specs.Reading.{answered, site_page, sheet}
 use Rattle.desk_core.specs.Steps.{Request, site_of, read_page, read_site, decision, decided, stepped, step}
-use Rattle.desk_core.specs.Fitting.{FitsEntry, FitsEntries, FitsParts, FitsRequest}
+use Rattle.desk_core.specs.Verdicts.{page_verdicts}
+use Rattle.desk_core.specs.Memberships.{memberships}
+use Rattle.desk_core.specs.Fitting.{FitsEntry, FitsEntries, FitsParts, NamesSite, FitsRequest}
 use Rattle.desk_core.specs.Changes.{after}
 use Rattle.desk_core.specs.Soundness as soundness
 use Rattle.desk_core.specs.Serving.{IsJudged, IsEdited, IsRelisted, RestsOnKept, IsDone}
@@ -183,37 +186,40 @@ read_page_quiet caller page kept reply =
 read_site_quiet : (caller : List ℕ) (kept : Option SiteState) (reply : SiteState → Reply) → Quiet (read_site caller kept reply)
 read_site_quiet caller kept reply = entering_quiet needed.Reader caller kept (λ s. answered (reply s)) (λ s. inl refl)
 
-decision_quiet : (book : Book) (caller : List ℕ) (c : Command) (kept : Option SiteState) → IsTrue (is_name (site_of c)) → FitsParts book c → Quiet (decision book caller c kept)
-decision_quiet book caller (command.PutSite site) None named fits = inr (short_name site named)
-decision_quiet book caller (command.PutSite site) (Some s) named fits = tt
-decision_quiet book caller (command.PutMember site user held) kept named fits =
+decision_quiet : (book : Book) (caller : List ℕ) (c : Command) (kept : Option SiteState) (own : List Membership) → NamesSite c → FitsParts book c → Quiet (decision book caller c kept own)
+decision_quiet book caller (command.PutSite site) None own named fits = inr (short_name site named)
+decision_quiet book caller (command.PutSite site) (Some s) own named fits = tt
+decision_quiet book caller (command.PutMember site user held) kept own named fits =
     entering_quiet needed.Owner caller kept (λ s. put_member site caller user held s.site) (λ s. put_member_quiet site caller user held s.site (short_name user fits))
-decision_quiet book caller (command.PutLanguages site langs) kept named fits =
+decision_quiet book caller (command.PutLanguages site langs) kept own named fits =
     entering_quiet needed.Owner caller kept (put_languages book site langs) (λ s. inr refl)
-decision_quiet book caller (command.PutPage site page rev raw) kept named fits =
+decision_quiet book caller (command.PutPage site page rev raw) kept own named fits =
     entering_quiet needed.Editor caller kept (λ s. put_page book site caller page rev raw s.site (revision_in (page_at page s.pages)) (judged (page_at page s.pages)) (length s.pages))
     (λ s. put_page_quiet book site caller page rev raw s.site (revision_in (page_at page s.pages)) (judged (page_at page s.pages)) (length s.pages) (short_name page fits.seen.named))
-decision_quiet book caller (command.DropPage site page rev) kept named fits =
+decision_quiet book caller (command.DropPage site page rev) kept own named fits =
     entering_quiet needed.Editor caller kept (λ s. on_page page s (λ p. drop_page site page rev p.page))
     (λ s. on_page_quiet page s (λ p. drop_page site page rev p.page) (λ p. drop_page_quiet site page rev p.page (short_name page fits.named)))
-decision_quiet book caller (command.Import site entries) kept named fits =
+decision_quiet book caller (command.Import site entries) kept own named fits =
     entering_quiet needed.Editor caller kept (import book site caller entries) (λ s. import_quiet book site caller entries s fits)
-decision_quiet book caller (command.EditPage site page rev edits) kept named fits =
+decision_quiet book caller (command.EditPage site page rev edits) kept own named fits =
     entering_quiet needed.Editor caller kept (λ s. on_page page s (edit_page book site caller page rev edits s.site))
     (λ s. on_page_quiet page s (edit_page book site caller page rev edits s.site) (λ p. edit_page_quiet book site caller page rev edits s.site p (short_name page fits.named)))
-decision_quiet book caller (command.Judge site page rule node verdict seen note) kept named fits =
+decision_quiet book caller (command.Judge site page rule node verdict seen note) kept own named fits =
     let said : OutRow → Judgement = λ row. record { rule = rule; node = node; verdict = verdict; hand = caller; note = note; evidence = row.evidence } in
     entering_quiet needed.Judge caller kept (λ s. on_page page s (judge book site caller page rule node verdict seen note))
     (λ s. on_page_quiet page s (judge book site caller page rule node verdict seen note)
     (λ p. judged_row_quiet (outcomes book p.page.tree p.judgements) p.page.head.hand caller rule node seen (λ row. added book site page (said row) p) (λ row. added_quiet book site page (said row) p)))
-decision_quiet book caller (command.GetPage site page) kept named fits = read_page_quiet caller page kept (λ p. reply.Page p.page)
-decision_quiet book caller (command.GetOutcomes site page) kept named fits = read_page_quiet caller page kept (λ p. reply.Outcomes (site_page book p))
-decision_quiet book caller (command.GetReport site page) kept named fits = read_page_quiet caller page kept (λ p. reply.Report (site_page book p))
-decision_quiet book caller (command.GetEarl site page) kept named fits = read_page_quiet caller page kept (λ p. reply.Earl (site_page book p))
-decision_quiet book caller (command.GetNames site page) kept named fits = read_page_quiet caller page kept (λ p. reply.Names p.page.tree)
-decision_quiet book caller (command.SiteReport site) kept named fits = read_site_quiet caller kept (λ s. reply.SiteReport (sheet book site s))
-decision_quiet book caller (command.SiteEarl site) kept named fits = read_site_quiet caller kept (λ s. reply.SiteEarl (sheet book site s))
-decision_quiet book caller (command.SiteCsv site) kept named fits = read_site_quiet caller kept (λ s. reply.SiteCsv (sheet book site s))
+decision_quiet book caller (command.GetPage site page) kept own named fits = read_page_quiet caller page kept (λ p. reply.Page p.page)
+decision_quiet book caller (command.GetOutcomes site page) kept own named fits = read_page_quiet caller page kept (λ p. reply.Outcomes (site_page book p))
+decision_quiet book caller (command.GetReport site page) kept own named fits = read_page_quiet caller page kept (λ p. reply.Report (site_page book p))
+decision_quiet book caller (command.GetEarl site page) kept own named fits = read_page_quiet caller page kept (λ p. reply.Earl (site_page book p))
+decision_quiet book caller (command.GetNames site page) kept own named fits = read_page_quiet caller page kept (λ p. reply.Names p.page.tree)
+decision_quiet book caller (command.SiteReport site) kept own named fits = read_site_quiet caller kept (λ s. reply.SiteReport (sheet book site s))
+decision_quiet book caller (command.SiteEarl site) kept own named fits = read_site_quiet caller kept (λ s. reply.SiteEarl (sheet book site s))
+decision_quiet book caller (command.SiteCsv site) kept own named fits = read_site_quiet caller kept (λ s. reply.SiteCsv (sheet book site s))
+decision_quiet book caller (command.GetVerdicts site page) kept own named fits = read_page_quiet caller page kept (λ p. reply.Verdicts (page_verdicts book p))
+decision_quiet book caller (command.GetMembers site) kept own named fits = read_site_quiet caller kept (λ s. reply.Members s.site.members)
+decision_quiet book caller command.GetMemberships kept own named fits = inl refl
 
 stepped_calm : (s t : State) (r : Reply) (d : Decision) → Quiet d → is_made r ≡ false → stepped s d ≡ (t, r) → t ≡ s
 stepped_calm s t r (Err refusal) quiet unmade is = sym (ap (λ x. x.0) is)
@@ -223,7 +229,7 @@ stepped_calm s t r (Ok d) (inr made) unmade is = absurd (true≢false (sym made 
 -- a reply that isn't that to a change comes with the state kept
 pub unmade_keeps : (book : Book) (s t : State) (q : Request) (r : Reply) → FitsRequest book q → is_made r ≡ false → step book s q ≡ (t, r) → t ≡ s
 unmade_keeps book s t q r fits unmade is =
-    stepped_calm s t r (decided book q s) (decision_quiet book q.caller q.command (site_at (site_of q.command) s) fits.site fits.parts) unmade is
+    stepped_calm s t r (decided book q s) (decision_quiet book q.caller q.command (site_at (site_of q.command) s) (memberships q.caller s) fits.site fits.parts) unmade is
 
 -- the reply to a judgement is one to a change
 judged_made : (r : Reply) → IsJudged r → is_made r ≡ false → ⊥
@@ -253,5 +259,5 @@ unmade_stays book q s t r fits unmade (inr (inl (inl judged))) = absurd (judged_
 unmade_stays book q s t r fits unmade (inr (inl (inr (inl edited)))) = absurd (edited_made book q.command r fits.parts edited unmade)
 unmade_stays book q s t r fits unmade (inr (inl (inr (inr relisted)))) = absurd (relisted_made r relisted unmade)
 unmade_stays book q s t r fits unmade (inr (inr done)) =
-    let quiet : Quiet (decided book q (state_of s)) = decision_quiet book q.caller q.command (site_at (site_of q.command) (state_of s)) fits.site fits.parts in
+    let quiet : Quiet (decided book q (state_of s)) = decision_quiet book q.caller q.command (site_at (site_of q.command) (state_of s)) (memberships q.caller (state_of s)) fits.site fits.parts in
     done_calm book q s t r done.d (subst Quiet done.is_decided quiet) unmade done.answered done.became

@@ -1,13 +1,13 @@
 ghost use Rattle.std.specs.Prelude.{◌≡◌, true, false, IfSome, IfOk, MatchResult};
 ghost use Rattle.keep_core.specs.declared.fault.KeepFault.TheVariants as keep;
-ghost use Rattle.keep_core.specs.Tables.{edition_of, sites_of, site_of, page_of, heads_of, judgements_of, outcomes_of};
+ghost use Rattle.keep_core.specs.Tables.{edition_of, sites_of, site_of, memberships_of, page_of, heads_of, judgements_of, outcomes_of};
 ghost use Rattle.keep_core.specs.Fits.{Fits, FitsSite, FitsPage, FitsHeads, FitNames, IsThere};
 ghost use Rattle.keep_core.specs.Keeping.{Reads, Makes, CountsFaults};
 ghost use Rattle.fixture_failing_keeper.specs.Failing.{Failing, all_faults, fails_next, after_failed, after_passed, FailsByList};
 
 use counts::{is_named, next};
 use judge_core::{Judgement, Outcomes};
-use keep_core::{Batch, KeepFault, Keeper, Page, PageHead, Site};
+use keep_core::{Batch, KeepFault, Keeper, Membership, Page, PageHead, Site};
 use snap_tree::{List, Text};
 use std::alloc::Global;
 use std::marker::Model;
@@ -103,6 +103,15 @@ impl<K: Keeper> Keeper for FailingKeeper<K> {
     {
         self.count_call()?;
         self.inner.site(alloc, site)
+    }
+
+    fn memberships(&mut self, alloc: Global, user: &Text) -> Result<List<Membership>, KeepFault>
+        ensures reads { Reads (memberships_of user.now) (K.tables self.old.inner) (K.tables self.new.inner) result }
+        ensures faults { CountsFaults (all_faults K.faults self.old) (all_faults K.faults self.new) result }
+        ensures fails { FailsByList K.faults self.old self.new result }
+    {
+        self.count_call()?;
+        self.inner.memberships(alloc, user)
     }
 
     fn load(&mut self, alloc: Global, site: &Text, page: &Text) -> Result<Option<Page>, KeepFault>

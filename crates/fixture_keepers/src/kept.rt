@@ -244,13 +244,14 @@ fn has_failed<T: Drop>(answer: Result<T, KeepFault>) -> bool {
     matches!(answer, Err(KeepFault::Failed))
 }
 
-/// Which of the seven reading calls fail, made one after another.
+/// Which of the eight reading calls fail, made one after another.
 pub fn failing_reads<K: Keeper>(
     alloc: Global,
     keeper: &mut K,
     site: &Text,
     page: &Text,
-) -> [bool; 7] {
+    user: &Text,
+) -> [bool; 8] {
     [
         has_failed(keeper.site(alloc, site)),
         has_failed(keeper.load(alloc, site, page)),
@@ -259,5 +260,6 @@ pub fn failing_reads<K: Keeper>(
         has_failed(keeper.outcomes(alloc, site, page)),
         has_failed(keeper.edition(alloc)),
         has_failed(keeper.sites(alloc)),
+        has_failed(keeper.memberships(alloc, user)),
     ]
 }

@@ -93,7 +93,8 @@ fn reads_differ<K: Played>(
 ) -> Result<Option<Difference>, Wrong> {
     let site = Text::from_str(alloc, due.site.as_str())?;
     let page = Text::from_str(alloc, due.page.as_str())?;
-    let came = failing_reads(alloc, keeper, &site, &page);
+    let user = Text::from_str(alloc, "ann")?;
+    let came = failing_reads(alloc, keeper, &site, &page, &user);
     if came == due.fails {
         return Ok(None);
     }
@@ -103,8 +104,8 @@ fn reads_differ<K: Played>(
 fn fails_differ(
     alloc: Global,
     line: u64,
-    due: [bool; 7],
-    came: [bool; 7],
+    due: [bool; 8],
+    came: [bool; 8],
 ) -> Result<Difference, Wrong> {
     Ok(Difference {
         line,

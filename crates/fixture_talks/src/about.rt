@@ -132,7 +132,7 @@ fn judged_of(alloc: Global, line: u64, rest: &str) -> Result<Step, Wrong> {
 }
 
 // Marks the call of this name.
-fn mark(fails: &mut [bool; 7], call: &str) {
+fn mark(fails: &mut [bool; 8], call: &str) {
     match call {
         "site" => fails[0] = true,
         "load" => fails[1] = true,
@@ -141,12 +141,13 @@ fn mark(fails: &mut [bool; 7], call: &str) {
         "outcomes" => fails[4] = true,
         "edition" => fails[5] = true,
         "sites" => fails[6] = true,
+        "memberships" => fails[7] = true,
         _ => {}
     }
 }
 
-fn failing(calls: &str) -> [bool; 7] {
-    let mut fails = [false; 7];
+fn failing(calls: &str) -> [bool; 8] {
+    let mut fails = [false; 8];
     for call in calls.split_whitespace() {
         mark(&mut fails, call);
     }

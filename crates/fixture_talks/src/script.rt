@@ -22,13 +22,13 @@ pub enum Prepares {
     Fault,
 }
 
-/// Which of the seven calls that read fail: five of a site and a page of it, the edition and the sites.
+/// Which of the eight calls that read fail: five of a site and a page of it, the edition, the sites, and the memberships of ann.
 #[derive(Drop)]
 pub struct Reads {
     pub line: u64,
     pub site: String,
     pub page: String,
-    pub fails: [bool; 7],
+    pub fails: [bool; 8],
 }
 
 /// How many judgements are kept of a page.

@@ -81,6 +81,9 @@ fits_command book h body (route.GetNames site page) caller orderly names is = λ
 fits_command book h body (route.SiteReport site) caller orderly names is = λ web. record { caller = is; site = names; parts = tt }
 fits_command book h body (route.SiteEarl site) caller orderly names is = λ web. record { caller = is; site = names; parts = tt }
 fits_command book h body (route.SiteCsv site) caller orderly names is = λ web. record { caller = is; site = names; parts = tt }
+fits_command book h body (route.GetVerdicts site page) caller orderly names is = λ web. record { caller = is; site = names.0; parts = names.1 }
+fits_command book h body (route.GetMembers site) caller orderly names is = λ web. record { caller = is; site = names; parts = tt }
+fits_command book h body route.GetMemberships caller orderly names is = λ web. record { caller = is; site = tt; parts = tt }
 
 -- what is asked fits
 abbrev FitsAsked : Book → Asked → Type 0

@@ -77,3 +77,6 @@ command_of infos h body (route.GetNames site page) = Ok (command.GetNames site p
 command_of infos h body (route.SiteReport site) = Ok (command.SiteReport site)
 command_of infos h body (route.SiteEarl site) = Ok (command.SiteEarl site)
 command_of infos h body (route.SiteCsv site) = Ok (command.SiteCsv site)
+command_of infos h body (route.GetVerdicts site page) = Ok (command.GetVerdicts site page)
+command_of infos h body (route.GetMembers site) = Ok (command.GetMembers site)
+command_of infos h body route.GetMemberships = Ok command.GetMemberships

@@ -46,6 +46,9 @@ pub(crate) fn command_of<B: RuleBook>(
         Route::SiteReport { site } => Ok(Command::SiteReport { site }),
         Route::SiteEarl { site } => Ok(Command::SiteEarl { site }),
         Route::SiteCsv { site } => Ok(Command::SiteCsv { site }),
+        Route::GetVerdicts { site, page } => Ok(Command::GetVerdicts { site, page }),
+        Route::GetMembers { site } => Ok(Command::GetMembers { site }),
+        Route::GetMemberships => Ok(Command::GetMemberships),
     }
 }
 

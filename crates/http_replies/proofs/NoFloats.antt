@@ -7,10 +7,14 @@ use Rattle.snap_tree.specs.declared.row.Row.{Row}
 use Rattle.snap_tree.specs.Trees.{Trees, rows_of}
 use Rattle.rule_core.specs.declared.info.RuleInfo.{RuleInfo}
 use Rattle.judge_core.specs.declared.outcomes.OutRow.{OutRow}
+use Rattle.keep_core.specs.declared.member.Member.{Member}
 use Rattle.keep_core.specs.declared.page.SitePage.{SitePage}
+use Rattle.kept_verdicts.specs.declared.verdicts.KeptVerdict.{KeptVerdict}
 use Rattle.reports.specs.TextReport.{is_inapplicable, is_known}
 use Rattle.snap_edit.specs.declared.fault.EditKind.{EditKind}
 use Rattle.snap_edit.specs.declared.fault.EditKind.TheVariants as kind
+use Rattle.keep_core.specs.declared.member.Membership.{Membership}
+use Rattle.desk_core.specs.declared.reply.PageVerdicts.{PageVerdicts}
 use Rattle.desk_core.specs.declared.refusal.Refusal.{Refusal}
 use Rattle.desk_core.specs.declared.refusal.Refusal.TheVariants as refusal
 use Rattle.http_messages.specs.declared.fault.HeadFault.{HeadFault}
@@ -19,6 +23,8 @@ use Rattle.http_routes.specs.declared.fault.RequestFault.TheVariants as request
 use Rattle.http_replies.specs.Refusals.{members, edit_members, plain, refusal_data, head_data, request_members, request_data}
 use Rattle.http_replies.specs.NameList.{is_listed, name_data, names_data}
 use Rattle.http_replies.specs.Shown.{row_data, outcomes_data}
+use Rattle.http_replies.specs.VerdictList.{verdict_data, verdicts_data}
+use Rattle.http_replies.specs.MemberList.{member_data, members_data, membership_data, memberships_data}
 
 of_members : (r : Refusal) → has_float (object (members r)) ≡ false
 of_members refusal.NoSite = refl
@@ -87,3 +93,30 @@ pub outcomes_have_no_float : (infos : List RuleInfo) (p : SitePage) → has_floa
 unfolding outcomes_data
 outcomes_have_no_float infos p =
     rw (ids (filter (is_inapplicable p.outcomes.rows) infos), rows infos (filter (is_known infos) p.outcomes.rows)) refl
+
+verdicts : (infos : List RuleInfo) (told : List KeptVerdict) → items_have_float (items_of (map (verdict_data infos) told)) ≡ false
+unfolding verdict_data
+verdicts infos [] = refl
+verdicts infos (v ∷ told) = verdicts infos told
+
+pub verdicts_have_no_float : (infos : List RuleInfo) (p : PageVerdicts) → has_float (verdicts_data infos p) ≡ false
+unfolding verdicts_data
+verdicts_have_no_float infos p = rw (verdicts infos p.verdicts) refl
+
+members_of_site : (ms : List Member) → items_have_float (items_of (map member_data ms)) ≡ false
+unfolding member_data
+members_of_site [] = refl
+members_of_site (m ∷ ms) = members_of_site ms
+
+pub members_have_no_float : (ms : List Member) → has_float (members_data ms) ≡ false
+unfolding members_data
+members_have_no_float ms = rw (members_of_site ms) refl
+
+sites_of_member : (ms : List Membership) → items_have_float (items_of (map membership_data ms)) ≡ false
+unfolding membership_data
+sites_of_member [] = refl
+sites_of_member (m ∷ ms) = sites_of_member ms
+
+pub memberships_have_no_float : (ms : List Membership) → has_float (memberships_data ms) ≡ false
+unfolding memberships_data
+memberships_have_no_float ms = rw (sites_of_member ms) refl

@@ -69,6 +69,9 @@ of_reply (reply.Names t) = refl
 of_reply (reply.SiteReport s) = refl
 of_reply (reply.SiteEarl s) = refl
 of_reply (reply.SiteCsv s) = refl
+of_reply (reply.Verdicts v) = refl
+of_reply (reply.Members members) = refl
+of_reply (reply.Memberships memberships) = refl
 of_reply (reply.Refused r) = of_refusal r
 
 of_answer : (a : Answer) → is_used (status a) ≡ true

@@ -22,6 +22,8 @@ use Rattle.http_replies.specs.Made.{site_text, member_text, languages_text, stor
 use Rattle.http_replies.specs.declared.made.TheConstants.{MOST_BODY}
 use Rattle.http_replies.specs.NameList.{names_data}
 use Rattle.http_replies.specs.Shown.{page_text, outcomes_data}
+use Rattle.http_replies.specs.VerdictList.{verdicts_data}
+use Rattle.http_replies.specs.MemberList.{members_data, memberships_data}
 
 -- the status code of a reply: 201 where a site was made
 abbrev pub reply_status : Reply → ℕ
@@ -40,6 +42,9 @@ reply_status (reply.Names t) = 200
 reply_status (reply.SiteReport s) = 200
 reply_status (reply.SiteEarl s) = 200
 reply_status (reply.SiteCsv s) = 200
+reply_status (reply.Verdicts v) = 200
+reply_status (reply.Members members) = 200
+reply_status (reply.Memberships memberships) = 200
 reply_status (reply.Refused r) = refused.status r
 
 abbrev pub status : Answer → ℕ
@@ -64,6 +69,9 @@ reply_kind (reply.Imported pages) = kind.Json
 reply_kind (reply.Judged rule node outcome) = kind.Json
 reply_kind (reply.Outcomes p) = kind.Json
 reply_kind (reply.Names t) = kind.Json
+reply_kind (reply.Verdicts v) = kind.Json
+reply_kind (reply.Members members) = kind.Json
+reply_kind (reply.Memberships memberships) = kind.Json
 reply_kind (reply.Refused r) = kind.Json
 
 abbrev pub kind_of : Answer → Kind
@@ -87,6 +95,9 @@ reply_body infos (reply.Names t) = compact_text (names_data t.trees)
 reply_body infos (reply.SiteReport s) = site_report s.site infos s.pages
 reply_body infos (reply.SiteEarl s) = earl infos s.pages
 reply_body infos (reply.SiteCsv s) = csv_rows s.site infos s.pages
+reply_body infos (reply.Verdicts v) = compact_text (verdicts_data infos v)
+reply_body infos (reply.Members members) = compact_text (members_data members)
+reply_body infos (reply.Memberships memberships) = compact_text (memberships_data memberships)
 reply_body infos (reply.Refused r) = compact_text (refusal_data r)
 
 abbrev pub body : List RuleInfo → Answer → List ℕ

@@ -73,6 +73,9 @@ made_text infos (reply.Names t) = []
 made_text infos (reply.SiteReport s) = []
 made_text infos (reply.SiteEarl s) = []
 made_text infos (reply.SiteCsv s) = []
+made_text infos (reply.Verdicts v) = []
+made_text infos (reply.Members members) = []
+made_text infos (reply.Memberships memberships) = []
 made_text infos (reply.Refused r) = []
 
 -- ---- the replies for which room is taken before the change is made
@@ -100,4 +103,7 @@ is_made (reply.Names t) = false
 is_made (reply.SiteReport s) = false
 is_made (reply.SiteEarl s) = false
 is_made (reply.SiteCsv s) = false
+is_made (reply.Verdicts v) = false
+is_made (reply.Members members) = false
+is_made (reply.Memberships memberships) = false
 is_made (reply.Refused r) = false

@@ -69,6 +69,9 @@ fn reply_kind(reply: &Reply) -> Kind
         | Reply::Judged { .. }
         | Reply::Outcomes(_)
         | Reply::Names(_)
+        | Reply::Verdicts(_)
+        | Reply::Members { .. }
+        | Reply::Memberships { .. }
         | Reply::Refused(_) => Kind::Json,
     }
 }
@@ -92,7 +95,10 @@ fn reply_status(reply: &Reply) -> u16
         | Reply::Names(_)
         | Reply::SiteReport(_)
         | Reply::SiteEarl(_)
-        | Reply::SiteCsv(_) => 200,
+        | Reply::SiteCsv(_)
+        | Reply::Verdicts(_)
+        | Reply::Members { .. }
+        | Reply::Memberships { .. } => 200,
     }
 }
 

@@ -6,12 +6,14 @@
 mod answer;
 mod constant;
 mod made;
+mod member_list;
 mod members;
 mod names;
 mod outcomes;
 mod page;
 mod printing;
 mod refusals;
+mod verdict_list;
 mod words;
 
 pub use answer::Answer;

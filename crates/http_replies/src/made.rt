@@ -39,6 +39,9 @@ pub fn is_made(reply: &Reply) -> bool
         | Reply::SiteReport(_)
         | Reply::SiteEarl(_)
         | Reply::SiteCsv(_)
+        | Reply::Verdicts(_)
+        | Reply::Members { .. }
+        | Reply::Memberships { .. }
         | Reply::Refused(_) => false,
     }
 }
@@ -92,6 +95,9 @@ pub(crate) fn push_made(
         | Reply::SiteReport(_)
         | Reply::SiteEarl(_)
         | Reply::SiteCsv(_)
+        | Reply::Verdicts(_)
+        | Reply::Members { .. }
+        | Reply::Memberships { .. }
         | Reply::Refused(_) => Ok(()),
     }
 }

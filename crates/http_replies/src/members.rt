@@ -1,5 +1,5 @@
 ghost use Rattle.std.specs.Prelude.{◌≡◌, Some, IfOk, OnOk};
-ghost use Rattle.serde_json.specs.Data.{string, put as with_member};
+ghost use Rattle.serde_json.specs.Data.{string, boolean, put as with_member};
 ghost use Rattle.serde_json.specs.View.{view, members_view};
 ghost use Rattle.http_replies.specs.Words.{whole};
 ghost use Rattle.http_replies.specs.Refusals.{plain, of_page};
@@ -34,6 +34,19 @@ pub(crate) fn put_number(
     ensures { OnOk result (members_view members.new.entries ≡ with_member key.now (whole n) (members_view members.old.entries)) }
 {
     put(members, alloc, key, Value::from(n))?;
+    Ok(())
+}
+
+// Puts a truth in.
+pub(crate) fn put_flag(
+    members: &mut Members,
+    alloc: Global,
+    key: &str,
+    flag: bool,
+) -> Result<(), OutOfMemory>
+    ensures { OnOk result (members_view members.new.entries ≡ with_member key.now (boolean flag) (members_view members.old.entries)) }
+{
+    put(members, alloc, key, Value::from(flag))?;
     Ok(())
 }
 

@@ -141,7 +141,7 @@ fn row_value(alloc: Global, infos: &[RuleInfo], row: &OutRow) -> Result<Value, O
 
 // Puts the id of a rule in.
 #[tactic(auto, using(crate::proofs::Ids::found_text))]
-fn put_id(
+pub(crate) fn put_id(
     members: &mut Members,
     alloc: Global,
     infos: &[RuleInfo],

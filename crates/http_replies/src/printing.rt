@@ -6,10 +6,12 @@ ghost use Rattle.http_replies.specs.Answers.{reply_body, body, answer_bytes, is_
 
 use crate::answer::Answer;
 use crate::made::{MOST_BODY, is_made, push_made};
+use crate::member_list::{members_body, memberships_body};
 use crate::names::names_body;
 use crate::outcomes::outcomes_body;
 use crate::page::page_body;
 use crate::refusals::{head_body, refusal_body, request_body};
+use crate::verdict_list::verdicts_body;
 use desk_core::Reply;
 use reply_frames::{MOST_HEAD, frame};
 use reports::{csv_rows, earl, site_report, text_report};
@@ -117,6 +119,9 @@ fn other_body(alloc: Global, infos: &[RuleInfo], reply: &Reply) -> Result<Vec<u8
         Reply::SiteReport(sheet) => site_report(alloc, &sheet.site, infos, sheet.pages.as_slice()),
         Reply::SiteEarl(sheet) => earl(alloc, infos, sheet.pages.as_slice()),
         Reply::SiteCsv(sheet) => csv_rows(alloc, &sheet.site, infos, sheet.pages.as_slice()),
+        Reply::Verdicts(told) => verdicts_body(alloc, infos, told),
+        Reply::Members { members } => members_body(alloc, members.as_slice()),
+        Reply::Memberships { memberships } => memberships_body(alloc, memberships.as_slice()),
         Reply::Refused(refusal) => refusal_body(alloc, refusal),
         Reply::Site { .. }
         | Reply::Member { .. }

@@ -8,9 +8,9 @@ use Rattle.http_messages.specs.declared.head.Field.{Field}
 use Rattle.http_messages.specs.declared.head.Head.{Head}
 use Rattle.http_messages.specs.Framing.{only_named}
 use Rattle.http_routes.specs.declared.place.Resource.{Resource}
-use Rattle.http_routes.specs.declared.place.Resource.TheVariants.{Site, SiteReport, SiteEarl, SiteCsv, Import, Languages, Member, Page, PageReport, PageEarl, PageNames, Edits, Judgements, Outcomes}
+use Rattle.http_routes.specs.declared.place.Resource.TheVariants.{Memberships, Site, SiteReport, SiteEarl, SiteCsv, Import, Languages, Members, Member, Page, PageReport, PageEarl, PageNames, PageVerdicts, Edits, Judgements, Outcomes}
 use Rattle.http_routes.specs.declared.names.Names.{Names}
-use Rattle.http_routes.specs.declared.names.Names.TheVariants.{One, Two}
+use Rattle.http_routes.specs.declared.names.Names.TheVariants.{Zero, One, Two}
 use Rattle.http_routes.specs.declared.call.Method.{Method}
 use Rattle.http_routes.specs.declared.call.Method.TheVariants.{Get, Put, Post, Delete}
 use Rattle.http_routes.specs.declared.call.Route.{Route}
@@ -23,6 +23,7 @@ use Rattle.http_routes.proofs.Chosen.{when}
 
 -- names of the form
 abbrev AreNames : Names → Type 0
+AreNames Zero = Unit {0}
 AreNames (One site) = IsTrue (is_name site)
 AreNames (Two site other) = IsTrue (is_name site) × IsTrue (is_name other)
 
@@ -64,6 +65,9 @@ names_of_route PageNames (Two site page) Get are = are
 names_of_route SiteReport (One site) Get are = are
 names_of_route SiteEarl (One site) Get are = are
 names_of_route SiteCsv (One site) Get are = are
+names_of_route PageVerdicts (Two site page) Get are = are
+names_of_route Members (One site) Get are = are
+names_of_route Memberships Zero Get are = are
 names_of_route _ _ _ are = tt
 
 name_of_field : (f : Option Field) → IfSome (named f) (λ caller. IsTrue (is_name caller))

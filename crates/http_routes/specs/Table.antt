@@ -5,7 +5,7 @@ use Rattle.matchit.specs.Router.{RouteOf}
 use Rattle.segment_routes.specs.Pieces.{Piece, Word, Name, Pieces}
 use Rattle.segment_routes.specs.Spelling.{rows_of}
 use Rattle.http_routes.specs.declared.place.Resource.{Resource}
-use Rattle.http_routes.specs.declared.place.Resource.TheVariants.{Site, SiteReport, SiteEarl, SiteCsv, Import, Languages, Member, Page, PageReport, PageEarl, PageNames, Edits, Judgements, Outcomes}
+use Rattle.http_routes.specs.declared.place.Resource.TheVariants.{Memberships, Site, SiteReport, SiteEarl, SiteCsv, Import, Languages, Members, Member, Page, PageReport, PageEarl, PageNames, PageVerdicts, Edits, Judgements, Outcomes}
 
 abbrev pub site : Piece
 site = Name (codes "site")
@@ -28,17 +28,20 @@ in_page pieces = in_site (Word (codes "pages") ∷ page ∷ pieces)
 -- a name, and a longer path before the one that it begins with.
 abbrev pub table : List (Pieces × Resource)
 table =
-    (in_site (Word (codes "csv") ∷ []), SiteCsv)
+    (Word (codes "memberships") ∷ [], Memberships)
+    ∷ (in_site (Word (codes "csv") ∷ []), SiteCsv)
     ∷ (in_site (Word (codes "earl") ∷ []), SiteEarl)
     ∷ (in_site (Word (codes "import") ∷ []), Import)
     ∷ (in_site (Word (codes "languages") ∷ []), Languages)
     ∷ (in_site (Word (codes "members") ∷ user ∷ []), Member)
+    ∷ (in_site (Word (codes "members") ∷ []), Members)
     ∷ (in_page (Word (codes "earl") ∷ []), PageEarl)
     ∷ (in_page (Word (codes "edits") ∷ []), Edits)
     ∷ (in_page (Word (codes "judgements") ∷ []), Judgements)
     ∷ (in_page (Word (codes "names") ∷ []), PageNames)
     ∷ (in_page (Word (codes "outcomes") ∷ []), Outcomes)
     ∷ (in_page (Word (codes "report") ∷ []), PageReport)
+    ∷ (in_page (Word (codes "verdicts") ∷ []), PageVerdicts)
     ∷ (in_page [], Page)
     ∷ (in_site (Word (codes "report") ∷ []), SiteReport)
     ∷ (in_site [], Site)

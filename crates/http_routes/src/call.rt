@@ -1,7 +1,7 @@
 ghost use Rattle.std.specs.Prelude.{◌≡◌, IfOk};
 ghost use Rattle.http_routes.specs.Calls.{method_of, route_of, caller_of, call_of};
 ghost use Rattle.http_routes.specs.Named.{IsNamed};
-ghost use Rattle.http_routes.specs.declared.names.Names.TheVariants.{One, Two};
+ghost use Rattle.http_routes.specs.declared.names.Names.TheVariants.{Zero, One, Two};
 
 use crate::fault::RequestFault;
 use crate::names::{Names, name_of};
@@ -54,6 +54,12 @@ pub enum Route {
     SiteEarl { site: Text },
     /// `GET /sites/{site}/csv`
     SiteCsv { site: Text },
+    /// `GET /sites/{site}/pages/{page}/verdicts`
+    GetVerdicts { site: Text, page: Text },
+    /// `GET /sites/{site}/members`
+    GetMembers { site: Text },
+    /// `GET /memberships`
+    GetMemberships,
 }
 
 /// A request by its head: what is asked, and who asks.
@@ -123,8 +129,19 @@ fn route_of(place: Resource, names: Names, method: Method) -> Option<Route>
     ensures { result ≡ route_of place names method }
 {
     match names {
+        Names::Zero => of_all(place, method),
         Names::One { site } => of_site(place, site, method),
         Names::Two { site, other } => below_site(place, site, other, method),
+    }
+}
+
+// The routes of all sites.
+fn of_all(place: Resource, method: Method) -> Option<Route>
+    ensures { result ≡ route_of place Zero method }
+{
+    match (place, method) {
+        (Resource::Memberships, Method::Get) => Some(Route::GetMemberships),
+        _ => None,
     }
 }
 
@@ -139,6 +156,7 @@ fn of_site(place: Resource, site: Text, method: Method) -> Option<Route>
         (Resource::SiteReport, Method::Get) => Some(Route::SiteReport { site }),
         (Resource::SiteEarl, Method::Get) => Some(Route::SiteEarl { site }),
         (Resource::SiteCsv, Method::Get) => Some(Route::SiteCsv { site }),
+        (Resource::Members, Method::Get) => Some(Route::GetMembers { site }),
         _ => None,
     }
 }
@@ -158,6 +176,7 @@ fn below_site(place: Resource, site: Text, other: Text, method: Method) -> Optio
         (Resource::PageReport, Method::Get) => Some(Route::GetReport { site, page: other }),
         (Resource::PageEarl, Method::Get) => Some(Route::GetEarl { site, page: other }),
         (Resource::PageNames, Method::Get) => Some(Route::GetNames { site, page: other }),
+        (Resource::PageVerdicts, Method::Get) => Some(Route::GetVerdicts { site, page: other }),
         _ => None,
     }
 }

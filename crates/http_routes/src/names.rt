@@ -9,9 +9,10 @@ use std::alloc::Global;
 use std::str::from_utf8;
 use texts::{OutOfMemory, Text};
 
-/// The names in a path: that of a site, and that of a page or a user of it.
+/// The names in a path: none, that of a site, and that of a page or a user of it.
 #[derive(Debug, Drop)]
 pub(crate) enum Names {
+    Zero,
     One { site: Text },
     Two { site: Text, other: Text },
 }
@@ -25,7 +26,7 @@ pub(crate) fn names_of(
     ensures { IfOk result (λ names. names ≡ names_of parts.entry) }
 {
     let Some((_, site)) = parts.next() else {
-        return Ok(None);
+        return Ok(Some(Names::Zero));
     };
     match parts.next() {
         None => one_name(alloc, site),

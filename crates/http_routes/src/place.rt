@@ -28,6 +28,9 @@ pub(crate) enum Resource {
     Edits,
     Judgements,
     Outcomes,
+    PageVerdicts,
+    Members,
+    Memberships,
 }
 
 /// The table of routes, which is made once: then paths are looked up in it, without memory of its own.
@@ -101,6 +104,12 @@ fn router(alloc: Global) -> Result<Router<Resource>, InsertError>
         Resource::Judgements,
     )?;
     router.insert("/sites/{site}/pages/{page}/outcomes", Resource::Outcomes)?;
+    router.insert(
+        "/sites/{site}/pages/{page}/verdicts",
+        Resource::PageVerdicts,
+    )?;
+    router.insert("/sites/{site}/members", Resource::Members)?;
+    router.insert("/memberships", Resource::Memberships)?;
     Ok(router)
 }
 

@@ -1,4 +1,5 @@
 pub mod Names
+pub mod Members
 pub mod Tables
 pub mod Changes
 pub mod Listed

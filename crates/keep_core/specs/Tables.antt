@@ -1,15 +1,18 @@
 -- The tables: the edition of the rules by which outcomes were found, and sites in byte order of their names, each with its pages in
 -- byte order of theirs, and each page with its judgements in order of acceptance and its outcomes. And what is read of them.
 use Rattle.std.specs.Prelude.{ℕ, List, [], map, Option, Some, None, option_map}
+use Rattle.std.specs.List.{filter_map}
 use Rattle.judge_core.specs.declared.judgement.Judgement.{Judgement}
 use Rattle.judge_core.specs.declared.outcomes.Outcomes.{Outcomes}
 use Rattle.named_rows.specs.ByName.{at}
+use Rattle.keep_core.specs.declared.member.Membership.{Membership}
 use Rattle.keep_core.specs.declared.site.Site.{Site}
 use Rattle.keep_core.specs.declared.page.PageHead.{PageHead}
 use Rattle.keep_core.specs.declared.page.Page.{Page}
 use Rattle.keep_core.specs.declared.tables.KeptPage.{KeptPage}
 use Rattle.keep_core.specs.declared.tables.KeptSite.{KeptSite}
 use Rattle.keep_core.specs.declared.tables.Tables.{Tables}
+use Rattle.keep_core.specs.Members.{membership}
 
 -- without a site, of edition 0
 abbrev pub no_tables : Tables
@@ -64,6 +67,10 @@ sites_of tables = map site_name tables.sites
 
 abbrev pub site_of : List ℕ → Tables → Option Site
 site_of site tables = option_map (λ s. s.site) (kept_site site tables)
+
+-- the sites of which a user is a member, with the role in each
+abbrev pub memberships_of : List ℕ → Tables → List Membership
+memberships_of user tables = filter_map (λ s. membership user s.site) tables.sites
 
 abbrev pub page_of : List ℕ → List ℕ → Tables → Option Page
 page_of site page tables = option_map (λ p. p.page) (kept_page site page tables)

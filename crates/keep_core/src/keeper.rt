@@ -1,11 +1,12 @@
 ghost use Rattle.std.specs.Prelude.{◌≡◌, ℕ, Option, IfSome, IfOk};
 ghost use Rattle.keep_core.specs.declared.tables.Tables.{Tables};
-ghost use Rattle.keep_core.specs.Tables.{edition_of, sites_of, site_of, page_of, heads_of, judgements_of, outcomes_of};
+ghost use Rattle.keep_core.specs.Tables.{edition_of, sites_of, site_of, memberships_of, page_of, heads_of, judgements_of, outcomes_of};
 ghost use Rattle.keep_core.specs.Fits.{Fits, FitsSite, FitsPage, FitsHeads, FitNames, IsThere};
 ghost use Rattle.keep_core.specs.Keeping.{Reads, Makes, CountsFaults};
 
 use crate::change::Batch;
 use crate::fault::KeepFault;
+use crate::member::Membership;
 use crate::page::{Page, PageHead};
 use crate::site::Site;
 use judge_core::{Judgement, Outcomes};
@@ -39,6 +40,11 @@ pub trait Keeper {
     fn site(&mut self, alloc: Global, site: &Text) -> Result<Option<Site>, KeepFault>
         ensures reads { Reads (site_of site.now) (tables self.old) (tables self.new) result }
         ensures fits { IfOk result (λ found. IfSome found FitsSite) }
+        ensures faults { CountsFaults (faults self.old) (faults self.new) result };
+
+    /// The sites of which a user is a member, with the role in each, in byte order of their names.
+    fn memberships(&mut self, alloc: Global, user: &Text) -> Result<List<Membership>, KeepFault>
+        ensures reads { Reads (memberships_of user.now) (tables self.old) (tables self.new) result }
         ensures faults { CountsFaults (faults self.old) (faults self.new) result };
 
     /// A page of a site; None exactly where there is none.

@@ -27,7 +27,7 @@ pub use keeper::Keeper;
 pub use laws::laws_of_changes;
 pub use limits::{MOST_NAME, MOST_REVISION, laws_of_limits};
 pub use listing::listed;
-pub use member::{Member, MemberRole};
+pub use member::{Member, MemberRole, Membership, role_of};
 pub use memory::MemoryKeeper;
 pub use names::is_name;
 pub use page::{Page, PageHead, PageOutcomes, PagePut, SitePage};

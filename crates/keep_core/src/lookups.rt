@@ -1,9 +1,12 @@
-ghost use Rattle.std.specs.Prelude.{◌≡◌, IfOk, map, take};
-ghost use Rattle.std.specs.Option.{option_copied};
+ghost use Rattle.std.specs.Prelude.{◌≡◌, ◌++◌, IfOk, OnOk, map, take};
+ghost use Rattle.std.specs.List.{filter_map};
+ghost use Rattle.std.specs.Option.{option_copied, option_to_list};
 ghost use Rattle.named_rows.specs.ByName.{at, IsInOrder};
-ghost use Rattle.keep_core.specs.Tables.{site_name, page_name, judgements_in, outcomes_in, sites_of, site_of, page_of, heads_of, judgements_of, outcomes_of, kept_page};
+ghost use Rattle.keep_core.specs.Members.{membership};
+ghost use Rattle.keep_core.specs.Tables.{site_name, page_name, judgements_in, outcomes_in, sites_of, site_of, memberships_of, page_of, heads_of, judgements_of, outcomes_of, kept_page};
 ghost use Rattle.keep_core.specs.Fits.{FitTables};
 
+use crate::member::{Membership, role_of};
 use crate::page::{Page, PageHead};
 use crate::site::Site;
 use crate::tables::{KeptPage, KeptSite, Tables};
@@ -37,6 +40,57 @@ pub fn site_row(alloc: Global, tables: &Tables, site: &Text) -> Result<Option<Si
         Some(kept) => Ok(Some(kept.site.copy(alloc)?)),
         None => Ok(None),
     }
+}
+
+// A user's membership of a site; None for a stranger.
+fn membership(alloc: Global, user: &Text, site: &Site) -> Result<Option<Membership>, OutOfMemory>
+    ensures { IfOk result (λ found. found ≡ membership user.now site.now) }
+{
+    match role_of(user, site.members.as_slice()) {
+        Some(role) => Ok(Some(Membership {
+            site: site.name.copy(alloc)?,
+            role,
+        })),
+        None => Ok(None),
+    }
+}
+
+fn push(
+    memberships: &mut Vec<Membership>,
+    membership: Option<Membership>,
+) -> Result<(), OutOfMemory>
+    ensures { OnOk result (memberships.new.items ≡ memberships.old.items ++ option_to_list membership) }
+{
+    if let Some(membership) = membership {
+        memberships.push(membership)?;
+    }
+    Ok(())
+}
+
+fn memberships_among(
+    alloc: Global,
+    user: &Text,
+    sites: &[KeptSite],
+) -> Result<List<Membership>, OutOfMemory>
+    ensures { IfOk result (λ ms. ms ≡ filter_map (λ s. membership user.now s.site) sites.now) }
+{
+    let mut memberships = Vec::new(alloc);
+    for kept in sites {
+        let found = membership(alloc, user, &kept.site)?;
+        push(&mut memberships, found)?;
+    }
+    Ok(List::from_vec(memberships))
+}
+
+/// The sites of which a user is a member.
+pub fn memberships(
+    alloc: Global,
+    tables: &Tables,
+    user: &Text,
+) -> Result<List<Membership>, OutOfMemory>
+    ensures { IfOk result (λ ms. ms ≡ memberships_of user.now tables.now) }
+{
+    memberships_among(alloc, user, tables.sites.as_slice())
 }
 
 // A page with what is kept of it.

@@ -1,7 +1,7 @@
 ghost use Rattle.std.specs.Prelude.{◌≡◌, ◌≤◌, Some, true, false, IfSome, IfOk, OnErr, MatchResult};
 ghost use Rattle.counts.specs.Counts.{Rose};
 ghost use Rattle.keep_core.specs.declared.fault.KeepFault.TheVariants as keep;
-ghost use Rattle.keep_core.specs.Tables.{no_tables, edition_of, sites_of, site_of, page_of, heads_of, judgements_of, outcomes_of};
+ghost use Rattle.keep_core.specs.Tables.{no_tables, edition_of, sites_of, site_of, memberships_of, page_of, heads_of, judgements_of, outcomes_of};
 ghost use Rattle.keep_core.specs.Fits.{Fits, FitsSite, FitsPage, FitsHeads, FitNames, IsThere};
 ghost use Rattle.keep_core.specs.Keeping.{Reads, Makes, CountsFaults};
 ghost use Rattle.keep_core.specs.Memory.{Memory, fails_next, after_call, after_change, FailsByList};
@@ -9,6 +9,7 @@ ghost use Rattle.keep_core.specs.Memory.{Memory, fails_next, after_call, after_c
 use crate::change::Batch;
 use crate::fault::KeepFault;
 use crate::keeper::Keeper;
+use crate::member::Membership;
 use crate::page::{Page, PageHead};
 use crate::site::Site;
 use crate::tables::Tables;
@@ -116,6 +117,16 @@ impl Keeper for MemoryKeeper {
     {
         self.count_call()?;
         Ok(lookups::site_row(alloc, &self.tables, site)?)
+    }
+
+    fn memberships(&mut self, alloc: Global, user: &Text) -> Result<List<Membership>, KeepFault>
+        ensures reads { Reads (memberships_of user.now) (Some self.old.tables) (Some self.new.tables) result }
+        ensures faults { CountsFaults self.old.faults self.new.faults result }
+        ensures fails { FailsByList self.old result }
+        ensures after { self.new ≡ after_call self.old }
+    {
+        self.count_call()?;
+        Ok(lookups::memberships(alloc, &self.tables, user)?)
     }
 
     fn load(&mut self, alloc: Global, site: &Text, page: &Text) -> Result<Option<Page>, KeepFault>

@@ -6,11 +6,13 @@ use Rattle.sqlite.specs.Held.{Held, state}
 use Rattle.sqlite.specs.State.{State, HasCleanDisk, IsUnchanged, Survives}
 use Rattle.judge_core.specs.declared.judgement.Judgement.{Judgement}
 use Rattle.judge_core.specs.declared.outcomes.Outcomes.{Outcomes}
+use Rattle.keep_core.specs.declared.member.Membership.{Membership}
 use Rattle.keep_core.specs.declared.site.Site.{Site}
 use Rattle.keep_core.specs.declared.page.PageHead.{PageHead}
 use Rattle.keep_core.specs.declared.page.Page.{Page}
-use Rattle.store_statements.specs.Stored.{Stored, stored, names_at, site_at, members_at, page_at, heads_at, judgements_at, outcomes_at, editions_at, languages_at}
+use Rattle.store_statements.specs.Stored.{Stored, stored, names_at, site_at, members_at, memberships_at, page_at, heads_at, judgements_at, outcomes_at, editions_at, languages_at}
 use Rattle.store_statements.specs.Changes.{IsStore, IsReady}
+use Rattle.store_tables.specs.Members.{memberships_shown}
 use Rattle.store_tables.specs.Sites.{site_shown, names_shown}
 use Rattle.store_tables.specs.Pages.{page_shown, heads_shown}
 use Rattle.store_tables.specs.Judgements.{judgements_shown}
@@ -30,6 +32,9 @@ names_in s = names_shown (names_at (rows_in s))
 
 abbrev pub site_in : List ℕ → State → Option (Option Site)
 site_in site s = site_shown site (site_at site (rows_in s)) (members_at site (rows_in s)) (languages_at site (rows_in s))
+
+abbrev pub memberships_in : List ℕ → State → Option (List Membership)
+memberships_in user s = memberships_shown (memberships_at user (rows_in s))
 
 abbrev pub page_in : List ℕ → List ℕ → State → Option (Option Page)
 page_in site page s = page_shown page (page_at site page (rows_in s))

@@ -2,11 +2,11 @@
 
 ghost use Rattle.std.specs.Prelude.{◌≡◌, false, IfOk, IfSome};
 ghost use Rattle.keep_core.specs.Fits.{FitsSite, FitsPage, FitsHeads, FitNames};
-ghost use Rattle.keep_sql.specs.Reading.{kept_in, names_in, site_in, page_in, heads_in, judgements_in, outcomes_in, ReadsStore, OnlyReads};
+ghost use Rattle.keep_sql.specs.Reading.{kept_in, names_in, site_in, memberships_in, page_in, heads_in, judgements_in, outcomes_in, ReadsStore, OnlyReads};
 
 use crate::reads;
 use judge_core::{Judgement, Outcomes};
-use keep_core::{Page, PageHead, Site};
+use keep_core::{Membership, Page, PageHead, Site};
 use snap_tree::{List, Text};
 use sqlite::{Alter, Connection};
 use std::alloc::Global;
@@ -52,6 +52,21 @@ pub fn read_site<S: Alter>(
     let _idle = conn.is_autocommit();
     let mut tx = conn.transaction();
     reads::site_in(alloc, &mut tx, site)
+}
+
+/// The sites of which a user is a member, with the role in each, in byte order of their names.
+pub fn read_memberships<S: Alter>(
+    alloc: Global,
+    conn: &mut Connection<S>,
+    user: &Text,
+) -> Result<List<Membership>, StoreFault>
+    requires idle { conn.old.in_transaction ≡ false }
+    ensures only { OnlyReads S.Store conn.old conn.new }
+    ensures reads { ReadsStore S.Store (memberships_in user.now) conn.old conn.new result }
+{
+    let _idle = conn.is_autocommit();
+    let mut tx = conn.transaction();
+    reads::memberships_in(alloc, &mut tx, user)
 }
 
 /// A page of a site; None where there is none.

@@ -3,7 +3,7 @@
 ghost use Rattle.std.specs.Prelude.{◌≡◌, ◌≢◌, ◌≤◌, false, Ok as ok, None, Some, IfOk, IfSome, IsSome, OnOk};
 ghost use Rattle.counts.specs.Counts.{Rose};
 ghost use Rattle.keep_core.specs.declared.fault.KeepFault.TheVariants as keep;
-ghost use Rattle.keep_core.specs.Tables.{edition_of, sites_of, site_of, page_of, heads_of, judgements_of, outcomes_of};
+ghost use Rattle.keep_core.specs.Tables.{edition_of, sites_of, site_of, memberships_of, page_of, heads_of, judgements_of, outcomes_of};
 ghost use Rattle.keep_core.specs.Fits.{Fits, FitsSite, FitsPage, FitsHeads, FitNames, IsThere};
 ghost use Rattle.keep_core.specs.Keeping.{Reads, Makes, CountsFaults};
 ghost use Rattle.keep_sql.specs.declared.keeper.Prepared.TheVariants as prepared;
@@ -11,13 +11,14 @@ ghost use Rattle.keep_sql.specs.Preparing.{is_taken};
 ghost use Rattle.keep_sql.specs.Keeper.{tables as told_tables, WaitsFailing, Across, Between, LeavesAll, LeavesChange, LeavesTables, LeavesPrepared, IsSettled, IsNoted, IsToldOf, FoundEdition, StaysStored, GivesBack, AreWell, first_of, held};
 
 use crate::calls::{
-    read_edition, read_heads, read_judgements, read_names, read_outcomes, read_page, read_site,
+    read_edition, read_heads, read_judgements, read_memberships, read_names, read_outcomes,
+    read_page, read_site,
 };
 use crate::known::Known;
 use crate::{changes, preparing};
 use counts::next;
 use judge_core::{Judgement, Outcomes};
-use keep_core::{Batch, KeepFault, Keeper, Page, PageHead, Site};
+use keep_core::{Batch, KeepFault, Keeper, Membership, Page, PageHead, Site};
 use snap_tree::{List, Text};
 use sqlite::{Alter, Connection};
 use std::alloc::Global;
@@ -240,6 +241,22 @@ impl<S: Alter> Keeper for SqlKeeper<S> {
         };
         match read_site(alloc, conn, site) {
             Ok(found) => Ok(found),
+            Err(fault) => Err(fault_of(fault, &mut self.faults)),
+        }
+    }
+
+    fn memberships(&mut self, alloc: Global, user: &Text) -> Result<List<Membership>, KeepFault>
+        ensures reads { Reads (memberships_of user.now) (told_tables S.Store self.old) (told_tables S.Store self.new) result }
+        ensures faults { CountsFaults self.old.faults self.new.faults result }
+        ensures waits { WaitsFailing self.old self.new result }
+        ensures crash { Across S.Store LeavesAll self.old.ready self.new.ready }
+    {
+        self.known = None;
+        let Some(conn) = &mut self.ready else {
+            return Err(refused(&mut self.faults));
+        };
+        match read_memberships(alloc, conn, user) {
+            Ok(memberships) => Ok(memberships),
             Err(fault) => Err(fault_of(fault, &mut self.faults)),
         }
     }

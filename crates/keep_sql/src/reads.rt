@@ -4,17 +4,17 @@
 ghost use Rattle.std.specs.Prelude.{IfOk, IfSome};
 ghost use Rattle.sql_rows.specs.Inside.{Steps};
 ghost use Rattle.keep_core.specs.Fits.{FitsSite, FitsPage, FitsHeads, FitNames};
-ghost use Rattle.keep_sql.specs.Reading.{kept_in, names_in, site_in, page_in, heads_in, judgements_in, outcomes_in, ReadsInside, LeavesInside};
+ghost use Rattle.keep_sql.specs.Reading.{kept_in, names_in, site_in, memberships_in, page_in, heads_in, judgements_in, outcomes_in, ReadsInside, LeavesInside};
 
 use crate::fitting;
 use judge_core::{Judgement, Outcomes};
-use keep_core::{Page, PageHead, Site};
+use keep_core::{Membership, Page, PageHead, Site};
 use snap_tree::{List, Text};
 use sqlite::{Alter, Transaction};
 use std::alloc::Global;
 use store_statements::{
     edition_rows, heads, page_judgements, page_outcomes, page_row, site_languages, site_members,
-    site_names, site_row,
+    site_names, site_row, user_sites,
 };
 use store_tables::{Memo, StoreFault};
 
@@ -63,6 +63,20 @@ pub fn site_in<S: Alter>(
         members.as_slice(),
         languages.as_slice(),
     )
+}
+
+/// The sites of which a user is a member, with the role in each, in byte order of their names.
+pub fn memberships_in<S: Alter>(
+    alloc: Global,
+    tx: &mut Transaction<'_, S>,
+    user: &Text,
+) -> Result<List<Membership>, StoreFault>
+    ensures steps { Steps S.Store tx.old.conn tx.new.conn result }
+    ensures reads { ReadsInside S.Store (memberships_in user.now) tx.old.conn tx.new.conn result }
+    ensures same { LeavesInside S.Store tx.old.conn tx.new.conn result }
+{
+    let rows = user_sites(tx, user.as_str())?;
+    store_tables::read_memberships(alloc, rows.as_slice())
 }
 
 /// A page of a site; None where there is none.

@@ -1,4 +1,5 @@
 pub mod StoreLemmas
+pub mod SecondNames
 pub mod SiteTexts
 pub mod MemberTexts
 pub mod PageTexts

@@ -15,9 +15,10 @@ use Rattle.sql_rows.proofs.Canon.{name_same}
 use Rattle.sql_rows.proofs.Reading.{shows_group}
 use Rattle.sql_rows.proofs.Writing.{puts_more, drops}
 use Rattle.store_statements.specs.Schema.{the_schema, key_index, members_table}
-use Rattle.store_statements.specs.Stored.{stored, members_at}
+use Rattle.store_statements.specs.Stored.{stored, members_at, memberships_at}
 use Rattle.store_statements.specs.Changes.{IsReady, Makes, DropsMembers, AddsMember}
 use Rattle.store_statements.proofs.StoreLemmas.{made_members}
+use Rattle.store_statements.proofs.SecondNames.{shows_second}
 
 abbrev kinds : List KeyKind
 kinds = text ∷ text ∷ []
@@ -46,6 +47,17 @@ site_members_is site = (refl, refl)
 site_members_plain : IsPlain (understood the_schema site_members_text)
 unfolding understood everything
 site_members_plain = (refl, refl)
+
+abbrev user_sites_text : List ℕ
+user_sites_text = codes "SELECT site, role FROM members WHERE user = ?1 ORDER BY site"
+
+user_sites_is : (user : List ℕ) → (command_of (understood the_schema user_sites_text) ≡ Select (record { lets = []; body = simple 2 (wheres 2 0 (user ∷ [])) (shows (0 ∷ 2 ∷ [])) (sorts 1 (text ∷ [])) }) (codes "site" ∷ codes "role" ∷ [])) × (reads_listing the_schema user_sites_text ≡ false)
+unfolding understood everything
+user_sites_is user = (refl, refl)
+
+user_sites_plain : IsPlain (understood the_schema user_sites_text)
+unfolding understood everything
+user_sites_plain = (refl, refl)
 
 abbrev drop_members_text : List ℕ
 drop_members_text = codes "DELETE FROM members WHERE site = ?1"
@@ -76,6 +88,10 @@ module _ (old new : State) (ready : IsReady old) where
   pub shows_site_members : (site : List ℕ) → (rows : List Row) → Shown site_members_text (Text site ∷ []) old new rows → (rows ≡ members_at site (stored old.now.trees)) × IsUnchanged old new
   shows_site_members site rows h =
       shows_group the_schema members_table kinds keyed old new ready.store site_members_text (codes "user" ∷ codes "role" ∷ []) (Text site ∷ []) site_members_plain (site_members_is site).1 refl rows (site ∷ []) (1 ∷ 2 ∷ []) tt (refl, tt) (refl, tt) (site_members_is site).0 h
+
+  pub shows_user_sites : (user : List ℕ) → (rows : List Row) → Shown user_sites_text (Text user ∷ []) old new rows → (rows ≡ memberships_at user (stored old.now.trees)) × IsUnchanged old new
+  shows_user_sites user rows h =
+      shows_second the_schema members_table keyed old new ready.store user_sites_text (codes "site" ∷ codes "role" ∷ []) (Text user ∷ []) user_sites_plain (user_sites_is user).1 refl rows user (0 ∷ 2 ∷ []) (refl, tt) (user_sites_is user).0 h
 
   pub drops_members : (site : List ℕ) → (count : ℕ) → ExecutesInside 0 drop_members_text (Text site ∷ []) old new (Ok count) → Makes (DropsMembers site) old new
   drops_members site count h =

@@ -1,10 +1,11 @@
 -- What the store's tables hold: the rows of each, without their rowids.
-use Rattle.std.specs.Prelude.{ℕ, List, [], ◌∷◌, map, option_map}
+use Rattle.std.specs.Prelude.{ℕ, List, [], ◌∷◌, map, filter, option_map}
 use Rattle.std.specs.Option.{option_to_list}
 use Rattle.sqlite_value.specs.Order.{Row, column}
 use Rattle.sqlite_trees.specs.Tree.{Trees}
 use Rattle.named_rows.specs.ByName.{at}
-use Rattle.sql_rows.specs.Tables.{kept, name_at, rows_of}
+use Rattle.sql_rows.specs.InOrder.{in_order}
+use Rattle.sql_rows.specs.Tables.{kept, name_at, leads, rows_of}
 
 pub record Stored : Type 0 where
   pub sites : List Row
@@ -25,6 +26,10 @@ sites_in s = rows_of [] s.sites
 
 abbrev pub members_of : List ℕ → Stored → List Row
 members_of site s = rows_of (site ∷ []) s.members
+
+-- those of a user, in order of their sites
+abbrev pub memberships_of : List ℕ → Stored → List Row
+memberships_of user s = in_order (name_at 0) (filter (leads 1 (user ∷ [])) s.members)
 
 abbrev pub pages_of : List ℕ → Stored → List Row
 pages_of site s = rows_of (site ∷ []) s.pages
@@ -54,6 +59,10 @@ site_at site s = option_to_list (option_map (λ r. column r 1 ∷ []) (at (name_
 -- each member's user and role
 abbrev pub members_at : List ℕ → Stored → List Row
 members_at site s = map (λ r. column r 1 ∷ column r 2 ∷ []) (members_of site s)
+
+-- each site of which the user is a member, and the role there
+abbrev pub memberships_at : List ℕ → Stored → List Row
+memberships_at user s = map (λ r. column r 0 ∷ column r 2 ∷ []) (memberships_of user s)
 
 -- the page's revision, hand and snapshot, or no row
 abbrev pub page_at : List ℕ → List ℕ → Stored → List Row

@@ -22,7 +22,7 @@ pub use judgements::{
 };
 pub use languages::{add_language, drop_languages, make_languages, site_languages};
 pub use making::{make_last, make_tables};
-pub use members::{add_member, drop_members, make_members, site_members};
+pub use members::{add_member, drop_members, make_members, site_members, user_sites};
 pub use opening::reopen;
 pub use ours::{is_older, is_ours};
 pub use outcomes::{OutcomeRow, drop_outcomes, make_outcomes, page_outcomes, put_outcome};

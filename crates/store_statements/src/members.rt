@@ -3,7 +3,7 @@
 ghost use Rattle.std.specs.Prelude.{◌≡◌, IsTrue};
 ghost use Rattle.sql_rows.specs.Inside.{Steps};
 ghost use Rattle.store_statements.specs.Schema.{key_index, members_table};
-ghost use Rattle.store_statements.specs.Stored.{members_at};
+ghost use Rattle.store_statements.specs.Stored.{members_at, memberships_at};
 ghost use Rattle.store_statements.specs.Changes.{ShowsInside, MakesInside, DropsMembers, AddsMember};
 ghost use Rattle.store_statements.specs.Making.{MakesTableInside};
 
@@ -62,6 +62,21 @@ pub fn site_members<S: Alter>(tx: &mut Transaction<'_, S>, site: &str) -> Result
     tx.query_all(
         "SELECT user, role FROM members WHERE site = ?1 ORDER BY site, user",
         params![site],
+    )
+}
+
+/// The sites of which a user is a member, with the role in each, in byte order of the sites.
+///
+/// # Errors
+///
+/// Those of a query of `sqlite`.
+pub fn user_sites<S: Alter>(tx: &mut Transaction<'_, S>, user: &str) -> Result<Vec<Row>, Error>
+    ensures steps { Steps S.Store tx.old.conn tx.new.conn result }
+    ensures shown { ShowsInside S.Store (λ rows s. rows.items ≡ memberships_at user.now s) tx.old.conn tx.new.conn result }
+{
+    tx.query_all(
+        "SELECT site, role FROM members WHERE user = ?1 ORDER BY site",
+        params![user],
     )
 }
 

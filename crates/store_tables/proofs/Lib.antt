@@ -41,3 +41,4 @@ pub mod RefreshedForth
 pub mod LanguageRows
 pub mod Relisted
 pub mod RelistedForth
+pub mod Memberships

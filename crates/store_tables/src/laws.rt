@@ -3,11 +3,12 @@ ghost use Rattle.keep_core.specs.declared.change.Change.{Change};
 ghost use Rattle.keep_core.specs.Fits.{Fits};
 ghost use Rattle.keep_core.specs.Changes.{changed};
 ghost use Rattle.keep_core.specs.declared.tables.Tables.{Tables};
-ghost use Rattle.keep_core.specs.Tables.{edition_of, sites_of, site_of, page_of, heads_of, judgements_of, outcomes_of};
-ghost use Rattle.store_statements.specs.Stored.{Stored, editions_at, names_at, site_at, members_at, page_at, heads_at, judgements_at, outcomes_at, languages_at};
+ghost use Rattle.keep_core.specs.Tables.{edition_of, sites_of, site_of, memberships_of, page_of, heads_of, judgements_of, outcomes_of};
+ghost use Rattle.store_statements.specs.Stored.{Stored, editions_at, names_at, site_at, members_at, memberships_at, page_at, heads_at, judgements_at, outcomes_at, languages_at};
 ghost use Rattle.store_tables.specs.Batches.{Applies};
 ghost use Rattle.store_tables.specs.Numbers.{IsNumbered};
 ghost use Rattle.store_tables.specs.Editions.{kept_edition};
+ghost use Rattle.store_tables.specs.Members.{memberships_shown};
 ghost use Rattle.store_tables.specs.Sites.{site_shown, names_shown};
 ghost use Rattle.store_tables.specs.Pages.{page_shown, heads_shown};
 ghost use Rattle.store_tables.specs.Judgements.{judgements_shown};
@@ -17,12 +18,15 @@ ghost use Rattle.store_tables.specs.Told.{tables_in};
 /// Laws of reading. It does nothing: the clauses are what it is for.
 ///
 /// Where stored rows tell tables, what the reading texts show of the rows reads, and it reads as what the tables have: the
-/// edition, the names of the sites, a site with its members and its languages, a page, the heads of a site's pages, and a page's judgements and outcomes.
+/// edition, the names of the sites, a site with its members and its languages, the sites of which a user is a member, a page, the heads of a site's
+/// pages, and a page's judgements and outcomes.
 pub fn laws_of_reading()
     ensures edition { (s : Stored) (t : Tables) → tables_in s ≡ Some t → kept_edition (editions_at s) ≡ Some (edition_of t) }
     ensures names { (s : Stored) (t : Tables) → tables_in s ≡ Some t → names_shown (names_at s) ≡ Some (sites_of t) }
     ensures site { (s : Stored) (t : Tables) → tables_in s ≡ Some t → (site : List ℕ)
         → site_shown site (site_at site s) (members_at site s) (languages_at site s) ≡ Some (site_of site t) }
+    ensures memberships { (s : Stored) (t : Tables) → tables_in s ≡ Some t → (user : List ℕ)
+        → memberships_shown (memberships_at user s) ≡ Some (memberships_of user t) }
     ensures page { (s : Stored) (t : Tables) → tables_in s ≡ Some t → (site page : List ℕ)
         → page_shown page (page_at site page s) ≡ Some (page_of site page t) }
     ensures heads { (s : Stored) (t : Tables) → tables_in s ≡ Some t → (site : List ℕ)

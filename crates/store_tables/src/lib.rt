@@ -24,7 +24,7 @@ pub use fault::StoreFault;
 pub use judgements::{judgement_row, read_judgements};
 pub use languages::read_languages;
 pub use laws::{laws_of_changes, laws_of_reading};
-pub use members::{read_members, role_number};
+pub use members::{read_members, read_memberships, role_number};
 pub use memo::Memo;
 pub use numbers::see_numbers;
 pub use outcomes::{outcome_row, read_outcomes};

@@ -5,11 +5,11 @@ ghost use Rattle.sqlite_value.specs.Order.{column};
 ghost use Rattle.keep_core.specs.Names.{is_name};
 ghost use Rattle.store_tables.specs.Reading.{read_each};
 ghost use Rattle.store_tables.specs.Cells.{role_in, role_number};
-ghost use Rattle.store_tables.specs.Members.{member_from};
+ghost use Rattle.store_tables.specs.Members.{member_from, membership_from, memberships_shown};
 
 use crate::cells;
 use crate::fault::StoreFault;
-use keep_core::{Member, MemberRole};
+use keep_core::{Member, MemberRole, Membership};
 use snap_tree::List;
 use sqlite::Row;
 use std::alloc::Global;
@@ -58,4 +58,24 @@ pub fn read_members(alloc: Global, rows: &[Row]) -> Result<List<Member>, StoreFa
         members.push(member(row)?)?;
     }
     Ok(List::from_vec(members))
+}
+
+#[tactic(auto, unfolding(crate::specs::Members::membership_from))]
+fn membership(row: &Row) -> Result<Membership, StoreFault>
+    ensures { IfOk result (λ m. membership_from row.now ≡ Some m) }
+{
+    let site = cells::name(row, 0)?;
+    let role = role(row, 1)?;
+    Ok(Membership { site, role })
+}
+
+/// The sites of which a user is a member, with the role in each.
+pub fn read_memberships(alloc: Global, rows: &[Row]) -> Result<List<Membership>, StoreFault>
+    ensures { IfOk result (λ ms. memberships_shown rows.now ≡ Some ms) }
+{
+    let mut memberships = Vec::new(alloc);
+    for row in rows {
+        memberships.push(membership(row)?)?;
+    }
+    Ok(List::from_vec(memberships))
 }

@@ -1,7 +1,7 @@
 //! A keeper that ceases to tell what it keeps, and notes its calls.
 
 use judge_core::{Judgement, Outcomes};
-use keep_core::{Batch, KeepFault, Keeper, MemoryKeeper, Page, PageHead, Site};
+use keep_core::{Batch, KeepFault, Keeper, Membership, MemoryKeeper, Page, PageHead, Site};
 use snap_tree::{List, Text};
 use std::alloc::Global;
 
@@ -11,6 +11,7 @@ pub enum Call {
     Edition,
     Sites,
     Site,
+    Memberships,
     Load,
     List,
     Judgements,
@@ -45,6 +46,7 @@ pub fn trail_with(trail: u64, call: Call) -> u64 {
         Call::Apply => 6,
         Call::Edition => 7,
         Call::Sites => 8,
+        Call::Memberships => 9,
     };
     trail.wrapping_mul(16).wrapping_add(digit)
 }
@@ -99,6 +101,11 @@ impl Keeper for Doubtful {
     fn site(&mut self, alloc: Global, site: &Text) -> Result<Option<Site>, KeepFault> {
         self.noted = self.noted.and(Call::Site);
         self.memory.site(alloc, site)
+    }
+
+    fn memberships(&mut self, alloc: Global, user: &Text) -> Result<List<Membership>, KeepFault> {
+        self.noted = self.noted.and(Call::Memberships);
+        self.memory.memberships(alloc, user)
     }
 
     fn load(&mut self, alloc: Global, site: &Text, page: &Text) -> Result<Option<Page>, KeepFault> {

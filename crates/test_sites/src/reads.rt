@@ -34,9 +34,11 @@ const LOADS: &[Call] = &[Call::Site, Call::Load];
 
 const SHOWS: &[Call] = &[Call::Site, Call::Load, Call::Outcomes];
 
+const TELLS: &[Call] = &[Call::Site, Call::Load, Call::Judgements, Call::Outcomes];
+
 const SHOWS_SITE: &[Call] = &[Call::Site, Call::List, Call::Load, Call::Outcomes];
 
-static READINGS: [Reading; 16] = [
+static READINGS: [Reading; 19] = [
     ("ann", "PUT /sites/acme", CHANGES_MEMBERS),
     (
         "ann",
@@ -71,6 +73,9 @@ static READINGS: [Reading; 16] = [
     ("bob", "GET /sites/acme/report", SHOWS_SITE),
     ("bob", "GET /sites/acme/earl", SHOWS_SITE),
     ("bob", "GET /sites/acme/csv", SHOWS_SITE),
+    ("bob", "GET /sites/acme/pages/home/verdicts", TELLS),
+    ("bob", "GET /sites/acme/members", &[Call::Site]),
+    ("bob", "GET /memberships", &[Call::Memberships]),
     (
         "ann",
         "PUT /sites/acme/languages\n{\"languages\":[\"gsw\"]}",

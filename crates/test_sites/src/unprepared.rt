@@ -13,12 +13,12 @@ use sqlite::Alter;
 use std::alloc::Global;
 use std::test::Fail;
 
-// Which of the calls that read fail, of the site acme and its page home: the five that name these, and the two that don't.
-type Failing = [bool; 7];
+// Which of the calls that read fail, of the site acme, its page home and the user ann: the five that name a site, and the three that don't.
+type Failing = [bool; 8];
 
-const ALL: Failing = [true; 7];
+const ALL: Failing = [true; 8];
 
-const NONE: Failing = [false; 7];
+const NONE: Failing = [false; 8];
 
 fn drop_home(alloc: Global) -> Result<Change, Fail>
     ensures { IfOk result Fits }
@@ -44,7 +44,8 @@ fn all_fail<S: Alter>(
 ) -> Result<bool, Fail> {
     let site = Text::from_str(alloc, "acme")?;
     let page = Text::from_str(alloc, "home")?;
-    let fails = failing_reads(alloc, keeper, &site, &page);
+    let user = Text::from_str(alloc, "ann")?;
+    let fails = failing_reads(alloc, keeper, &site, &page, &user);
     Ok(fails == wanted && fails_to_drop(alloc, keeper)? == drops)
 }
 

@@ -12,9 +12,9 @@ fn numbers(alloc: Global, numbers: &[u64]) -> Result<List<u64>, Fail> {
 }
 
 // Which of the reading calls fail, made one after another.
-fn failing<K: Keeper + Drop>(alloc: Global, mut keeper: K) -> Result<[bool; 7], Fail> {
+fn failing<K: Keeper + Drop>(alloc: Global, mut keeper: K) -> Result<[bool; 8], Fail> {
     let name = Text::from_str(alloc, "a")?;
-    Ok(failing_reads(alloc, &mut keeper, &name, &name))
+    Ok(failing_reads(alloc, &mut keeper, &name, &name, &name))
 }
 
 // The first call fails by the outer list and isn't passed on, so the inner keeper's second call is the third, and its fourth
@@ -25,7 +25,7 @@ fn a_call_that_the_list_names_is_not_passed_on(rt: HostRuntime) -> Result<(), Fa
     let keeper = FailingKeeper::new(inner, numbers(rt.alloc(), &[1, 5, 7])?);
     assert_eq!(rt;
         failing(rt.alloc(), keeper)?,
-        [true, false, true, false, true, true, true]
+        [true, false, true, false, true, true, true, false]
     );
     Ok(())
 }

@@ -7,7 +7,7 @@ use store_statements::{
     JudgementRow, OutcomeRow, add_edition, add_judgement, add_language, add_member, drop_editions,
     drop_judgements, drop_languages, drop_members, drop_outcomes, drop_page, edition_rows, heads,
     make_tables, page_judgements, page_outcomes, page_row, put_outcome, put_page, put_site,
-    site_languages, site_members, site_names, site_row,
+    site_languages, site_members, site_names, site_row, user_sites,
 };
 
 fn opened(alloc: Global) -> Result<Connection<FileStore<Memory>>, Error> {
@@ -40,13 +40,15 @@ enum Write {
 }
 
 // One after another. Sites, pages and an outcome are put again, and groups are dropped beside others that stay.
-static WRITES: [Write; 30] = [
+static WRITES: [Write; 32] = [
     Write::Site("acme", 1),
     Write::Site("zeta", 5),
     Write::Site("acme", 2),
     Write::Member("acme", "kim", 3),
     Write::Member("zeta", "eve", 1),
     Write::NoMembers("zeta"),
+    Write::Member("zeta", "ann", 2),
+    Write::Member("acm", "ann", 1),
     Write::Member("acme", "eve", 0),
     Write::Edition(7),
     Write::NoEditions,
@@ -79,6 +81,7 @@ enum Read {
     Site(&'static str),
     Sites,
     Members(&'static str),
+    Memberships(&'static str),
     Languages(&'static str),
     Editions,
     Heads(&'static str),
@@ -88,12 +91,14 @@ enum Read {
 }
 
 // What is shown after them: numbers in digits, texts as they are and blobs as their lengths.
-static SHOWN: [(Read, &str); 15] = [
+static SHOWN: [(Read, &str); 17] = [
     (Read::Site("acme"), "2|;"),
     (Read::Site("acm"), ""),
     (Read::Sites, "acme|;zeta|;"),
     (Read::Members("acme"), "eve|0|;kim|3|;"),
-    (Read::Members("zeta"), ""),
+    (Read::Members("zeta"), "ann|2|;"),
+    (Read::Memberships("ann"), "acm|1|;zeta|2|;"),
+    (Read::Memberships("acme"), ""),
     (Read::Languages("acme"), "1|nds|;2|gsw|;"),
     (Read::Languages("zeta"), ""),
     (Read::Editions, "-1|;3|;"),
@@ -162,6 +167,7 @@ fn rows<S: Alter>(tx: &mut Transaction<'_, S>, read: Read) -> Result<Vec<Row>, E
         Read::Site(site) => site_row(tx, site),
         Read::Sites => site_names(tx),
         Read::Members(site) => site_members(tx, site),
+        Read::Memberships(user) => user_sites(tx, user),
         Read::Languages(site) => site_languages(tx, site),
         Read::Editions => edition_rows(tx),
         Read::Heads(site) => heads(tx, site),

@@ -109,3 +109,12 @@ returns-in-SiteEarl-clause-decided g c = decides_at c.in-SiteEarl.is (c.get_shee
 
 pub returns-in-SiteCsv-clause-decided : goal.returns-in-SiteCsv-clause-decided
 returns-in-SiteCsv-clause-decided g c = decides_at c.in-SiteCsv.is (c.get_sheet-in-SiteCsv.ensures _)
+
+pub returns-in-GetVerdicts-clause-decided : goal.returns-in-GetVerdicts-clause-decided
+returns-in-GetVerdicts-clause-decided g c = decides_at c.in-GetVerdicts.is (c.get_verdicts.ensures _)
+
+pub returns-in-GetMembers-clause-decided : goal.returns-in-GetMembers-clause-decided
+returns-in-GetMembers-clause-decided g c = decides_at c.in-GetMembers.is (c.get_members.ensures _)
+
+pub returns-in-GetMemberships-clause-decided : goal.returns-in-GetMemberships-clause-decided
+returns-in-GetMemberships-clause-decided g c = decides_at c.in-GetMemberships.is (c.get_memberships.ensures _)

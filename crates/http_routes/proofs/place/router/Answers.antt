@@ -18,4 +18,7 @@ returns c =
     let r12 = rw r11.1 at c.in_ok-insert-12.ensures in
     let r13 = rw r12.1 at c.in_ok-insert-13.ensures in
     let r14 = rw r13.1 at c.in_ok-insert-14.ensures in
-    r14.1
+    let r15 = rw r14.1 at c.in_ok-insert-15.ensures in
+    let r16 = rw r15.1 at c.in_ok-insert-16.ensures in
+    let r17 = rw r16.1 at c.in_ok-insert-17.ensures in
+    r17.1

@@ -1,0 +1,2 @@
+pub mod LatestPlaces
+pub mod MarkSteps
