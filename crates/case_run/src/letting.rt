@@ -14,6 +14,9 @@ use rule_core::RuleInfo;
 use std::alloc::Global;
 use std::thread::{Threads, join};
 
+// How many bytes of memory a byte of a list takes at the most, or nearly: where its pages are small elements alone.
+const ROOM: usize = 16;
+
 /// The cases that texts are, each by itself, in their order. At most so many threads read them: a new one reads its share, and
 /// this thread shares the others out.
 #[cycle(sharing)]
@@ -61,6 +64,7 @@ fn joined(
 fn read_in_turn(alloc: Global, infos: &[RuleInfo], parts: &[&[u8]]) -> Result<Vec<Case>, CasesFault>
     ensures { IfOk result (λ cases. AreAlone infos.now parts.now cases.items) }
 {
+    take_room(alloc, bytes_in(parts).saturating_mul(ROOM));
     let mut cases = Vec::with_capacity(alloc, parts.len())?;
     for part in parts {
         match read_alone(alloc, infos, part) {
@@ -69,6 +73,24 @@ fn read_in_turn(alloc: Global, infos: &[RuleInfo], parts: &[&[u8]]) -> Result<Ve
         }
     }
     Ok(cases)
+}
+
+// Has this thread's memory grow by so many bytes at once. The C library has it grow by a page at a time, and for each the system
+// holds up all threads that ask it for memory. What was taken and given back stays the thread's; where the first block is too
+// large for that and comes from the system, the second isn't.
+fn take_room(alloc: Global, bytes: usize) {
+    for _ in 0..2 {
+        let _room = Vec::<u8>::with_capacity(alloc, bytes);
+    }
+}
+
+// How many bytes texts have.
+fn bytes_in(parts: &[&[u8]]) -> usize {
+    let mut bytes = 0usize;
+    for part in parts {
+        bytes = bytes.saturating_add(part.len());
+    }
+    bytes
 }
 
 // The case that a text is by itself.

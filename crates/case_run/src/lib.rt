@@ -14,6 +14,7 @@
 mod apart;
 mod case;
 mod fault;
+mod going;
 mod grading;
 mod letting;
 mod limits;
@@ -25,6 +26,7 @@ mod running;
 
 pub use case::{Case, Expected};
 pub use fault::{CaseField, CasesFault, cases_line};
+pub use going::let_go;
 pub use grading::{Actual, Grade, Graded, has_wrong};
 pub use limits::{MOST_CASES, MOST_CASES_BYTES, laws_of_limits};
 pub use lines::case_table;

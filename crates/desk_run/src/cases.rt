@@ -1,4 +1,4 @@
-ghost use Rattle.std.specs.Prelude.{◌≡◌, ◌<◌, ◌+◌, ◌≤◌, length, map, sum, IfOk};
+ghost use Rattle.std.specs.Prelude.{◌≡◌, ℕ, ◌<◌, ◌+◌, ◌≤◌, List, length, map, sum, Ok, IfOk};
 ghost use Rattle.streams.specs.Streams.{ReadsAtMost};
 ghost use Rattle.audit_run.specs.declared.auditing.TheConstants.{MOST_READ};
 ghost use Rattle.audit_run.specs.Telling.{status_of, writing_of};
@@ -6,7 +6,9 @@ ghost use Rattle.case_run.specs.Grades.{cases_judgings};
 ghost use Rattle.desk_run.specs.Cases.{cases_by, table_of, finds_wrong, read_judgings, IsFoundIn, CasesCause};
 
 use audit_run::{Found, MOST_READ};
-use case_run::{Case, CasesFault, case_table, cases_line, has_wrong, read_cases, run_cases};
+use case_run::{
+    Case, CasesFault, case_table, cases_line, has_wrong, let_go, read_cases, run_cases,
+};
 use judge_core::infos_of;
 use rule_core::{RuleBook, RuleInfo};
 use snap_tree::{List, OutOfMemory};
@@ -69,15 +71,35 @@ fn found_by<R: Threads + Sync, B: RuleBook + Send>(
         ≤ sum (map B.calls books.old) + read_judgings B.book (cases_by B.book bytes.now) }
 {
     match read_cases(rt, alloc, books.len(), infos, bytes) {
-        Ok(cases) => match tabled(rt, alloc, infos, cases.as_slice(), books) {
-            Ok((output, failed)) => Found::Finished { output, failed },
-            Err(OutOfMemory) => Found::NoMemory,
-        },
+        Ok(cases) => {
+            let found = found_of(rt, alloc, infos, cases.as_slice(), books);
+            let_go(rt, books.len(), cases);
+            found
+        }
         Err(CasesFault::OutOfMemory) => Found::NoMemory,
         Err(fault) => match cases_line(alloc, fault) {
             Ok(line) => Found::NotSnapshot { line },
             Err(OutOfMemory) => Found::NoMemory,
         },
+    }
+}
+
+// What is found in bytes that are these cases.
+fn found_of<R: Threads + Sync, B: RuleBook + Send>(
+    rt: &R,
+    alloc: Global,
+    infos: &[RuleInfo],
+    cases: &[Case],
+    books: &mut [B],
+) -> Found
+    requires some { 0 < length books.old }
+    requires infos { infos.now ≡ B.book.infos }
+    ensures found { (bytes : List ℕ) → cases_by B.book bytes ≡ Ok cases.now → IsFoundIn B.book bytes result }
+    ensures counted { sum (map B.calls books.new) ≤ sum (map B.calls books.old) + cases_judgings B.book cases.now }
+{
+    match tabled(rt, alloc, infos, cases, books) {
+        Ok((output, failed)) => Found::Finished { output, failed },
+        Err(OutOfMemory) => Found::NoMemory,
     }
 }
 
