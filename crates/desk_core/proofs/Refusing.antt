@@ -210,6 +210,7 @@ module _ (book : Book) (t : Tables) (sound : IsSound book t) (caller : List ℕ)
       edit_refused site page k is (page_put book page (k.site.counter + 1) caller (with_langs (with_trees p.page.tree new) k.site.languages) p.judgements) refl refl rev
       (ap (λ r. rev == r) (rev_found k.site.languages page k.pages p found) ∙ was) allows edits)))
   refused_by (command.Judge site page rule node verdict seen note) once parts = absurd once
+  refused_by (command.TakeEarl site page claims) once parts = absurd once
   refused_by (command.GetPage site page) once parts = absurd once
   refused_by (command.GetOutcomes site page) once parts = absurd once
   refused_by (command.GetReport site page) once parts = absurd once

@@ -5,4 +5,5 @@ pub mod RevisionFits
 pub mod EntryFits
 pub mod LanguageFits
 pub mod OpinionFits
+pub mod ClaimFits
 pub mod RequestFits

@@ -15,6 +15,7 @@ use Rattle.http_commands.specs.Languages.{languages_in}
 use Rattle.http_commands.specs.Entries.{entries_in}
 use Rattle.http_commands.specs.EditLists.{edits_in}
 use Rattle.http_commands.specs.Judging.{opinion_in}
+use Rattle.http_commands.specs.Claims.{claims_in}
 
 abbrev pub put_member : List ℕ → List ℕ → List ℕ → Result Command RequestFault
 put_member body site user = do
@@ -59,6 +60,12 @@ judge infos body site page = do
   o ← opinion_in infos d
   Ok (command.Judge site page o.rule o.node o.verdict o.digest o.note)
 
+abbrev pub take_earl : List RuleInfo → List ℕ → List ℕ → List ℕ → Result Command RequestFault
+take_earl infos body site page = do
+  d ← json_in body
+  claims ← claims_in infos d
+  Ok (command.TakeEarl site page claims)
+
 -- the command of a route of the desk whose book has these rules
 abbrev pub command_of : List RuleInfo → Head → List ℕ → Route → Result Command RequestFault
 command_of infos h body (route.PutSite site) = Ok (command.PutSite site)
@@ -70,6 +77,7 @@ command_of infos h body (route.DropPage site page) = drop_page h site page
 command_of infos h body (route.Import site) = import body site
 command_of infos h body (route.EditPage site page) = edit_page h body site page
 command_of infos h body (route.Judge site page) = judge infos body site page
+command_of infos h body (route.TakeEarl site page) = take_earl infos body site page
 command_of infos h body (route.GetOutcomes site page) = Ok (command.GetOutcomes site page)
 command_of infos h body (route.GetReport site page) = Ok (command.GetReport site page)
 command_of infos h body (route.GetEarl site page) = Ok (command.GetEarl site page)

@@ -1,8 +1,9 @@
 ghost use Rattle.std.specs.Prelude.{IfOk};
 ghost use Rattle.http_commands.specs.Shapes.{Gives};
-ghost use Rattle.http_commands.specs.Commands.{put_member, put_languages, put_page, drop_page, import, edit_page, judge, command_of};
+ghost use Rattle.http_commands.specs.Commands.{put_member, put_languages, put_page, drop_page, import, edit_page, judge, take_earl, command_of};
 ghost use Rattle.http_commands.specs.Fitting.{IsWeb};
 
+use crate::claims::claims_in;
 use crate::edits::edits_in;
 use crate::entries::entries_in;
 use crate::judging::{Opinion, opinion_in};
@@ -39,6 +40,7 @@ pub(crate) fn command_of<B: RuleBook>(
         Route::Import { site } => import(alloc, body, site),
         Route::EditPage { site, page } => edit_page(alloc, head, body, site, page),
         Route::Judge { site, page } => judge(alloc, book, body, site, page),
+        Route::TakeEarl { site, page } => take_earl(alloc, book, body, site, page),
         Route::GetOutcomes { site, page } => Ok(Command::GetOutcomes { site, page }),
         Route::GetReport { site, page } => Ok(Command::GetReport { site, page }),
         Route::GetEarl { site, page } => Ok(Command::GetEarl { site, page }),
@@ -156,4 +158,19 @@ fn judge<B: RuleBook>(
         digest,
         note,
     })
+}
+
+fn take_earl<B: RuleBook>(
+    alloc: Global,
+    book: &B,
+    body: &[u8],
+    site: Text,
+    page: Text,
+) -> Result<Command, Unasked>
+    ensures exact { Gives result (take_earl B.book.infos body.now site page) }
+    ensures web { IfOk result IsWeb }
+{
+    let body = json_in(alloc, body)?;
+    let claims = claims_in(alloc, book, &body)?;
+    Ok(Command::TakeEarl { site, page, claims })
 }

@@ -23,6 +23,7 @@ made_is_body infos (reply.Stored s) made = refl
 made_is_body infos (reply.Dropped page) made = refl
 made_is_body infos (reply.Imported pages) made = refl
 made_is_body infos (reply.Judged rule node outcome) made = refl
+made_is_body infos (reply.Taken added known skipped) made = refl
 made_is_body infos (reply.Page p) made = absurd (cc)
 made_is_body infos (reply.Outcomes p) made = absurd (cc)
 made_is_body infos (reply.Report p) made = absurd (cc)

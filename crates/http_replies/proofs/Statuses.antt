@@ -62,6 +62,7 @@ of_reply (reply.Page p) = refl
 of_reply (reply.Dropped page) = refl
 of_reply (reply.Imported pages) = refl
 of_reply (reply.Judged rule node outcome) = refl
+of_reply (reply.Taken added known skipped) = refl
 of_reply (reply.Outcomes p) = refl
 of_reply (reply.Report p) = refl
 of_reply (reply.Earl p) = refl
