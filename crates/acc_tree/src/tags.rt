@@ -1,6 +1,6 @@
-ghost use Rattle.std.specs.Prelude.{◌≡◌, ◌==◌, filter, length, false};
+ghost use Rattle.std.specs.Prelude.{◌≡◌, filter};
 ghost use Rattle.texts.specs.Words.{same_folded};
-ghost use Rattle.acc_tree.specs.Tags.{tag_word, all_tags, tag_among, known_tag, space_in, any_tag, in_html, html_tag};
+ghost use Rattle.acc_tree.specs.Tags.{tag_word, all_tags, begins, tag_among, known_tag, space_in, any_tag, in_html, html_tag};
 ghost use Rattle.acc_tree.specs.Seen.{seen_row};
 
 use snap_tree::{Body, Row, Space, same_folded};
@@ -192,123 +192,102 @@ impl Tag {
     }
 }
 
-// The tags whose words have this length.
-fn tags_of_length(len: usize) -> &'static [Tag]
-    ensures { result.now ≡ filter (λ t. length (tag_word t) == len) all_tags }
+// The tags whose words begin with this letter.
+fn tags_of_letter(letter: u8) -> &'static [Tag]
+    ensures { result.now ≡ filter (λ t. begins letter (tag_word t)) all_tags }
 {
-    match len {
-        1 => &[Tag::A, Tag::B, Tag::I, Tag::P, Tag::Q, Tag::S, Tag::U],
-        2 => &[
+    match letter {
+        b'a' => &[
+            Tag::A,
+            Tag::Abbr,
+            Tag::Address,
+            Tag::Area,
+            Tag::Article,
+            Tag::Aside,
+        ],
+        b'b' => &[
+            Tag::B,
+            Tag::Bdi,
+            Tag::Bdo,
+            Tag::Blockquote,
+            Tag::BodyTag,
+            Tag::Button,
+        ],
+        b'c' => &[Tag::Caption, Tag::Cite, Tag::Code],
+        b'd' => &[
+            Tag::Datalist,
             Tag::Dd,
+            Tag::Del,
+            Tag::Details,
+            Tag::Dfn,
+            Tag::Dialog,
+            Tag::Div,
             Tag::Dt,
-            Tag::Em,
+        ],
+        b'e' => &[Tag::Em],
+        b'f' => &[
+            Tag::Fieldset,
+            Tag::Figcaption,
+            Tag::Figure,
+            Tag::Footer,
+            Tag::Form,
+        ],
+        b'h' => &[
             Tag::H1,
             Tag::H2,
             Tag::H3,
             Tag::H4,
             Tag::H5,
             Tag::H6,
+            Tag::Header,
             Tag::Hr,
-            Tag::Li,
-            Tag::Ol,
-            Tag::Td,
-            Tag::Th,
-            Tag::Tr,
-            Tag::Ul,
-        ],
-        3 => &[
-            Tag::Bdi,
-            Tag::Bdo,
-            Tag::Del,
-            Tag::Dfn,
-            Tag::Div,
-            Tag::Img,
-            Tag::Ins,
-            Tag::Kbd,
-            Tag::Nav,
-            Tag::Pre,
-            Tag::Sub,
-            Tag::Sup,
-            Tag::Var,
-        ],
-        4 => &[
-            Tag::Abbr,
-            Tag::Area,
-            Tag::BodyTag,
-            Tag::Cite,
-            Tag::Code,
-            Tag::Form,
             Tag::Html,
-            Tag::Main,
-            Tag::Mark,
-            Tag::Menu,
-            Tag::Meta,
-            Tag::Samp,
-            Tag::Span,
-            Tag::Time,
         ],
-        5 => &[
-            Tag::Aside,
-            Tag::Input,
-            Tag::Label,
-            Tag::Meter,
+        b'i' => &[Tag::I, Tag::Iframe, Tag::Img, Tag::Input, Tag::Ins],
+        b'k' => &[Tag::Kbd],
+        b'l' => &[Tag::Label, Tag::Legend, Tag::Li],
+        b'm' => &[Tag::Main, Tag::Mark, Tag::Menu, Tag::Meta, Tag::Meter],
+        b'n' => &[Tag::Nav],
+        b'o' => &[Tag::Ol, Tag::Optgroup, Tag::OptionTag, Tag::Output],
+        b'p' => &[Tag::P, Tag::Pre, Tag::Progress],
+        b'q' => &[Tag::Q],
+        b's' => &[
+            Tag::S,
+            Tag::Samp,
+            Tag::Search,
+            Tag::Section,
+            Tag::Select,
             Tag::Small,
+            Tag::Span,
+            Tag::Strong,
+            Tag::Sub,
+            Tag::Summary,
+            Tag::Sup,
+        ],
+        b't' => &[
             Tag::Table,
             Tag::Tbody,
-            Tag::Tfoot,
-            Tag::Thead,
-            Tag::Title,
-        ],
-        6 => &[
-            Tag::Button,
-            Tag::Dialog,
-            Tag::Figure,
-            Tag::Footer,
-            Tag::Header,
-            Tag::Iframe,
-            Tag::Legend,
-            Tag::OptionTag,
-            Tag::Output,
-            Tag::Search,
-            Tag::Select,
-            Tag::Strong,
-        ],
-        7 => &[
-            Tag::Address,
-            Tag::Article,
-            Tag::Caption,
-            Tag::Details,
-            Tag::Section,
-            Tag::Summary,
-        ],
-        8 => &[
-            Tag::Datalist,
-            Tag::Fieldset,
-            Tag::Optgroup,
-            Tag::Progress,
+            Tag::Td,
             Tag::Textarea,
+            Tag::Tfoot,
+            Tag::Th,
+            Tag::Thead,
+            Tag::Time,
+            Tag::Title,
+            Tag::Tr,
         ],
-        10 => &[Tag::Blockquote, Tag::Figcaption],
+        b'u' => &[Tag::U, Tag::Ul],
+        b'v' => &[Tag::Var],
         _ => &[],
     }
 }
 
-// Whether two texts begin with the same letter, but for its case. Texts that don't are never the same.
-fn begin_alike(a: &str, b: &str) -> bool
-    ensures { result ≡ false → same_folded a.now b.now ≡ false }
-{
-    match (a.as_bytes().first(), b.as_bytes().first()) {
-        (Some(x), Some(y)) => x.eq_ignore_ascii_case(y),
-        _ => true,
-    }
-}
-
-// Most tags are told apart by their first letters.
+// Most tags are told apart by their lengths.
 fn is_tag(text: &str, tag: Tag) -> bool
     ensures { result ≡ same_folded text.now (tag_word tag) }
 {
     let word = tag.word();
-    begin_alike(text, word) && same_folded(text, word)
+    text.len() == word.len() && same_folded(text, word)
 }
 
 fn tag_among(text: &str, tags: &[Tag]) -> Option<Tag>
@@ -318,11 +297,14 @@ fn tag_among(text: &str, tags: &[Tag]) -> Option<Tag>
 }
 
 /// The tag of a word, which compares ASCII case-insensitively; None where it isn't known. A word is
-/// compared with the tags of its length alone.
+/// compared with the tags of its first letter alone.
 pub fn known_tag(text: &str) -> Option<Tag>
     ensures { result ≡ known_tag text.now }
 {
-    tag_among(text, tags_of_length(text.len()))
+    match text.as_bytes().first() {
+        Some(first) => tag_among(text, tags_of_letter(first.to_ascii_lowercase())),
+        None => None,
+    }
 }
 
 /// The known tag of an element in any name space; None for every other node.
