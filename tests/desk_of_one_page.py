@@ -106,6 +106,30 @@ class DeskOfOnePage:
             self.judgements.append(judgement)
         return {"node": body["node"], "outcome": body["verdict"], "rule": body["rule"]}
 
+    def take(self, caller: str, body: dict[str, Any]) -> dict[str, Any] | tuple[str, dict[str, Any]]:
+        """The reply to EARL in the desk's form, or the refusal with its members."""
+        if ROLES.get(caller) not in ("owner", "judge"):
+            return "NotAllowed", {"needed": "judge"}
+        if caller == self.sender:
+            return "SameHand", {}
+        fates = {"added": 0, "known": 0, "skipped": 0}
+        for one in body["@graph"]:
+            fates[self.fate(caller, one)] += 1
+        return fates
+
+    def fate(self, caller: str, one: dict[str, Any]) -> str:
+        """What becomes of an assertion."""
+        digest, _, note = one["earl:result"]["earl:info"].partition(" ")
+        judgement = {"rule": one["earl:test"]["@id"].removeprefix("urn:act-rule:"), "node": int(one["earl:result"]["earl:pointer"].split()[1]),
+                     "verdict": one["earl:result"]["earl:outcome"]["@id"].removeprefix("earl:"), "digest": digest, "note": note, "by": caller}
+        row = next((one for one in self.rows if (one.rule, one.node) == (judgement["rule"], judgement["node"])), None)
+        if one["earl:subject"]["@id"] != self.page["url"] or row is None or row.automatic != "cantTell" or digest != row.digest:
+            return "skipped"
+        if judgement in self.judgements:
+            return "known"
+        self.judgements.append(judgement)
+        return "added"
+
     def reply(self, method: str, path: str, caller: str, body: bytes) -> dict[str, Any] | tuple[str, dict[str, Any]]:
         """The reply to a request, or a refusal."""
         if caller not in ROLES:
@@ -114,6 +138,8 @@ class DeskOfOnePage:
             return "NoPage", {}
         if method == "POST" and path == f"{self.path}/judgements":
             return self.judge(caller, json.loads(body))
+        if method == "POST" and path == f"{self.path}/earl":
+            return self.take(caller, json.loads(body))
         if path == f"{self.path}/outcomes":
             return {"inapplicable": ["de46e4", "97a4e1"], "outcomes": self.outcomes(), "rev": self.revision}
         return {"rev": self.revision, "snapshot": self.page}
@@ -158,6 +184,7 @@ class DeskOfOnePage:
 
     @property
     def sent(self) -> list[tuple[str, int, str, str]]:
-        """The judgements that were sent, each by rule, node, verdict and note."""
-        bodies = [json.loads(body) for method, _, body in self.asked if method == "POST"]
-        return [(body["rule"], body["node"], body["verdict"], body["note"]) for body in bodies]
+        """The judgements that were sent as EARL, each by rule, node, verdict and note."""
+        graphs = [json.loads(body)["@graph"] for method, path, body in self.asked if method == "POST" and path == f"{self.path}/earl"]
+        return [(one["earl:test"]["@id"][-6:], int(one["earl:result"]["earl:pointer"][5:]), one["earl:result"]["earl:outcome"]["@id"][5:],
+                 one["earl:result"]["earl:info"][65:]) for graph in graphs for one in graph]

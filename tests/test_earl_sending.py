@@ -11,7 +11,13 @@ from typing import Any, Iterator
 import pytest
 
 from serving import HOST, Serving
-from silvervole.collect.ends import End
+from silvervole.collect.ends import End, Stop
+from silvervole.desk.asking import Access, Desk
+from silvervole.earl import sending
+from silvervole.earl.kept import read_report
+from silvervole.earl.mapping import Claim
+from silvervole.send.kept import Target
+from silvervole.view.report import Finding
 
 from .desk_of_one_page import ADDRESS, ROLES, DeskOfOnePage, Row, rooms
 from .samples import ROOT
@@ -59,7 +65,7 @@ FAILED, UNTOLD = {"outcome": "earl:failed"}, {"outcome": "earl:cantTell"}
 
 
 def test_sent(desk: DeskOfOnePage, tmp_path: pathlib.Path) -> None:
-    """Judgements with the digest of their evidence are sent one after another; sent again, none is."""
+    """Judgements with the digest of their evidence are sent in one request; sent again, none is."""
     file = write(tmp_path, seen(7, "Says it all."), seen(9, **FAILED), seen(11, **UNTOLD), asserted(mode="earl:automatic"), asserted(mode="earl:automatic"),
                  seen(7, pointer="node 11"), asserted(test="urn:act-rule:ffd0e9"))
     skipped = ["skipped: made by programs, and not by people (2 times)",
@@ -71,7 +77,7 @@ def test_sent(desk: DeskOfOnePage, tmp_path: pathlib.Path) -> None:
     assert run(desk, file) == (0, [*skipped, *added, "added 3, known 0, skipped 4"], "")
     assert desk.sent == [("b49b2e", 7, "passed", "Says it all."), ("b49b2e", 9, "failed", ""), ("b49b2e", 11, "cantTell", "")]
     assert [one["by"] for one in desk.judgements] == ["bob"] * 3
-    assert [f"{method} {path}" for method, path, _ in desk.asked] == [*READ, *READ, *["POST /sites/acme/pages/rooms/judgements"] * 3]
+    assert [f"{method} {path}" for method, path, _ in desk.asked] == [*READ, *READ, "POST /sites/acme/pages/rooms/earl"]
     status, lines, _ = run(desk, file)
     assert (status, lines[:3], lines[-1]) == (0, [f"known: {READERS}", f"known: {GROUND}", f"known: {ATTIC}"], "added 0, known 3, skipped 4")
     assert len(desk.judgements) == len(desk.sent) == 3
@@ -145,7 +151,7 @@ def test_snapshot(desk: DeskOfOnePage, tmp_path: pathlib.Path) -> None:
     file, snapshot = write(tmp_path, seen(7, pointer="h1")), tmp_path / "page.json"
     snapshot.write_text(json.dumps(rooms()), encoding="utf-8")
     assert run(desk, file, "--snapshot", snapshot)[:2] == (0, [f"added: {READERS}", "added 1, known 0, skipped 0"])
-    assert [path for _, path, _ in desk.asked] == ["/sites/acme/pages/rooms/outcomes", "/sites/acme/pages/rooms/judgements"]
+    assert [path for _, path, _ in desk.asked] == ["/sites/acme/pages/rooms/outcomes", "/sites/acme/pages/rooms/earl"]
     snapshot.write_text(json.dumps({"rev": 2, "snapshot": rooms()}), encoding="utf-8")
     line = f"silvervole earl: {snapshot} is revision 2 of the page, and the desk keeps revision 3\n"
     assert run(desk, file, "--snapshot", snapshot)[::2] == (End.REVISION, line)
@@ -164,13 +170,14 @@ def test_notes(desk: DeskOfOnePage, tmp_path: pathlib.Path) -> None:
                                           ("zoe", "your role there doesn't allow it: that of a reader is needed (403)"),
                                           ("ann", "you sent the revision that is kept, and nobody judges their own work (403)")])
 def test_who_may(desk: DeskOfOnePage, tmp_path: pathlib.Path, caller: str, says: str) -> None:
-    """Whom the desk refuses, it refuses at the first judgement."""
+    """Whom the desk refuses, it refuses before it looks at any judgement."""
     status, lines, error = run(desk, write(tmp_path, seen(7), seen(9)), caller=caller)
-    assert (status, lines, error) == (End.DESK, [], f"silvervole earl: the desk refuses: {says}\n") and len(desk.sent) == (caller != "zoe")
+    assert (status, lines, error) == (End.DESK, [], f"silvervole earl: the desk refuses: {says}\n")
+    assert len(desk.sent) == 2 * (caller != "zoe") and desk.judgements == []
 
 
 def test_a_page_that_moves(desk: DeskOfOnePage, tmp_path: pathlib.Path) -> None:
-    """A page may change while judgements are sent: what it doesn't take any more is skipped, and all others are sent."""
+    """A page may change before judgements come to it: what it doesn't take any more is skipped, and all others are added."""
     def move(method: str, path: str) -> None:
         if method == "POST":
             desk.rows = [Row("b49b2e", 7, "failed", "x"), Row("b49b2e", 9, "cantTell", "heading\nFirst floor"), Row("b49b2e", 11, "cantTell", "heading\nAttic")]
@@ -181,23 +188,46 @@ def test_a_page_that_moves(desk: DeskOfOnePage, tmp_path: pathlib.Path) -> None:
     file = write(tmp_path, *(asserted(result={"pointer": f"node {row.node}", "info": row.digest}) for row in rows))
     status, lines, error = run(desk, file)
     assert (status, error) == (0, "") and [line.rsplit(": ", 1)[1] if line.startswith("skipped") else line for line in lines] == [
-        "failed", "the page's evidence is another by now", "the rule has no outcome there", f"added: {heading(11, 'Attic')}", "added 1, known 0, skipped 3"]
+        "failed", "its digest is of other evidence than the kept page has", "the rule has no outcome there", f"added: {heading(11, 'Attic')}", "added 1, known 0, skipped 3"]
     assert lines[0].endswith(": the rule tells by itself: failed")
 
 
-def test_a_desk_that_ends(desk: DeskOfOnePage, tmp_path: pathlib.Path) -> None:
-    """Where the desk refuses amid judgements, it is said how many it took; and the same command sends the rest."""
-    file = write(tmp_path, seen(7), seen(9), seen(11))
+def findings(desk: DeskOfOnePage) -> Iterator[tuple[int, Finding]]:
+    """The headings that are to be judged."""
+    report = read_report(Desk(Access(desk.address, "bob")), Target("acme", "rooms"))
+    return ((one.node, one) for one in report.findings if one.rule == "b49b2e")
+
+
+@pytest.mark.parametrize("limit, most", [("MOST_BYTES", 8_000), ("MOST_AT_ONCE", 3)])
+def test_a_desk_that_ends(desk: DeskOfOnePage, monkeypatch: pytest.MonkeyPatch, limit: str, most: int) -> None:
+    """Where the desk refuses amid judgements that are too many for one request, it is said how many it took; and the same command sends the rest."""
+    # Three with such a note have less than 8,000 bytes, and four have more.
+    monkeypatch.setattr(sending, limit, most)
+    judgements = [(Claim("b49b2e", node, "passed", "manual", "", "a" * 2_000), finding) for node, finding in findings(desk)]
+    target, asked = Target("acme", "rooms"), Desk(Access(desk.address, "bob"))
 
     def drop(method: str, path: str) -> None:
-        if method == "POST" and len(desk.sent) == 2:
+        if len([one for one in desk.asked if one[0] == "POST"]) == 2:
             desk.sender = "bob"
 
     desk.before = drop
-    status, lines, error = run(desk, file)
-    assert (status, lines) == (End.DESK, [f"added: {READERS}"]) and error.endswith("nobody judges their own work (403); 1 of 3 judgements were sent before\n")
+    sent = sending.send(asked, target, ADDRESS, judgements * 2, "bob")
+    assert next(sent) == (3, 3)
+    with pytest.raises(Stop, match=r"nobody judges their own work \(403\); 3 of 6 judgements were sent before$"):
+        next(sent)
+    assert len(desk.judgements) == 3
     desk.before, desk.sender = None, "ann"
-    assert run(desk, file)[1][-1] == "added 2, known 1, skipped 0" and len(desk.judgements) == 3
+    assert list(sending.send(asked, target, ADDRESS, judgements, "bob")) == [(3, 0)] and len(desk.judgements) == 3
+
+
+def test_known_before(desk: DeskOfOnePage, tmp_path: pathlib.Path) -> None:
+    """What stands on the page's list already, behind which another judgement counts, is known to the desk, and nothing is added."""
+    file = write(tmp_path, seen(7), seen(9, **FAILED))
+    assert run(desk, file)[1][-1] == "added 2, known 0, skipped 0"
+    assert run(desk, write(tmp_path, seen(7, **FAILED)), caller="cyd")[1][-1] == "added 1, known 0, skipped 0"
+    file = write(tmp_path, seen(7), seen(9, **FAILED))
+    assert run(desk, file)[1] == [f"known: {GROUND}", f"known: {READERS}: a later judgement counts", "added 0, known 2, skipped 0"]
+    assert len(desk.judgements) == 3
 
 
 def test_refused(desk: DeskOfOnePage, tmp_path: pathlib.Path) -> None:
@@ -267,6 +297,11 @@ JUDGED = [
     ("bob", "b49b2e", 13, ""), ("bob", "b49b2e", 9, "0" * 64), ("ann", "b49b2e", 9, "0" * 64), ("ann", "2779a5", 1, ""), ("eve", "b49b2e", 13, "")]
 
 
+# Who sends which verdict and note on which heading, each with one on another page.
+TAKEN = [("bob", 7, "failed", "n"), ("bob", 9, "passed", ""), ("bob", 9, "passed", ""), ("cyd", 9, "failed", "no"), ("bob", 9, "passed", ""),
+         ("ann", 9, "passed", ""), ("eve", 9, "passed", "")]
+
+
 @pytest.mark.desk
 def test_the_stand_in(desk: DeskOfOnePage) -> None:
     """The desk that stands in takes and refuses judgements as the built one does."""
@@ -276,6 +311,12 @@ def test_the_stand_in(desk: DeskOfOnePage) -> None:
             body = json.dumps({"rule": rule, "node": node, "verdict": "failed", "digest": digest or DIGESTS.get((rule, node), "1" * 64), "note": "n"}).encode()
             built = json.loads(desk_reply(serving.port, f"POST {desk.path}/judgements", caller, body))
             assert json.loads(desk.answer("POST", f"{desk.path}/judgements", caller, body)[1]) == built, (caller, rule, node)
+        found = dict(findings(desk))
+        for caller, node, verdict, note in TAKEN:
+            one = sending.assertion(ADDRESS, Claim("b49b2e", node, verdict, "manual", "", note), found[node], None)
+            body = sending.document([one, {**one, "earl:subject": {"@id": "https://library.example/"}}], None)
+            built = json.loads(desk_reply(serving.port, f"POST {desk.path}/earl", caller, body))
+            assert json.loads(desk.answer("POST", f"{desk.path}/earl", caller, body)[1]) == built, (caller, node)
         told = json.loads(desk_reply(serving.port, f"GET {desk.path}/outcomes", "bob"))["outcomes"]
         assert [one for one in told if one["rule"] == "b49b2e"] == [one for one in desk.outcomes() if one["rule"] == "b49b2e"]
 

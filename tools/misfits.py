@@ -78,11 +78,13 @@ JUDGEMENTS: list[Any] = [
     *(judged(verdict=verdict) for verdict in (..., "inapplicable", "canttell", None)),
     *(judged(digest=digest) for digest in (..., EVIDENCE[:-1], EVIDENCE + "0", "g" * 64, None, EVIDENCE + "\n")),
     *(judged(note=note) for note in (None, 1, "a" * 2_001))]
+EARL: list[Any] = [[], "earl", None, {}, {"graph": []}, {"@graph": None}, {"@graph": {}}, {"@graph": "x"}, {"@graph": [0] * 10_001}]
 # Who asks what with which revision, and bodies that it hasn't.
 BODIES: list[tuple[str, int | None, list[Any]]] = [
     ("PUT /sites/r/members/new", None, MEMBERS), ("PUT /sites/r/languages", None, LANGUAGES), ("PUT /sites/r/pages/new", 0, SNAPSHOTS),
     ("POST /sites/r/import", None, IMPORTS),
-    ("POST /sites/r/pages/home/edits", 1, EDITS), ("POST /sites/r/pages/home/judgements", None, JUDGEMENTS)]
+    ("POST /sites/r/pages/home/edits", 1, EDITS), ("POST /sites/r/pages/home/judgements", None, JUDGEMENTS),
+    ("POST /sites/r/pages/home/earl", None, EARL)]
 # What is read, though it looks odd: members that aren't named, letters in any order or case, what isn't looked at on a text.
 READ: list[tuple[str, int | None, list[Any]]] = [
     ("PUT /sites/r/members/new", None, [{"role": role} for role in ("owner", "editor", "judge", "reader", "none")] + [{"role": "judge", "since": 1}]),
@@ -98,7 +100,8 @@ READ: list[tuple[str, int | None, list[Any]]] = [
         edit("setFacts", node=1, f=""), edit("insert", parent=1, place=0, rows=[{"n": 9, "p": None, "text": "x"}]),
         edit("insert", parent=1, place=0, rows=[{"n": 9, "p": None, "tag": "p"}, {"n": 10, "p": 9, "text": "x"}]), edit("remove", node=2),
         edit("move", node=3, parent=1, place=4_294_967_295)]),
-    ("POST /sites/r/pages/home/judgements", None, [judged(digest="F" * 64), judged(note=""), judged(note="a" * 2_000, who="me")])]
+    ("POST /sites/r/pages/home/judgements", None, [judged(digest="F" * 64), judged(note=""), judged(note="a" * 2_000, who="me")]),
+    ("POST /sites/r/pages/home/earl", None, [{"@graph": []}, {"@graph": [0, None, {}], "@context": 1}, {"@graph": [[]] * 10_000}])]
 NO_JSON = [b"", b"{", b"{}{}", b"\xff", b"{'role':'judge'}", b'{"role":NaN}']
 REVISIONS = ["", "-1", "+1", "1.0", "1 1", "one", "9223372036854775808", "0" * 20]
 LONG = b"x: " + b"a" * 16_384

@@ -49,6 +49,8 @@ REFUSED: list[tuple[Any, ...]] = [
     ("ann", "PUT /sites/r/pages/home", 1, [], 422, 10, "BadShape", {"field": "body", "place": 0}),
     ("ann", "PUT /sites/r/pages/home", 1, {**PAGE, "url": "ftp://a/"}, 422, 10, "BadShape", {"field": "url", "place": 0}),
     ("ann", "POST /sites/r/import", None, {"pages": []}, 422, 10, "BadShape", {"field": "pages", "place": 0}),
+    ("ann", "POST /sites/r/pages/home/earl", None, [], 422, 10, "BadShape", {"field": "body", "place": 0}),
+    ("ann", "POST /sites/r/pages/home/earl", None, {"@graph": {}}, 422, 10, "BadShape", {"field": "@graph", "place": 0}),
     ("ann", "GET /sites/none/pages/home", None, None, 404, 11, "NoSite", {}),
     *(("ann", f"GET /sites/none/{shown}", None, None, 404, 11, "NoSite", {}) for shown in ("earl", "members", "pages/home/verdicts")),
     ("ann", "PUT /sites/none/languages", None, {"languages": []}, 404, 11, "NoSite", {}),
@@ -58,9 +60,11 @@ REFUSED: list[tuple[Any, ...]] = [
     *((caller, "PUT /sites/r/languages", None, {"languages": ["gsw"]}, 403, 13, "NotAllowed", {"needed": "owner"}) for caller in ("bob", "rea", "eve")),
     ("bob", "DELETE /sites/r/pages/home", 1, None, 403, 13, "NotAllowed", {"needed": "editor"}),
     ("rea", "POST /sites/r/pages/home/judgements", None, judgement(), 403, 13, "NotAllowed", {"needed": "judge"}),
+    ("rea", "POST /sites/r/pages/home/earl", None, {"@graph": []}, 403, 13, "NotAllowed", {"needed": "judge"}),
     ("eve", "GET /sites/r/pages/home", None, None, 403, 13, "NotAllowed", {"needed": "reader"}),
     *(("eve", f"GET /sites/r/{shown}", None, None, 403, 13, "NotAllowed", {"needed": "reader"})
       for shown in ("report", "earl", "csv", "members", "pages/home/report", "pages/home/earl", "pages/home/names", "pages/home/verdicts")),
+    ("bob", "POST /sites/r/pages/none/earl", None, {"@graph": []}, 404, 14, "NoPage", {}),
     ("ann", "GET /sites/r/pages/none", None, None, 404, 14, "NoPage", {}),
     *(("ann", f"GET /sites/r/pages/none/{shown}", None, None, 404, 14, "NoPage", {}) for shown in ("report", "earl", "names", "verdicts")),
     ("ann", "PUT /sites/r/pages/home", 0, PAGE, 409, 16, "StaleRevision", {"current": 1}),
@@ -75,6 +79,7 @@ REFUSED: list[tuple[Any, ...]] = [
     ("bob", "POST /sites/r/pages/home/judgements", None, judgement(node=9), 404, 19, "NoTarget", {}),
     ("bob", "POST /sites/r/pages/home/judgements", None, judgement(rule="2779a5"), 409, 20, "NotOpen", {"automatic": "passed"}),
     ("ann", "POST /sites/r/pages/home/judgements", None, judgement(), 403, 21, "SameHand", {}),
+    ("ann", "POST /sites/r/pages/home/earl", None, {"@graph": []}, 403, 21, "SameHand", {}),
     ("bob", "POST /sites/r/pages/home/judgements", None, judgement(digest=ELSEWHERE), 409, 22, "EvidenceMoved", {"current": EVIDENCE}),
 ]
 

@@ -10,6 +10,7 @@ import { showLanguages } from './languages.js';
 import { showMembers } from './members.js';
 import { showDropping, showPutting } from './putting.js';
 import { showNames } from './names.js';
+import { showTaking } from './taking.js';
 
 const byId = (id) => document.getElementById(id);
 
@@ -85,6 +86,7 @@ class App {
       else if (judge) await showJudging(this, site, page, judge, current, loaded);
       else if (show === 'names') await showNames(this, site, page, current);
       else if (show === 'drop') await showDropping(this, site, page, current);
+      else if (show === 'earl') await showTaking(this, site, page, current);
       else await showPage(this, site, page, current, loaded);
       if (current()) this.say('');
     } catch (error) {

@@ -72,6 +72,7 @@ export const putMember = async (site, member, role) => JSON.parse(await ask('PUT
 export const putPage = async (site, page, rev, file) => JSON.parse(await ask('PUT', pagePath(site, page), file, rev));
 export const dropPage = async (site, page, rev) => JSON.parse(await ask('DELETE', pagePath(site, page), undefined, rev));
 export const siteReport = (site) => ask('GET', `${sitePath(site)}/report`);
+export const takeEarl = async (site, page, entries) => JSON.parse(await ask('POST', `${pagePath(site, page)}/earl`, { '@graph': entries }));
 export const judge = async (site, page, judgement) => JSON.parse(await ask('POST', `${pagePath(site, page)}/judgements`, judgement));
 
 /**

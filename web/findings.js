@@ -107,6 +107,7 @@ function waysOn(app, site, name, page) {
     el('p', { class: 'buttons' },
       open.length && !page.needed ? app.link({ site, page: name, judge: placeOf(open[0][0]) }, `Judge ${many}, one after another`, { class: 'button' }) : null,
       app.link({ site, page: name, show: 'names' }, 'Names as a screen reader says them', { class: 'button second' }),
+      app.link({ site, page: name, show: 'earl' }, 'Judgements from a file', { class: 'button second' }),
       app.link({ site, show: 'put', name }, 'Put its next version', { class: 'button second' }),
       app.link({ site, page: name, show: 'drop' }, 'Take this page away', { class: 'button second' }))];
 }

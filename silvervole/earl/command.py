@@ -17,12 +17,12 @@ from silvervole.words import Parser
 
 from .assertions import read_assertions
 from .confirming import confirmed, is_open
-from .kept import Kept, read_kept
+from .kept import Kept, read_kept, read_report
 from .mapping import Mapper, Skipped
 from .reading import read_statements
 from .sending import Judged, send, written
 from .subjects import Subjects
-from .taking import Fate, Taken, take
+from .taking import Fate, Taken, settled, take
 from .telling import Teller, sums
 
 USAGE = "{0} --desk ADDRESS [--caller NAME] SITE/PAGE FILE [OPTIONS]"
@@ -106,7 +106,7 @@ def work(words: Sequence[str], asked: Parser) -> int:
         write_file(command.write, written(kept.page.address, judged(found, Fate.ADDED, Fate.KNOWN), hand))
         tell([*teller.lines(found), f"written, not sent: {sums(found)}"])
         return End.WRITTEN
-    return send_all(desk, command.target, found, teller)
+    return send_all(desk, command.target, kept.page.address, found, teller)
 
 
 def tell(lines: Iterable[str]) -> None:
@@ -125,16 +125,20 @@ def tried(found: Sequence[Taken | Skipped], is_sure: bool) -> list[Taken | Skipp
             for one in found]
 
 
-def send_all(desk: Desk, target: Target, found: Sequence[Taken | Skipped], teller: Teller) -> int:
+def send_all(desk: Desk, target: Target, address: str, found: Sequence[Taken | Skipped], teller: Teller) -> int:
     """Sends what is to be added, and says what becomes of each as soon as it is known."""
     added = [one for one in found if isinstance(one, Taken) and one.fate is Fate.ADDED]
-    others = [one for one in found if isinstance(one, Skipped) or one.fate is not Fate.ADDED]
-    tell(teller.lines(others))
-    for one, why in zip(added, send(desk, target, judged(added, Fate.ADDED))):
-        done = dataclasses.replace(one, fate=Fate.SKIPPED, why=why) if why else one
-        others.append(done)
-        tell([teller.line(done)])
-    tell([sums(others)])
+    done = [one for one in found if isinstance(one, Skipped) or one.fate is not Fate.ADDED]
+    tell(teller.lines(done))
+    hand, at = hand_of(desk), 0
+    for count, new in send(desk, target, address, judged(added, Fate.ADDED), hand):
+        some = added[at:at + count]
+        # The page may have been changed, and judged, since it was read.
+        fates = some if new == count else settled(some, read_report(desk, target), hand)
+        tell(map(teller.line, fates))
+        done.extend(fates)
+        at += count
+    tell([sums(done)])
     return End.WRITTEN
 
 

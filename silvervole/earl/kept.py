@@ -24,12 +24,17 @@ class Kept:
 def read_kept(desk: Desk, target: Target, snapshot: str | None) -> Kept:
     """What is kept of a page; its nodes are those of the snapshot where one is named."""
     if snapshot is not None:
-        report = read_outcomes(desk.get(f"{target.path}/outcomes"), f"the desk's reply on {target}")
+        report = read_report(desk, target)
         return Kept(of_revision(read_page(read(snapshot), snapshot), report, snapshot), report)
     kept = sent_to.read_kept(desk, target)
     if kept.page is None or kept.report is None:
         raise Stop(End.DESK, f"the desk keeps no page {target}")
     return Kept(kept.page, kept.report)
+
+
+def read_report(desk: Desk, target: Target) -> Report:
+    """The outcomes of a page as they are now."""
+    return read_outcomes(desk.get(f"{target.path}/outcomes"), f"the desk's reply on {target}")
 
 
 def of_revision(page: Page, report: Report, path: str) -> Page:

@@ -1,6 +1,7 @@
 """Which claims are added to what the desk keeps, which it knows, and which don't hold there."""
 from __future__ import annotations
 
+import dataclasses
 import enum
 import hashlib
 from dataclasses import dataclass
@@ -59,6 +60,22 @@ def take(given: Iterable[Claim | Skipped], report: Report, hand: str | None) -> 
             if before is None or not is_earlier(claim.date, before.date):
                 last[claim.rule, claim.node] = claim
     return [taken(one, rows.get((one.rule, one.node)), last.get((one.rule, one.node)), hand) if isinstance(one, Claim) else one for one in all_given]
+
+
+def settled(given: Iterable[Taken], report: Report, hand: str | None) -> list[Taken]:
+    """What became of claims that were sent, of which the desk didn't add all, by the outcomes that it has now."""
+    rows = {(finding.rule, finding.node): finding for finding in report.findings}
+    return [fated(one, rows.get((one.claim.rule, one.claim.node)), hand) for one in given]
+
+
+def fated(one: Taken, now: Finding | None, hand: str | None) -> Taken:
+    """What became of a claim; it is known where it stood at the desk before, and doesn't count."""
+    digest = digest_of(one.finding) if one.finding is not None else ""
+    why = refusal(dataclasses.replace(one.claim, digest=digest), now)
+    if now is None or why:
+        return dataclasses.replace(one, fate=Fate.SKIPPED, why=why)
+    counts = now.outcome == one.claim.verdict and now.judge and hand in (None, now.judge)
+    return one if counts else dataclasses.replace(one, fate=Fate.KNOWN, why="a later judgement counts")
 
 
 def taken(claim: Claim, finding: Finding | None, last: Claim | None, hand: str | None) -> Taken:

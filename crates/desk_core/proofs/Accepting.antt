@@ -35,11 +35,11 @@ pub accepted_by : (result : Result Decided Refusal) (decision : Decision) → Ag
 accepted_by (Ok d) decision agrees accepts = subst Accepts agrees accepts
 accepted_by (Err r) decision agrees accepts = tt
 
-unless_accepts : (holds : Bool) (r : Refusal) (next : Decision) → Accepts next → Accepts (unless holds r next)
+pub unless_accepts : (holds : Bool) (r : Refusal) (next : Decision) → Accepts next → Accepts (unless holds r next)
 unless_accepts true r next accepts = accepts
 unless_accepts false r next accepts = tt
 
-unless_refused_accepts : (o : Option Refusal) (next : Decision) → Accepts next → Accepts (unless_refused o next)
+pub unless_refused_accepts : (o : Option Refusal) (next : Decision) → Accepts next → Accepts (unless_refused o next)
 unless_refused_accepts None next accepts = accepts
 unless_refused_accepts (Some r) next accepts = tt
 

@@ -1,5 +1,5 @@
 -- A request that was accepted changes nothing where it is sent again at once: most are refused then.
-use Rattle.std.proofs.Common.{◌≡◌, ℕ, ◌+◌, ◌<◌, ◌≤◌, ◌==◌, List, [], ◌∷◌, ◌++◌, length, map, reverse, Bool, true, false, if◌then◌else◌, Option, Some, None, option_map, IfSome, Ok, Err, refl, sym, ap, ◌∙◌, subst, arith, inl, inr, ◌⊎◌}
+use Rattle.std.proofs.Common.{◌≡◌, ℕ, ◌+◌, ◌<◌, ◌≤◌, ◌==◌, List, [], ◌∷◌, ◌++◌, length, map, reverse, Bool, true, false, if◌then◌else◌, Option, Some, None, option_map, IfSome, Ok, Err, refl, sym, ap, ◌∙◌, subst, append-nil, arith, inl, inr, ◌⊎◌}
 use Rattle.std.specs.Option.{option_map_or}
 use Rattle.std.specs.List.{find}
 use Rattle.std.specs.declared.cmp.Ordering.{Ordering}
@@ -34,9 +34,11 @@ use Rattle.keep_core.specs.declared.tables.Tables.{Tables}
 use Rattle.keep_core.specs.Tables.{kept_site, pages_in, pages_of, site_name, page_name}
 use Rattle.keep_core.specs.Changes.{put_over, with_pages, without_page, with_judgements, with_judged, with_languages, with_outcomes, changed}
 use Rattle.desk_core.specs.Members.{user_of, new_site, members_with, site_with}
+use Rattle.earl_in.specs.declared.claim.Claim.{Claim}
 use Rattle.desk_core.specs.Judging.{is_latest, judge}
+use Rattle.desk_core.specs.Claiming.{take_earl}
 use Rattle.snap_tree.specs.declared.row.Raw.{Raw}
-use Rattle.snap_tree.specs.Trees.{with_trees, with_langs}
+use Rattle.snap_tree.specs.Trees.{Document, with_trees, with_langs}
 use Rattle.snap_tree.specs.Grown.{page_of}
 use Rattle.snap_edit.specs.declared.edit.Edit.{Edit}
 use Rattle.rule_core.specs.declared.verdict.Auto.{Auto}
@@ -57,12 +59,13 @@ use Rattle.desk_core.specs.Fitting.{FitsParts, FitsRequest, FitsEntries}
 use Rattle.desk_core.specs.Soundness.{rev_in, IsSoundSite, IsSound, made}
 use Rattle.desk_core.specs.Once.{IsOnce, IsRefused}
 use Rattle.desk_core.proofs.Views.{state_page, state_pages, page_seen, changes_seen, same_or_other}
-use Rattle.desk_core.proofs.Deciding.{Brings, put_member_brings, put_languages_brings, put_page_brings, edit_page_brings, drop_page_brings, import_brings, judge_brings}
+use Rattle.desk_core.proofs.Deciding.{Brings, put_member_brings, put_languages_brings, put_page_brings, edit_page_brings, drop_page_brings, import_brings, judge_brings, take_earl_brings}
 use Rattle.desk_core.proofs.Kept.{entering_kept, on_page_kept, new_site_kept, page_read, site_read}
 use Rattle.desk_core.proofs.SoundPages.{Given}
 use Rattle.desk_core.proofs.Sound.{kept_fits, kept_sound}
 use Rattle.desk_core.proofs.NewOutcomes.{order_stays, all_relisted, fresh, each_fresh}
 use Rattle.desk_core.proofs.Evidence.{same_evidence}
+use Rattle.desk_core.proofs.ClaimsTwice.{HasStayed, taken_with, none_then}
 
 -- ---- members, twice
 
@@ -351,6 +354,7 @@ module _ (book : Book) (t : Tables) (sound : IsSound book t) (caller : List ℕ)
       edit_once site page k is (page_put book page (k.site.counter + 1) caller (with_langs (with_trees p.page.tree new) k.site.languages) p.judgements) refl refl rev
       (ap (λ r. rev == r) (rev_found k.site.languages page k.pages p found) ∙ was) edits)))
   once_by (command.Judge site page rule node verdict seen note) once parts = absurd once
+  once_by (command.TakeEarl site page claims) once parts = absurd once
   once_by (command.GetPage site page) once parts = absurd once
   once_by (command.GetOutcomes site page) once parts = absurd once
   once_by (command.GetReport site page) once parts = absurd once
@@ -389,6 +393,40 @@ module _ (book : Book) (t : Tables) (sound : IsSound book t) (caller : List ℕ)
         λ _. judged_then site page k is p found rule node verdict seen note row at_row t1 k1 p1 (p.judgements ++ j ∷ []) is1 found1 refl refl refl (latest_itself j p.judgements),
       ))))
 
+  -- claims on a page whose list begins with all that it had after they were taken
+  taken_then : (site page : List ℕ) (claims : List (Option Claim)) (tree : Document) (js : List Judgement) (t' : Tables) (k' : KeptSite) (p' : KeptPage)
+      → kept_site site t' ≡ Some k' → at page_name page k'.pages ≡ Some p'
+      → HasStayed tree (js ++ (taken_with book caller claims tree js).added) (state_page k'.site.languages p')
+      → Brings (λ second. made second t' ≡ t') (decision book caller (command.TakeEarl site page claims) (site_at site (state_of t')) (memberships caller (state_of t')))
+  taken_then site page claims tree js t' k' p' is' found' stayed =
+      let P : Option Change → Type 0 = λ second. made second t' ≡ t' in
+      let Stayed : KeptSite → KeptPage → Type 0 = λ (k : KeptSite) (p : KeptPage). HasStayed tree (js ++ (taken_with book caller claims tree js).added) (state_page k.site.languages p) in
+      entering_kept P t' needed.Judge caller site _ (λ k2 is2 _.
+      on_page_kept P t' page k2 (take_earl book site caller page claims) (λ p2 found2.
+      let same_site : k' ≡ k2 = same_of (kept_site site t') k' k2 is' is2 in
+      let same_page : p' ≡ p2 = same_of (at page_name page k2.pages) p' p2 (ap (λ (k' : KeptSite). at page_name page k'.pages) (sym same_site) ∙ found') found2 in
+      let seen : PageState = state_page k2.site.languages p2 in
+      let here : HasStayed tree (js ++ (taken_with book caller claims tree js).added) seen =
+      subst (λ (p : KeptPage). Stayed k2 p) same_page (subst (λ (k : KeptSite). Stayed k p') same_site stayed) in
+      take_earl_brings P book site caller page claims seen (λ _. refl) (λ more added some. absurd (some (added ∙ none_then book caller claims tree js seen here)))))
+
+  take_again : (site page : List ℕ) (claims : List (Option Claim))
+      → Brings (Stays (command.TakeEarl site page claims)) (decision book caller (command.TakeEarl site page claims) (site_at site (state_of t)) (memberships caller (state_of t)))
+  take_again site page claims =
+      let P = Stays (command.TakeEarl site page claims) in
+      entering_kept P t needed.Judge caller site _ (λ k is _.
+      on_page_kept P t page k (take_earl book site caller page claims) (λ p found.
+      let tree = with_langs p.page.tree k.site.languages in
+      take_earl_brings P book site caller page claims (state_page k.site.languages p)
+      (λ none. taken_then site page claims tree p.judgements t k p is found
+      (record { tree = refl; more = []; judgements = sym (append-nil p.judgements) ∙ ap (λ l. p.judgements ++ l) (sym none) ∙ sym (append-nil _) }))
+      (λ more added _.
+      let o : Outcomes = record { rows = outcomes book tree (p.judgements ++ more) } in
+      taken_then site page claims tree p.judgements (changed (AddJudgements site page more o) t) (with_judged page more o k) (with_judgements more o p)
+      (at_with_row site_name site (with_judged page more o) (λ _ _. refl) t.sites ∙ ap (option_map (with_judged page more o)) is)
+      (at_with_row page_name page (with_judgements more o) (λ _ _. refl) k.pages ∙ ap (option_map (with_judgements more o)) found)
+      (record { tree = refl; more = []; judgements = ap (λ l. p.judgements ++ l) added ∙ sym (append-nil _) }))))
+
   again_by : (c : Command) → FitsParts book c → Brings (Stays c) (decision book caller c (site_at (site_of c) (state_of t)) (memberships caller (state_of t)))
   again_by (command.PutSite site) parts = once_stays (command.PutSite site) tt parts
   again_by (command.PutMember site user held) parts =
@@ -402,6 +440,7 @@ module _ (book : Book) (t : Tables) (sound : IsSound book t) (caller : List ℕ)
   again_by (command.Import site entries) parts = once_stays (command.Import site entries) tt parts
   again_by (command.EditPage site page rev edits) parts = once_stays (command.EditPage site page rev edits) tt parts
   again_by (command.Judge site page rule node verdict seen note) parts = judge_again site page rule node verdict seen note
+  again_by (command.TakeEarl site page claims) parts = take_again site page claims
   again_by (command.GetPage site page) parts = page_read _ t caller site page _ (page_read _ t caller site page _ refl)
   again_by (command.GetOutcomes site page) parts = page_read _ t caller site page _ (page_read _ t caller site page _ refl)
   again_by (command.GetReport site page) parts = page_read _ t caller site page _ (page_read _ t caller site page _ refl)

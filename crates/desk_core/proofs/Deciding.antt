@@ -1,7 +1,8 @@
 -- What holds of the change that is decided, where a request isn't refused: one lemma for each way in which decisions are put
 -- together, and one for each command.
-use Rattle.std.proofs.Common.{◌≡◌, ℕ, ◌+◌, ◌==◌, List, [], ◌∷◌, ◌++◌, length, map, Bool, true, false, not, Option, Some, None, Result, Ok, Err, refl, subst}
+use Rattle.std.proofs.Common.{◌≡◌, ℕ, ◌+◌, ◌==◌, List, [], ◌∷◌, ◌++◌, length, map, Bool, true, false, not, if◌then◌else◌, Option, Some, None, Result, Ok, Err, refl, sym, subst, arith}
 use Rattle.std.specs.Option.{option_map_or}
+use Rattle.std.proofs.lemmas.Bool.Decides.{nat_tests}
 use Rattle.std.specs.Str.{bytes_eq}
 use Rattle.snap_tree.specs.declared.row.NodeId.{NodeId}
 use Rattle.snap_tree.specs.declared.row.Raw.{Raw}
@@ -41,7 +42,9 @@ use Rattle.desk_core.specs.Members.{new_site, site_with, members_with, put_site,
 use Rattle.desk_core.specs.Languages.{relisted, put_languages}
 use Rattle.desk_core.specs.Pages.{due, has_room, has_room_for, has_revisions, page_put, renewed, built, put_page, edited, edit_page, drop_page}
 use Rattle.desk_core.specs.Imports.{new_pages, first_stale, first_fault, puts, import}
-use Rattle.desk_core.specs.Judging.{is_latest, added, judge}
+use Rattle.desk_core.specs.Judging.{is_latest, addition, added, judge}
+use Rattle.desk_core.specs.Claiming.{additions, taken_on, take_earl}
+use Rattle.earl_in.specs.declared.claim.Claim.{Claim}
 
 -- a fact about the change that is decided
 abbrev pub Brings : (Option Change → Type 0) → Decision → Type 0
@@ -155,3 +158,17 @@ module _ (P : Option Change → Type 0) where
       unless_brings (bytes_eq seen (digest row.evidence)) (refusal.EvidenceMoved (digest row.evidence)) _ (λ same.
       let j : Judgement = record { rule = rule; node = node; verdict = verdict; hand = caller; note = note; evidence = row.evidence } in
       added_by book site page j kept (is_latest j kept.judgements) refl (brings row found).0 (brings row found).1))))
+
+  additions_by : (book : Book) (site page : List ℕ) (kept : PageState) (more : List Judgement) → (more ≡ [] → P None)
+      → ((j : Judgement) (js : List Judgement) → more ≡ j ∷ js → P (Some (addition book site page (j ∷ js) kept))) → P (additions book site page more kept)
+  additions_by book site page kept [] none some = none refl
+  additions_by book site page kept (j ∷ js) none some =
+      let not_none : (length (j ∷ js) == 0) ≡ false = grind (arith, nat_tests) in
+      subst (λ b. P (if b then None else Some (addition book site page (j ∷ js) kept))) (sym not_none) (some j js refl)
+
+  pub take_earl_brings : (book : Book) (site caller page : List ℕ) (claims : List (Option Claim)) (kept : PageState) → ((taken_on book caller claims kept).added ≡ [] → P None)
+      → ((more : List Judgement) → more ≡ (taken_on book caller claims kept).added → (more ≡ [] → ⊥) → P (Some (addition book site page more kept)))
+      → Brings P (take_earl book site caller page claims kept)
+  take_earl_brings book site caller page claims kept none some =
+      unless_brings (not (bytes_eq caller kept.page.head.hand)) refusal.SameHand _ (λ other.
+      additions_by book site page kept (taken_on book caller claims kept).added none (λ j js is. some (j ∷ js) (sym is) (λ no. cc)))

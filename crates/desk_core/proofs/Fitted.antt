@@ -32,9 +32,11 @@ use Rattle.desk_core.specs.Members.{user_of, new_site, site_with, members_with, 
 use Rattle.desk_core.specs.Pages.{judged, has_revisions, page_put, put_page, edit_page, drop_page}
 use Rattle.desk_core.specs.Imports.{puts, import}
 use Rattle.desk_core.specs.Judging.{judge}
+use Rattle.desk_core.specs.Claiming.{take_earl}
+use Rattle.earl_in.specs.declared.claim.Claim.{Claim}
 use Rattle.desk_core.specs.Fitting.{FitsEntry, FitsEntries}
 use Rattle.desk_core.specs.Serving.{FitsListed, KeepsEdition}
-use Rattle.desk_core.proofs.Deciding.{Brings, put_site_brings, put_member_brings, put_page_brings, edit_page_brings, drop_page_brings, import_brings, judge_brings}
+use Rattle.desk_core.proofs.Deciding.{Brings, put_site_brings, put_member_brings, put_page_brings, edit_page_brings, drop_page_brings, import_brings, judge_brings, take_earl_brings}
 
 -- the change, where there is one, fits
 abbrev pub IfAnyFits : Option Change → Type 0
@@ -141,6 +143,11 @@ pub judge_fits : (book : Book) (site caller page : List ℕ) (rule : RuleNo) (no
     → IsTrue (is_name site) → IsTrue (is_name page) → Brings IfAnyFits (judge book site caller page rule node verdict seen note kept)
 judge_fits book site caller page rule node verdict seen note kept named page_named =
     judge_brings IfAnyFits book site caller page rule node verdict seen note kept (λ row found. (λ _. tt, λ _. (named, page_named)))
+
+pub take_earl_fits : (book : Book) (site caller page : List ℕ) (claims : List (Option Claim)) (kept : PageState)
+    → IsTrue (is_name site) → IsTrue (is_name page) → Brings IfAnyFits (take_earl book site caller page claims kept)
+take_earl_fits book site caller page claims kept named page_named =
+    take_earl_brings IfAnyFits book site caller page claims kept (λ _. tt) (λ more _ _. (named, page_named))
 
 -- ---- imports
 

@@ -1,5 +1,6 @@
 -- What is decided on a judgement of a page that was found.
-use Rattle.std.proofs.Common.{◌≡◌, ℕ, List, Option, Some, None, option_map, Result, Ok, Err, IsTrue, IsSome, IfSome, IfOk, IsErrAnd, IsErrOf, inl, inr, refl, sym, ap, subst, ◌∙◌}
+use Rattle.std.proofs.Common.{◌≡◌, ℕ, List, false, not, Option, Some, None, option_map, Result, Ok, Err, IsTrue, IsSome, IfSome, IfOk, IsErrAnd, IsErrOf, inl, inr, refl, sym, ap, subst, ◌∙◌, ◌≤◌, length, arith}
+use Rattle.std.specs.Str.{bytes_eq}
 use Rattle.snap_tree.specs.declared.row.NodeId.{NodeId}
 use Rattle.rule_core.specs.declared.info.RuleNo.{RuleNo}
 use Rattle.rule_core.specs.declared.verdict.Auto.{Auto}
@@ -13,17 +14,23 @@ use Rattle.keep_core.specs.Names.{is_name}
 use Rattle.keep_core.specs.declared.tables.Tables.{Tables}
 use Rattle.keep_core.specs.Tables.{kept_page, languages_of}
 use Rattle.keep_core.specs.Fits.{Fits, IsThere}
-use Rattle.desk_core.specs.declared.command.Command.TheVariants as command
 use Rattle.desk_core.specs.declared.decided.Decided.{Decided}
 use Rattle.desk_core.specs.declared.refusal.Needed.TheVariants as needed
 use Rattle.desk_core.specs.declared.refusal.Refusal.{Refusal}
 use Rattle.desk_core.specs.declared.refusal.Refusal.TheVariants as refusal
-use Rattle.desk_core.specs.State.{PageState, page_state}
-use Rattle.desk_core.specs.Refusals.{Decision}
-use Rattle.desk_core.specs.Steps.{Request}
+use Rattle.desk_core.specs.declared.reply.Reply.{Reply}
+use Rattle.desk_core.specs.State.{PageState, page_state, state_of, site_at}
+use Rattle.desk_core.specs.Rights.{entering, on_page}
+use Rattle.desk_core.specs.Refusals.{Decision, unless}
+use Rattle.desk_core.specs.Steps.{Request, decided}
+use Rattle.earl_in.specs.declared.claim.Claim.{Claim}
+use Rattle.earl_in.specs.declared.taking.Taken.{Taken}
+use Rattle.earl_in.specs.Taking.{taken_of}
+use Rattle.earl_in.proofs.Again.{each_counts}
+use Rattle.desk_core.specs.Claiming.{added_all, taken_on, take_earl}
 use Rattle.desk_core.specs.Judging.{judged_row, judge, added, AddsTo}
 use Rattle.desk_core.specs.Told.{Told}
-use Rattle.desk_core.specs.Serving.{Stands, Agrees, KeepsEdition, Judges, JudgesOn, IsFirm, Decides, FindsKept, IsTrueTo}
+use Rattle.desk_core.specs.Serving.{Stands, Agrees, KeepsEdition, IsAccepted, IsJudged, Judges, JudgesOn, IsFirm, Decides, FindsKept, IsTrueTo}
 use Rattle.desk_core.proofs.Views.{state_page}
 use Rattle.desk_core.proofs.Ways.{followed}
 use Rattle.desk_core.proofs.Onward.{untold, not_fault, agrees_with, only_read, read_as}
@@ -120,35 +127,64 @@ module _ (book : Book) (site caller page : List ℕ) (rule : RuleNo) (node : Nod
     judged = tt;
   }
 
-  pub decides_judge : (old new : Told) (kept : KeptPage) (result : Result Decided Refusal)
+-- what is answered is that judgements were added to the page, or were there
+pub answered_on : (site page : List ℕ) (d : Decided) (said : Reply) → d.reply ≡ said → IsAccepted said → IsJudged said → IfSome d.change (AddsTo site page) → JudgesOn site page (Ok d)
+answered_on site page d said is accepted judged adds = record {
+  no_fault = λ same. absurd (cc);
+  adds = adds;
+  accepted = subst IsAccepted (sym is) accepted;
+  judged = subst IsJudged (sym is) judged;
+}
+
+-- a request on a page whose kept outcomes decide it
+module _ (book : Book) (request : Request) (site page : List ℕ) (next : PageState → Decision)
+    (is : (t : Tables) → decided book request (state_of t) ≡ entering needed.Judge request.caller (site_at site (state_of t)) (λ s. on_page page s next)) where
+  -- which was found
+  pub decides_judged : (old new : Told) (kept : KeptPage) (result : Result Decided Refusal)
       → IsTrue (is_name site) → IsTrue (is_name page)
-      → FindsKept needed.Judge caller site page old new (Ok kept)
-      → (IsTrueTo book kept → Agrees ⊥ result (judge book site caller page rule node verdict seen note (page_state kept)))
+      → FindsKept needed.Judge request.caller site page old new (Ok kept)
+      → (IsTrueTo book kept → Agrees ⊥ result (next (page_state kept)))
       → JudgesOn site page result
-      → Decides book (record { caller = caller; command = command.Judge site page rule node verdict seen note }) old new result
-  decides_judge old new kept result named page_named finds agrees judges = record {
+      → Decides book request old new result
+  decides_judged old new kept result named page_named finds agrees judges = record {
     reads = only_read old new (let r : Result KeptPage Refusal = Ok kept in r) result (λ e. absurd (judges.no_fault e)) finds.reads;
     agrees =
         λ t told sound.
         let f = finds.found t told in
-        agrees_with result (judge book site caller page rule node verdict seen note (page_state kept)) _
-        (followed needed.Judge caller site page t f.0 (Some (page_state kept)) (λ _ p. judge book site caller page rule node verdict seen note p) _ f.1 f.2 (λ k has same. refl))
+        agrees_with result (next (page_state kept)) (decided book request (state_of t))
+        (is t ∙ followed needed.Judge request.caller site page t f.0 (Some (page_state kept)) (λ _ p. next p) (next (page_state kept)) f.1 f.2 (λ k has same. refl))
         (agrees (found_is_true book t sound site page kept f.2 f.3));
     fits = all_fit site page named page_named result judges.adds;
     there = all_there site page new.tables (λ t told. there_in (languages_of site t) (kept_page site page t) (page_state kept) (finds.found t told).2) result judges.adds;
     accepted = judges.accepted;
     edition = all_keep site page result judges.adds;
-    firm = judged_firm book (record { caller = caller; command = command.Judge site page rule node verdict seen note }) new.tables result judges.judged;
+    firm = judged_firm book request new.tables result judges.judged;
   }
 
-  pub decides_no_judge : (old new : Told) (r : Refusal) → FindsKept needed.Judge caller site page old new (Err r)
-      → Decides book (record { caller = caller; command = command.Judge site page rule node verdict seen note }) old new (Err r)
-  decides_no_judge old new r finds = record {
+  -- and one that wasn't found
+  pub decides_no_judged : (old new : Told) (r : Refusal) → FindsKept needed.Judge request.caller site page old new (Err r) → Decides book request old new (Err r)
+  decides_no_judged old new r finds = record {
     reads = read_as old new r finds.reads;
-    agrees = λ t told sound. finds.refused t told (λ _ p. judge book site caller page rule node verdict seen note p);
+    agrees = λ t told sound. subst (Stands (Unit {0}) r) (sym (is t)) (finds.refused t told (λ _ p. next p));
     fits = tt;
     there = tt;
     accepted = tt;
     edition = tt;
     firm = tt;
   }
+
+-- what is decided on claims, where the caller didn't send the page and this is what was taken by its kept outcomes
+pub take_is : (book : Book) (site caller page : List ℕ) (claims : List (Option Claim)) (kept : KeptPage) (t : Taken) → IsTrueTo book kept → bytes_eq caller kept.page.head.hand ≡ false
+    → t ≡ taken_of kept.page.tree.address kept.outcomes.rows kept.judgements caller claims
+    → take_earl book site caller page claims (page_state kept) ≡ added_all book site page t (page_state kept)
+take_is book site caller page claims kept t holds other same =
+    ap (λ b. unless (not b) refusal.SameHand (added_all book site page (taken_on book caller claims (page_state kept)) (page_state kept))) other
+    ∙ ap (λ (t : Taken). added_all book site page t (page_state kept))
+    (sym (same ∙ ap (λ rows. taken_of kept.page.tree.address rows kept.judgements caller claims) holds))
+
+-- no more are added than claims come
+pub few_taken : (address : List ℕ) (rows : List OutRow) (js : List Judgement) (hand : List ℕ) (claims : List (Option Claim)) (t : Taken) (most : ℕ)
+    → t ≡ taken_of address rows js hand claims → length claims ≤ most → length t.added ≤ most
+few_taken address rows js hand claims t most is few =
+    let all = each_counts address rows js hand claims in
+    subst (λ (t : Taken). length t.added ≤ most) (sym is) (omega (arith, all, few))

@@ -1,5 +1,5 @@
 -- Every request that fits keeps tables sound, and what is decided on it fits.
-use Rattle.std.proofs.Common.{◌≡◌, ℕ, ◌+◌, List, [], ◌∷◌, length, map, true, Option, Some, option_map, IfSome, IsTrue, Ok, Err, refl, ap, ◌∙◌, subst}
+use Rattle.std.proofs.Common.{◌≡◌, ℕ, ◌+◌, List, [], ◌∷◌, length, true, Option, Some, option_map, IfSome, IsTrue, Ok, Err, refl, ap, ◌∙◌, subst}
 use Rattle.std.specs.List.{All}
 use Rattle.std.proofs.lemmas.List.{length-map}
 use Rattle.std.proofs.lemmas.List.Elements.{All-nil, All-cons, All-head, All-tail}
@@ -31,13 +31,14 @@ use Rattle.desk_core.specs.State.{PageState, site_state, state_of, page_at, site
 use Rattle.desk_core.specs.Pages.{revision_in, judged, has_room, page_put, edit_page, drop_page}
 use Rattle.desk_core.specs.Imports.{puts}
 use Rattle.desk_core.specs.Judging.{judge}
+use Rattle.desk_core.specs.Claiming.{take_earl}
 use Rattle.desk_core.specs.Steps.{Request, site_of, decision, decided}
 use Rattle.desk_core.specs.Memberships.{memberships}
 use Rattle.desk_core.specs.Fitting.{FitsParts, NamesSite, FitsRequest}
 use Rattle.desk_core.specs.Soundness.{IsNearlySite, IsNearlySound, IsSoundPage, IsSoundSite, IsSound, made}
 use Rattle.desk_core.proofs.Views.{state_page, state_pages, page_seen}
-use Rattle.desk_core.proofs.Deciding.{Brings, brought, put_member_brings, put_languages_brings, put_page_brings, edit_page_brings, drop_page_brings, import_brings, judge_brings}
-use Rattle.desk_core.proofs.Fitted.{IfAnyFits, put_site_fits, put_member_fits, put_page_fits, edit_page_fits, drop_page_fits, judge_fits, import_fits}
+use Rattle.desk_core.proofs.Deciding.{Brings, brought, put_member_brings, put_languages_brings, put_page_brings, edit_page_brings, drop_page_brings, import_brings, judge_brings, take_earl_brings}
+use Rattle.desk_core.proofs.Fitted.{IfAnyFits, put_site_fits, put_member_fits, put_page_fits, edit_page_fits, drop_page_fits, judge_fits, take_earl_fits, import_fits}
 use Rattle.desk_core.proofs.Kept.{IfAnyIsThere, decided_is_there, entering_kept, on_page_kept, new_site_kept, page_read, site_read}
 use Rattle.desk_core.proofs.Edited.{edits_well}
 use Rattle.desk_core.proofs.SoundPages.{one_put, put_page_sound, puts_sound, room_there, one_few, import_few}
@@ -76,6 +77,10 @@ module _ (book : Book) (t : Tables) (fit : FitTables t) where
       entering_kept IfAnyFits t needed.Judge caller site _ (λ k is may.
       on_page_kept IfAnyFits t page k (judge book site caller page rule node verdict seen note) (λ p found.
       judge_fits book site caller page rule node verdict seen note (state_page k.site.languages p) named parts.named))
+  fits_by caller (command.TakeEarl site page claims) user named parts =
+      entering_kept IfAnyFits t needed.Judge caller site _ (λ k is may.
+      on_page_kept IfAnyFits t page k (take_earl book site caller page claims) (λ p found.
+      take_earl_fits book site caller page claims (state_page k.site.languages p) named parts.named))
   fits_by caller (command.GetPage site page) user named parts = page_read IfAnyFits t caller site page _ tt
   fits_by caller (command.GetOutcomes site page) user named parts = page_read IfAnyFits t caller site page _ tt
   fits_by caller (command.GetReport site page) user named parts = page_read IfAnyFits t caller site page _ tt
@@ -173,6 +178,11 @@ module _ (book : Book) (t : Tables) (sound : IsSound book t) where
       on_page_kept Owes t page k (judge book site caller page rule node verdict seen note) (λ p found.
       judge_brings Owes book site caller page rule node verdict seen note (state_page k.site.languages p) (λ row at_row.
       (λ _ _. sound, λ _ _. judged_sound book t sound site page _ _ k p is found refl))))
+  keeps_by caller (command.TakeEarl site page claims) user named parts =
+      entering_kept Owes t needed.Judge caller site _ (λ k is may.
+      on_page_kept Owes t page k (take_earl book site caller page claims) (λ p found.
+      take_earl_brings Owes book site caller page claims (state_page k.site.languages p) (λ _ _. sound)
+      (λ more _ _ _. judged_sound book t sound site page _ _ k p is found refl)))
   keeps_by caller (command.GetPage site page) user named parts = page_read Owes t caller site page _ (λ _. sound)
   keeps_by caller (command.GetOutcomes site page) user named parts = page_read Owes t caller site page _ (λ _. sound)
   keeps_by caller (command.GetReport site page) user named parts = page_read Owes t caller site page _ (λ _. sound)

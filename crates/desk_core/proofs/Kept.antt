@@ -1,5 +1,5 @@
 -- What is decided in the state that tables give: the site and the page are those that the tables keep.
-use Rattle.std.proofs.Common.{◌≡◌, ℕ, List, length, map, true, Option, Some, None, option_map, IfSome, IsSome, refl, sym, ap, ◌∙◌, subst}
+use Rattle.std.proofs.Common.{◌≡◌, ℕ, List, length, true, Option, Some, None, option_map, IfSome, IsSome, refl, sym, ap, ◌∙◌, subst}
 use Rattle.rule_core.specs.Books.{Book}
 use Rattle.named_rows.specs.ByName.{at}
 use Rattle.keep_core.specs.declared.change.Change.{Change}
@@ -21,11 +21,12 @@ use Rattle.desk_core.specs.Rights.{may, role_of, entering, on_page}
 use Rattle.desk_core.specs.Members.{put_site}
 use Rattle.desk_core.specs.Pages.{revision_in, judged, edit_page, drop_page}
 use Rattle.desk_core.specs.Judging.{judge}
+use Rattle.desk_core.specs.Claiming.{take_earl}
 use Rattle.desk_core.specs.Reading.{answered}
 use Rattle.desk_core.specs.Steps.{Request, site_of, read_page, read_site, decision, decided}
 use Rattle.desk_core.specs.Memberships.{memberships}
 use Rattle.desk_core.proofs.Views.{state_page, state_pages, page_seen, site_seen}
-use Rattle.desk_core.proofs.Deciding.{Brings, unless_brings, put_member_brings, put_languages_brings, put_page_brings, edit_page_brings, drop_page_brings, import_brings, judge_brings}
+use Rattle.desk_core.proofs.Deciding.{Brings, unless_brings, put_member_brings, put_languages_brings, put_page_brings, edit_page_brings, drop_page_brings, import_brings, judge_brings, take_earl_brings}
 
 module _ (P : Option Change → Type 0) (t : Tables) where
   entering_by : (leave : Needed) (caller : List ℕ) (o : Option KeptSite) (next : SiteState → Decision)
@@ -100,6 +101,10 @@ module _ (t : Tables) where
       entering_kept (IfAnyIsThere t) t needed.Judge caller site _ (λ k is may.
       on_page_kept (IfAnyIsThere t) t page k (judge book site caller page rule node verdict seen note) (λ p found.
       judge_brings (IfAnyIsThere t) book site caller page rule node verdict seen note (state_page k.site.languages p) (λ row at_row. (λ _. tt, λ _. page_there site page k p is found))))
+  there_by book caller (command.TakeEarl site page claims) =
+      entering_kept (IfAnyIsThere t) t needed.Judge caller site _ (λ k is may.
+      on_page_kept (IfAnyIsThere t) t page k (take_earl book site caller page claims) (λ p found.
+      take_earl_brings (IfAnyIsThere t) book site caller page claims (state_page k.site.languages p) (λ _. tt) (λ more _ _. page_there site page k p is found)))
   there_by book caller (command.GetPage site page) = page_read (IfAnyIsThere t) t caller site page _ tt
   there_by book caller (command.GetOutcomes site page) = page_read (IfAnyIsThere t) t caller site page _ tt
   there_by book caller (command.GetReport site page) = page_read (IfAnyIsThere t) t caller site page _ tt

@@ -27,9 +27,12 @@ pub mod Sound
 pub mod Keeping
 pub mod Sites
 pub mod Evidence
+pub mod ClaimsTwice
 pub mod Again
 pub mod Refusing
 pub mod Revisions
+pub mod Between
+pub mod ClaimLaws
 pub mod NewOutcomes
 pub mod LanguageLaws
 pub mod NewLists

@@ -1,5 +1,5 @@
 -- What a request is refused with that is sent again.
-use Rattle.std.proofs.Common.{◌≡◌, ℕ, ◌+◌, ◌<◌, ◌≤◌, ◌==◌, List, [], ◌∷◌, length, map, nat_le, Bool, true, false, cond, Option, Some, None, is_none, option_map, Ok, refl, sym, ap, ◌∙◌, subst, arith, inl, inr}
+use Rattle.std.proofs.Common.{◌≡◌, ℕ, ◌+◌, ◌<◌, ◌≤◌, ◌==◌, List, [], ◌∷◌, length, nat_le, Bool, true, false, cond, Option, Some, None, is_none, option_map, Ok, refl, sym, ap, ◌∙◌, subst, arith, inl, inr}
 use Rattle.std.proofs.lemmas.Bool.Decides.{nat_tests}
 use Rattle.std.proofs.lemmas.List.{length-map}
 use Rattle.std.proofs.lemmas.List.Sums.{sum_by-cons}
@@ -210,6 +210,7 @@ module _ (book : Book) (t : Tables) (sound : IsSound book t) (caller : List ℕ)
       edit_refused site page k is (page_put book page (k.site.counter + 1) caller (with_langs (with_trees p.page.tree new) k.site.languages) p.judgements) refl refl rev
       (ap (λ r. rev == r) (rev_found k.site.languages page k.pages p found) ∙ was) allows edits)))
   refused_by (command.Judge site page rule node verdict seen note) once parts = absurd once
+  refused_by (command.TakeEarl site page claims) once parts = absurd once
   refused_by (command.GetPage site page) once parts = absurd once
   refused_by (command.GetOutcomes site page) once parts = absurd once
   refused_by (command.GetReport site page) once parts = absurd once

@@ -35,6 +35,7 @@ use Rattle.desk_core.specs.Members.{new_site, site_with, members_with}
 use Rattle.desk_core.specs.Pages.{revision_in, rev_of, judged, page_put, edit_page, drop_page}
 use Rattle.desk_core.specs.Imports.{puts, first_stale}
 use Rattle.desk_core.specs.Judging.{judge}
+use Rattle.desk_core.specs.Claiming.{take_earl}
 use Rattle.desk_core.specs.Changes.{after}
 use Rattle.desk_core.specs.Steps.{Request, site_of, decision, decided, stepped, step}
 use Rattle.desk_core.specs.Memberships.{memberships}
@@ -44,7 +45,7 @@ use Rattle.desk_core.specs.Soundness.{rev_in, IsSound, made}
 use Rattle.desk_core.specs.Once.{IsRefused}
 use Rattle.desk_core.specs.Revisions.{counter_of, revision_of, Moves, Rises, HasEntry, Carries, Puts}
 use Rattle.desk_core.proofs.Views.{state_page, state_pages, page_seen, outcomes_unseen, site_seen, same_or_other}
-use Rattle.desk_core.proofs.Deciding.{Brings, brought, entering_brings, on_page_brings, put_member_brings, put_languages_brings, put_page_brings, edit_page_brings, drop_page_brings, import_brings, judge_brings}
+use Rattle.desk_core.proofs.Deciding.{Brings, brought, entering_brings, on_page_brings, put_member_brings, put_languages_brings, put_page_brings, edit_page_brings, drop_page_brings, import_brings, judge_brings, take_earl_brings}
 use Rattle.desk_core.proofs.Kept.{entering_kept, on_page_kept, new_site_kept, page_read, site_read}
 use Rattle.desk_core.proofs.Sites.{other_sites_stay}
 use Rattle.desk_core.proofs.Sound.{kept_fits, kept_sound}
@@ -182,6 +183,13 @@ module _ (book : Book) (t : Tables) (sound : IsSound book t) (caller n : List �
         λ _. by_rows site (Some (AddJudgements site page (j ∷ []) o)) (Some k) (Some (with_judged page (j ∷ []) o k)) is (found site k (with_judged page (j ∷ []) o) (λ _. refl) is)
             (record { counter = omega arith; revision = inl (judge_moves k.site.languages n page (j ∷ []) o k.pages (same_or_other n page)) }),
       ))))
+  rises_by (command.TakeEarl site page claims) =
+      entering_kept (RisesBy site) t needed.Judge caller site _ (λ k is _.
+      on_page_kept (RisesBy site) t page k (take_earl book site caller page claims) (λ p _.
+      take_earl_brings (RisesBy site) book site caller page claims (state_page k.site.languages p) (λ _. still n (site_at site (state_of t))) (λ more _ _.
+      let o : Outcomes = record { rows = outcomes book (with_langs p.page.tree k.site.languages) (p.judgements ++ more) } in
+      by_rows site (Some (AddJudgements site page more o)) (Some k) (Some (with_judged page more o k)) is (found site k (with_judged page more o) (λ _. refl) is)
+      (record { counter = omega arith; revision = inl (judge_moves k.site.languages n page more o k.pages (same_or_other n page)) }))))
   rises_by (command.GetPage site page) = page_read (RisesBy site) t caller site page _ (still n (site_at site (state_of t)))
   rises_by (command.GetOutcomes site page) = page_read (RisesBy site) t caller site page _ (still n (site_at site (state_of t)))
   rises_by (command.GetReport site page) = page_read (RisesBy site) t caller site page _ (still n (site_at site (state_of t)))
@@ -289,6 +297,7 @@ module _ (book : Book) (caller page : List ℕ) (rev : ℕ) (own : List Membersh
       on_page_brings (Current kept) p s (edit_page book site caller p sent edits s.site) (λ q found.
       edit_page_brings (Current kept) book site caller p sent edits s.site q (λ _ same _ _. carried sent p s kept is carries (equal_by sent q.page.head.rev same ∙ sym (ap rev_of found)))))
   current_by (command.Judge site p rule node verdict seen note) kept carries = absurd carries
+  current_by (command.TakeEarl site p claims) kept carries = absurd carries
   current_by (command.GetPage site p) kept carries = absurd carries
   current_by (command.GetOutcomes site p) kept carries = absurd carries
   current_by (command.GetReport site p) kept carries = absurd carries
@@ -353,6 +362,7 @@ module _ (book : Book) (t : Tables) (sound : IsSound book t) (caller page : List
       edit_page_brings (Newer site) book site caller p sent edits k.site (state_page k.site.languages q) (λ _ _ new _.
       newer_put site k (page_put book p (k.site.counter + 1) caller (with_langs (with_trees q.page.tree new) k.site.languages) q.judgements) is puts.0 refl)))
   newer_by_put (command.Judge site p rule node verdict seen note) puts = absurd puts
+  newer_by_put (command.TakeEarl site p claims) puts = absurd puts
   newer_by_put (command.GetPage site p) puts = absurd puts
   newer_by_put (command.GetOutcomes site p) puts = absurd puts
   newer_by_put (command.GetReport site p) puts = absurd puts
@@ -392,6 +402,7 @@ module _ (book : Book) (t : Tables) (sound : IsSound book t) (caller page : List
   renewed_by (command.Import site entries) carries = put_renewed (command.Import site entries) carries
   renewed_by (command.EditPage site p sent edits) carries = put_renewed (command.EditPage site p sent edits) carries
   renewed_by (command.Judge site p rule node verdict seen note) carries = absurd carries
+  renewed_by (command.TakeEarl site p claims) carries = absurd carries
   renewed_by (command.GetPage site p) carries = absurd carries
   renewed_by (command.GetOutcomes site p) carries = absurd carries
   renewed_by (command.GetReport site p) carries = absurd carries

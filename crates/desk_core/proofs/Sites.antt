@@ -1,5 +1,5 @@
 -- All other sites stay as they are, whatever is asked of one.
-use Rattle.std.proofs.Common.{◌≡◌, ℕ, List, [], ◌∷◌, ◌++◌, length, Option, Some, None, Ok, Err, refl, sym, ap, ◌∙◌}
+use Rattle.std.proofs.Common.{◌≡◌, ℕ, List, ◌∷◌, ◌++◌, length, Option, Some, None, Ok, Err, refl, sym, ap, ◌∙◌}
 use Rattle.std.specs.List.{cons_option}
 use Rattle.rule_core.specs.Books.{Book}
 use Rattle.judge_core.proofs.Lists.{filter_map-append}
@@ -20,6 +20,7 @@ use Rattle.desk_core.specs.Refusals.{Decision}
 use Rattle.desk_core.specs.State.{PageState, SiteState, State, page_name, site_name, page_at, site_at}
 use Rattle.desk_core.specs.Pages.{revision_in, judged, edit_page, drop_page}
 use Rattle.desk_core.specs.Judging.{judge}
+use Rattle.desk_core.specs.Claiming.{take_earl}
 use Rattle.desk_core.specs.Reading.{answered}
 use Rattle.desk_core.specs.Changes.{with_counter, with_pages, in_pages, with_judgements, with_languages, changed, after}
 use Rattle.desk_core.specs.Soundness.{made}
@@ -28,7 +29,7 @@ use Rattle.desk_core.specs.declared.reply.Reply.TheVariants as reply
 use Rattle.desk_core.specs.Steps.{Request, asked_by, site_of, OfSite, read_page, read_site, decision, decided, stepped, step}
 use Rattle.desk_core.specs.Rights.{role_of}
 use Rattle.desk_core.specs.Memberships.{held_in, membership, memberships}
-use Rattle.desk_core.proofs.Deciding.{Brings, entering_brings, on_page_brings, put_site_brings, put_member_brings, put_languages_brings, put_page_brings, edit_page_brings, drop_page_brings, import_brings, judge_brings}
+use Rattle.desk_core.proofs.Deciding.{Brings, entering_brings, on_page_brings, put_site_brings, put_member_brings, put_languages_brings, put_page_brings, edit_page_brings, drop_page_brings, import_brings, judge_brings, take_earl_brings}
 
 -- a change leaves the sites that it doesn't name
 others_stay : (n : List ℕ) (c : Change) (state : State) → (Some n ≡ site_changed c → ⊥) → site_at n (changed c state) ≡ site_at n state
@@ -78,6 +79,10 @@ names_by book caller (command.Judge site page rule node verdict seen note) kept 
     entering_brings (Names site) needed.Judge caller kept _ (λ s _ _.
     on_page_brings (Names site) page s (judge book site caller page rule node verdict seen note) (λ p _.
     judge_brings (Names site) book site caller page rule node verdict seen note p (λ _ _. (λ _. tt, λ _. refl))))
+names_by book caller (command.TakeEarl site page claims) kept own =
+    entering_brings (Names site) needed.Judge caller kept _ (λ s _ _.
+    on_page_brings (Names site) page s (take_earl book site caller page claims) (λ p _.
+    take_earl_brings (Names site) book site caller page claims p (λ _. tt) (λ _ _ _. refl)))
 names_by book caller (command.GetPage site page) kept own = page_names caller site kept page _
 names_by book caller (command.GetOutcomes site page) kept own = page_names caller site kept page _
 names_by book caller (command.GetReport site page) kept own = page_names caller site kept page _
@@ -121,6 +126,7 @@ alone_by book caller (command.DropPage site page rev) kept own other of = refl
 alone_by book caller (command.Import site entries) kept own other of = refl
 alone_by book caller (command.EditPage site page rev edits) kept own other of = refl
 alone_by book caller (command.Judge site page rule node verdict seen note) kept own other of = refl
+alone_by book caller (command.TakeEarl site page claims) kept own other of = refl
 alone_by book caller (command.GetPage site page) kept own other of = refl
 alone_by book caller (command.GetOutcomes site page) kept own other of = refl
 alone_by book caller (command.GetReport site page) kept own other of = refl

@@ -1,10 +1,12 @@
 -- Requests that fit: each part is as a route of the desk lets it through.
-use Rattle.std.specs.Prelude.{◌≡◌, ℕ, ◌≤◌, List, length, IsTrue, true}
+use Rattle.std.specs.Prelude.{◌≡◌, ℕ, ◌≤◌, List, length, Option, IsTrue, true}
 use Rattle.std.specs.List.{All, AllPairs}
 use Rattle.snap_tree.specs.Langs.{AreLangs}
 use Rattle.rule_core.specs.declared.info.RuleNo.{RuleNo}
 use Rattle.rule_core.specs.Infos.{has_atomic}
 use Rattle.rule_core.specs.Books.{Book}
+use Rattle.earl_in.specs.declared.claim.Claim.{Claim}
+use Rattle.earl_in.specs.Reading.{Fit}
 use Rattle.web_address.specs.Address.{IsWebAddress}
 use Rattle.keep_core.specs.declared.limits.TheConstants.{MOST_REVISION}
 use Rattle.keep_core.specs.Names.{is_name}
@@ -45,6 +47,11 @@ pub record FitsPut (page : List ℕ) (rev : ℕ) (address : List ℕ) : Type 0 w
   pub seen : FitsRev page rev
   pub web : IsWebAddress address
 
+-- at most 10,000 claims, each of an atomic rule of the book
+pub record FitsClaims (book : Book) (page : List ℕ) (claims : List (Option Claim)) : Type 0 where
+  pub named : IsTrue (is_name page)
+  pub fit : Fit book.infos claims
+
 -- the parts of a command beside its site
 abbrev pub FitsParts : Book → Command → Type 0
 FitsParts book (command.PutSite site) = Unit {0}
@@ -56,6 +63,7 @@ FitsParts book (command.DropPage site page rev) = FitsRev page rev
 FitsParts book (command.Import site entries) = FitsEntries entries
 FitsParts book (command.EditPage site page rev edits) = FitsRev page rev
 FitsParts book (command.Judge site page rule node verdict seen note) = FitsJudging book page rule note
+FitsParts book (command.TakeEarl site page claims) = FitsClaims book page claims
 FitsParts book (command.GetOutcomes site page) = IsTrue (is_name page)
 FitsParts book (command.GetReport site page) = IsTrue (is_name page)
 FitsParts book (command.GetEarl site page) = IsTrue (is_name page)

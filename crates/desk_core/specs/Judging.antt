@@ -26,16 +26,17 @@ use Rattle.desk_core.specs.State.{PageState}
 abbrev pub is_latest : Judgement → List Judgement → Bool
 is_latest j js = option_map_or (λ latest. same_judgement latest j) (find (is_on j.rule j.node) (reverse js)) false
 
--- a judgement is added at the end of the page's list, unless it stands there already
+-- judgements go to the end of the page's list, with its outcomes under them
+abbrev pub addition : Book → List ℕ → List ℕ → List Judgement → PageState → Change
+addition book site page more kept = AddJudgements site page more (record { rows = outcomes book kept.page.tree (kept.judgements ++ more) })
+
+-- a judgement is added, unless it stands there already
 abbrev pub added : Book → List ℕ → List ℕ → Judgement → PageState → Decision
 added book site page j kept =
     let answer = reply.Judged j.rule j.node j.verdict
     in
     if is_latest j kept.judgements then Ok (record { change = None; reply = answer })
-    else Ok (record {
-      change = Some (AddJudgements site page (j ∷ []) (record { rows = outcomes book kept.page.tree (kept.judgements ++ j ∷ []) }));
-      reply = answer;
-    })
+    else Ok (record { change = Some (addition book site page (j ∷ []) kept); reply = answer })
 
 -- what follows with the row that is judged: an open one whose evidence the judge saw, of a page that another sent
 abbrev pub judged_row : List OutRow → List ℕ → List ℕ → RuleNo → NodeId → List ℕ → (OutRow → Decision) → Decision

@@ -7,6 +7,7 @@ pub mod Languages
 pub mod Pages
 pub mod Imports
 pub mod Judging
+pub mod Claiming
 pub mod Reading
 pub mod Verdicts
 pub mod Memberships
@@ -27,3 +28,4 @@ pub mod InHand
 pub mod Relisting
 pub mod Once
 pub mod Revisions
+pub mod Between

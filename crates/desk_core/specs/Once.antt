@@ -18,6 +18,7 @@ IsOnce (command.DropPage site page rev) = Unit {0}
 IsOnce (command.Import site entries) = Unit {0}
 IsOnce (command.EditPage site page rev edits) = Unit {0}
 IsOnce (command.Judge site page rule node verdict seen note) = ⊥
+IsOnce (command.TakeEarl site page claims) = ⊥
 IsOnce (command.GetOutcomes site page) = ⊥
 IsOnce (command.GetReport site page) = ⊥
 IsOnce (command.GetEarl site page) = ⊥

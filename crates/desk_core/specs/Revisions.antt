@@ -40,6 +40,7 @@ Carries page rev (command.DropPage site p r) = (p ≡ page) × (r ≡ rev)
 Carries page rev (command.Import site entries) = HasEntry page rev entries
 Carries page rev (command.EditPage site p r edits) = (p ≡ page) × (r ≡ rev)
 Carries page rev (command.Judge site p rule node verdict seen note) = ⊥
+Carries page rev (command.TakeEarl site p claims) = ⊥
 Carries page rev (command.GetOutcomes site p) = ⊥
 Carries page rev (command.GetReport site p) = ⊥
 Carries page rev (command.GetEarl site p) = ⊥

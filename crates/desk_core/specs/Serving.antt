@@ -23,7 +23,7 @@ use Rattle.desk_core.specs.declared.look.Survey.{Survey}
 use Rattle.desk_core.specs.declared.refusal.Refusal.{Refusal}
 use Rattle.desk_core.specs.declared.refusal.Refusal.TheVariants.{NotAllowed, KeeperFault, OutOfMemory}
 use Rattle.desk_core.specs.declared.reply.Reply.{Reply}
-use Rattle.desk_core.specs.declared.reply.Reply.TheVariants.{Judged, Stored, Languages, Refused}
+use Rattle.desk_core.specs.declared.reply.Reply.TheVariants.{Judged, Taken, Stored, Languages, Refused}
 use Rattle.desk_core.specs.Refusals.{Decision}
 use Rattle.desk_core.specs.State.{PageState, SiteState, page_state, listed, kept_listed, state_of, site_at}
 use Rattle.desk_core.specs.Rights.{may, role_of, entering, on_page}
@@ -58,9 +58,10 @@ IsAccepted other = Unit {0}
 abbrev pub Accepts : Result Decided Refusal → Type 0
 Accepts result = IfOk result (λ d. IsAccepted d.reply)
 
--- the reply to a judgement, and an answer that has no other
+-- the reply to a judgement or to claims, and an answer that has no other
 abbrev pub IsJudged : Reply → Type 0
 IsJudged (Judged rule node outcome) = Unit {0}
+IsJudged (Taken added known skipped) = Unit {0}
 IsJudged other = ⊥
 
 abbrev pub Judges : Result Decided Refusal → Type 0
@@ -81,7 +82,7 @@ abbrev pub IsRelisted : Reply → Type 0
 IsRelisted (Languages languages pages) = Unit {0}
 IsRelisted other = ⊥
 
--- the reply to a judgement, to an edit or to a list of languages, which are decided by the outcomes that are kept
+-- the reply to a judgement, to claims, to an edit or to a list of languages, which are decided by the outcomes that are kept
 abbrev pub RestsOnKept : Request → Reply → Type 0
 RestsOnKept request reply = IsJudged reply ⊎ (IsEdited request.command reply ⊎ IsRelisted reply)
 
@@ -100,15 +101,15 @@ abbrev pub Edits : List ℕ → List ℕ → Result Decided Refusal → Type 0
 Edits site page (Ok d) = IfSome d.change (λ change. Fits change × PutsInto site change) × IsStored page d.reply
 Edits site page (Err refusal) = refusal ≡ KeeperFault → ⊥
 
--- a judgement of a page is answered, whatever outcomes are kept: by no fault of the keeper's, with a change that adds to this page, and
--- with the reply to a judgement
+-- a judgement of a page, or claims on it, are answered, whatever outcomes are kept: by no fault of the keeper's, with a change that adds
+-- to this page, and with the reply to judgements
 pub record JudgesOn (site page : List ℕ) (result : Result Decided Refusal) : Type 0 where
   pub no_fault : IsErrOf result KeeperFault → ⊥
   pub adds : IfOk result (λ d. IfSome d.change (AddsTo site page))
   pub accepted : Accepts result
   pub judged : Judges result
 
--- What is decided of tables, sound or not: no change, or a judgement, an edit or a list of languages, or what the definition decides of
+-- What is decided of tables, sound or not: no change, or judgements, an edit or a list of languages, or what the definition decides of
 -- them.
 abbrev pub IsFirm : Book → Request → Option Tables → Decided → Type 0
 IsFirm book request tables d =
@@ -271,7 +272,7 @@ pub record IsDone (book : Book) (request : Request) (reply : Reply) (s t : Table
   pub became : t ≡ soundness.made d.change s
 
 -- A request is served: where the tables that are told were sound, they are sound, the reply is the machine's, and the rows of all
--- other sites stay. Sound or not, the edition stays, a request that is refused leaves the tables, and they change only by a judgement, by
+-- other sites stay. Sound or not, the edition stays, a request that is refused leaves the tables, and they change only by judgements, by
 -- an edit, by a list of languages or by what the definition decides. Whether they are told or not, the keeper's fault is answered only
 -- where it was counted.
 pub record Serves (book : Book) (request : Request) (old new : Told) (reply : Reply) : Type 0 where

@@ -1,6 +1,6 @@
 -- What the desk keeps, without the outcomes: those are of each page's tree and judgements. A page's tree is kept without its site's
 -- languages, and has them here.
-use Rattle.std.specs.Prelude.{ℕ, List, map, Option}
+use Rattle.std.specs.Prelude.{ℕ, List, map, Option, option_and_then}
 use Rattle.keep_core.specs.declared.site.Site.{Site}
 use Rattle.keep_core.specs.declared.tables.Tables.{Tables}
 pub use Rattle.keep_core.specs.Listed.{listed, kept_listed}
@@ -43,3 +43,6 @@ page_at name pages = at page_name name pages
 
 abbrev pub site_at : List ℕ → State → Option SiteState
 site_at name state = at site_name name state
+
+abbrev pub page_in_site : List ℕ → List ℕ → State → Option PageState
+page_in_site site page state = option_and_then (λ s. page_at page s.pages) (site_at site state)

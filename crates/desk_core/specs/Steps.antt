@@ -15,6 +15,7 @@ use Rattle.desk_core.specs.Languages.{put_languages}
 use Rattle.desk_core.specs.Pages.{revision_in, judged, put_page, edit_page, drop_page}
 use Rattle.desk_core.specs.Imports.{import}
 use Rattle.desk_core.specs.Judging.{judge}
+use Rattle.desk_core.specs.Claiming.{take_earl}
 use Rattle.desk_core.specs.Reading.{answered, site_page, sheet}
 use Rattle.desk_core.specs.Verdicts.{page_verdicts}
 use Rattle.desk_core.specs.Memberships.{memberships}
@@ -39,6 +40,7 @@ site_of (command.DropPage site page rev) = site
 site_of (command.Import site entries) = site
 site_of (command.EditPage site page rev edits) = site
 site_of (command.Judge site page rule node verdict seen note) = site
+site_of (command.TakeEarl site page claims) = site
 site_of (command.GetOutcomes site page) = site
 site_of (command.GetReport site page) = site
 site_of (command.GetEarl site page) = site
@@ -78,6 +80,8 @@ decision book caller (command.EditPage site page rev edits) kept own =
     entering needed.Editor caller kept (λ s. on_page page s (edit_page book site caller page rev edits s.site))
 decision book caller (command.Judge site page rule node verdict seen note) kept own =
     entering needed.Judge caller kept (λ s. on_page page s (judge book site caller page rule node verdict seen note))
+decision book caller (command.TakeEarl site page claims) kept own =
+    entering needed.Judge caller kept (λ s. on_page page s (take_earl book site caller page claims))
 decision book caller (command.GetPage site page) kept own = read_page caller page kept (λ p. reply.Page p.page)
 decision book caller (command.GetOutcomes site page) kept own = read_page caller page kept (λ p. reply.Outcomes (site_page book p))
 decision book caller (command.GetReport site page) kept own = read_page caller page kept (λ p. reply.Report (site_page book p))

@@ -1,3 +1,4 @@
+use earl_in::Claim;
 use keep_core::MemberRole;
 use rule_core::{Auto, RuleNo};
 use snap_edit::Edit;
@@ -68,6 +69,13 @@ pub enum Command {
         verdict: Auto,
         digest: [u8; 32],
         note: Text,
+    },
+    /// Takes what was judged in another tool: its claims in their order, with None for each entry that makes
+    /// none.
+    TakeEarl {
+        site: Text,
+        page: Text,
+        claims: List<Option<Claim>>,
     },
     GetOutcomes {
         site: Text,

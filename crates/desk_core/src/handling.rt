@@ -22,6 +22,7 @@ use crate::refusal::Refusal;
 use crate::reply::Reply;
 use crate::sent::SentPage;
 use crate::sheets::{SheetForm, get_sheet};
+use crate::take_earl::take_earl;
 use crate::verdicts::get_verdicts;
 use keep_core::Keeper;
 use rule_core::RuleBook;
@@ -30,16 +31,16 @@ use std::alloc::Global;
 use std::thread::Threads;
 
 /// Handles one request of a caller and gives the reply. The request fits: its names are names, its addresses
-/// web addresses, its revisions and its note within their limits, the rule that it judges is an atomic one of
-/// the book, its languages are of the form, and an import has 1 to 64 pages with distinct names. There is at least one
-/// book: an import, and all pages under a new list of languages, are audited by all of them, and everything else by the
-/// first.
+/// web addresses, its revisions and its note within their limits, the rules that it judges are atomic ones of
+/// the book, its claims are at most 10,000, its languages are of the form, and an import has 1 to 64 pages with distinct
+/// names. There is at least one book: an import, and all pages under a new list of languages, are audited by all of them,
+/// and everything else by the first.
 ///
 /// Where the keeper tells its tables and they were sound, they are sound afterwards, the reply and the
 /// change are the machine's, and the rows of all other sites stay. The edition stays. Or the request fails: with `KeeperFault`,
 /// where the keeper's count of faults rose in this request, which holds of tables that aren't told too, or
 /// with `OutOfMemory`. Whatever it is refused with, the tables stay, sound or not; and sound or not they change
-/// only by a judgement, by an edit, by a list of languages or by what the machine decides.
+/// only by judgements, by an edit, by a list of languages or by what the machine decides.
 ///
 /// The books judge at most: where rows make trees, each atomic rule on each node of a page that is put or
 /// imported, accepted or not; of an edited page, where the edits can be carried out, the pairs of an atomic rule
@@ -136,6 +137,15 @@ fn decide<R: Threads + Sync, K: Keeper, B: RuleBook + Send>(
             };
             judge(alloc, &books[0], keeper, caller, site, page, said)
         }
+        Command::TakeEarl { site, page, claims } => take_earl(
+            alloc,
+            &books[0],
+            keeper,
+            caller,
+            site,
+            page,
+            claims.as_slice(),
+        ),
         Command::GetPage { site, page } => get_page(alloc, keeper, caller, &site, &page),
         Command::GetNames { site, page } => get_names(alloc, keeper, caller, &site, &page),
         Command::GetOutcomes { site, page } => {

@@ -1,12 +1,10 @@
-ghost use Rattle.std.specs.Prelude.{◌≡◌, [], ◌∷◌, ◌++◌, reverse, IfOk, IfErr};
+ghost use Rattle.std.specs.Prelude.{◌≡◌, [], ◌∷◌, reverse, IfOk, IfErr};
 ghost use Rattle.std.specs.List.{find};
 ghost use Rattle.std.specs.Option.{option_copied};
-ghost use Rattle.snap_tree.specs.Trees.{Document};
 ghost use Rattle.judge_core.specs.declared.outcomes.OutRow.{OutRow};
 ghost use Rattle.judge_core.specs.Composites.{is_open};
 ghost use Rattle.judge_core.specs.Judgements.{is_on};
 ghost use Rattle.judge_core.specs.Outcomes.{outcomes};
-ghost use Rattle.keep_core.specs.declared.change.Change.TheVariants as change;
 ghost use Rattle.desk_core.specs.Refusals.{Decision};
 ghost use Rattle.desk_core.specs.Judging.{is_latest, added};
 ghost use Rattle.desk_core.specs.State.{PageState};
@@ -18,11 +16,11 @@ ghost use Rattle.desk_core.specs.Told.{told_of};
 
 use crate::decided::Decided;
 use crate::look::find_kept;
+use crate::more_judged::addition;
 use crate::refusal::{Needed, Refusal};
 use crate::reply::Reply;
-use audit::after_judgement;
 use judge_core::{Judgement, OutRow, Outcomes, evidence_digest};
-use keep_core::{Change, Keeper, KeptPage};
+use keep_core::{Keeper, KeptPage};
 use rule_core::{Auto, RuleBook, RuleNo};
 use snap_tree::{List, NodeId, OutOfMemory, Text};
 use std::alloc::Global;
@@ -160,32 +158,19 @@ fn added<B: RuleBook>(
             reply,
         });
     }
-    let outcomes = outcomes_with(alloc, book, &judgement, js, found)?;
-    let change = addition(alloc, site, page, judgement, outcomes)?;
+    let change = addition(alloc, book, site, page, alone(alloc, judgement)?, js, found)?;
     Ok(Decided {
         change: Some(change),
         reply,
     })
 }
 
-// The change that one judgement more makes, with the outcomes under it.
-fn addition(
-    alloc: Global,
-    site: Text,
-    page: Text,
-    judgement: Judgement,
-    outcomes: Outcomes,
-) -> Result<Change, OutOfMemory>
-    ensures { IfOk result (λ c. c ≡ change.AddJudgements site page (judgement ∷ []) outcomes) }
+fn alone(alloc: Global, judgement: Judgement) -> Result<List<Judgement>, OutOfMemory>
+    ensures { IfOk result (λ js. js ≡ judgement ∷ []) }
 {
     let mut judgements = Vec::with_capacity(alloc, 1)?;
     judgements.push(judgement)?;
-    Ok(Change::AddJudgements {
-        site,
-        page,
-        judgements: List::from_vec(judgements),
-        outcomes,
-    })
+    Ok(List::from_vec(judgements))
 }
 
 // Whether the latest judgement of its rule on its node is the same.
@@ -202,20 +187,4 @@ fn latest_on(rule: RuleNo, node: NodeId, js: &[Judgement]) -> Option<&Judgement>
     ensures { option_copied result ≡ find (is_on rule node) (reverse js.now) }
 {
     js.iter().rev().find(|j| j.is_on(rule, node))
-}
-
-// The outcomes of a page under one judgement more than those under which these were found.
-fn outcomes_with<B: RuleBook>(
-    alloc: Global,
-    book: &B,
-    judgement: &Judgement,
-    js: List<Judgement>,
-    found: &Outcomes,
-) -> Result<Outcomes, OutOfMemory>
-    ensures { (tree : Document) → found.now.rows ≡ outcomes B.book tree js
-        → IfOk result (λ o. o.rows ≡ outcomes B.book tree (js ++ judgement.now ∷ [])) }
-{
-    let mut js = js.into_vec();
-    js.push(judgement.copy(alloc)?)?;
-    after_judgement(alloc, book, found, js.as_slice())
 }

@@ -1,4 +1,4 @@
-ghost use Rattle.std.specs.Prelude.{◌≡◌, ◌≢◌, ◌<◌, ◌≤◌, [], ◌∷◌, ◌++◌, List, ℕ, None, Ok, IfSome};
+ghost use Rattle.std.specs.Prelude.{◌≡◌, ◌≢◌, ◌<◌, ◌≤◌, [], ◌∷◌, ◌++◌, List, ℕ, Option, option_map, None, Ok, IfSome};
 ghost use Rattle.std.specs.List.{All};
 ghost use Rattle.rule_core.specs.Books.{Book};
 ghost use Rattle.keep_core.specs.declared.change.Change.{Change};
@@ -7,13 +7,16 @@ ghost use Rattle.keep_core.specs.declared.page.PageOutcomes.{PageOutcomes};
 ghost use Rattle.keep_core.specs.declared.tables.Tables.{Tables};
 ghost use Rattle.keep_core.specs.Changes as tables;
 ghost use Rattle.keep_core.specs.Fits.{Fits, IsThere};
+ghost use Rattle.earl_in.specs.declared.claim.Claim.{Claim};
 ghost use Rattle.desk_core.specs.declared.command.Command.TheVariants as command;
 ghost use Rattle.desk_core.specs.declared.decided.Decided.{Decided};
 ghost use Rattle.desk_core.specs.declared.reply.Reply.{Reply};
 ghost use Rattle.desk_core.specs.Memberships.{memberships};
 ghost use Rattle.desk_core.specs.Rights.{role_of};
-ghost use Rattle.desk_core.specs.State.{State, SiteState, state_of, site_at};
-ghost use Rattle.desk_core.specs.Changes.{changed, after};
+ghost use Rattle.desk_core.specs.State.{State, SiteState, state_of, site_at, page_in_site};
+ghost use Rattle.desk_core.specs.Changes.{with_judgements, changed, after};
+ghost use Rattle.desk_core.specs.Claiming.{taken_on};
+ghost use Rattle.desk_core.specs.Between.{NoneRenews, AddsNothing};
 ghost use Rattle.desk_core.specs.Steps.{Request, asked_by, site_of, OfSite, decided, step};
 ghost use Rattle.desk_core.specs.Runs.{Runs};
 ghost use Rattle.desk_core.specs.Fitting.{FitsRequest};
@@ -73,6 +76,29 @@ pub fn laws_of_requests()
     ensures once { (book : Book) (q : Request) (t : Tables) (d : Decided) → FitsRequest book q → IsSound book t
         → IsOnce q.command → decided book q (state_of t) ≡ Ok d
         → Refuses (IsFor q.command) (decided book q (after d.change (state_of t))) }
+{}
+
+/// Laws of what is taken from another tool. It does nothing: the clauses are what it is for.
+///
+/// Where claims on a page are accepted, all other pages stay, and so does all of this one but its list of judgements.
+/// What the definition of taking adds goes to the end of that list. Claims that were accepted and are sent again by the
+/// same caller add nothing, whatever was asked between, as long as nothing that was accepted put, edited, imported or
+/// dropped the page, or set its site's languages.
+pub fn laws_of_claims()
+    ensures alone { (book : Book) (caller site page : List ℕ) (claims : List (Option Claim)) (state : State) (d : Decided)
+        → decided book (asked_by caller (command.TakeEarl site page claims)) state ≡ Ok d → (n : List ℕ) → (n ≡ page → ⊥)
+        → page_in_site site n (after d.change state) ≡ page_in_site site n state }
+    ensures added { (book : Book) (caller site page : List ℕ) (claims : List (Option Claim)) (state : State) (d : Decided)
+        → decided book (asked_by caller (command.TakeEarl site page claims)) state ≡ Ok d
+        → page_in_site site page (after d.change state)
+        ≡ option_map (λ p. with_judgements (taken_on book caller claims p).added p) (page_in_site site page state) }
+    ensures again { (book : Book) (caller site page : List ℕ) (claims : List (Option Claim)) (t : Tables) (d : Decided)
+        (requests : List Request) (replies : List Reply) (new : State) (from to : ℕ) → IsSound book t
+        → FitsRequest book (asked_by caller (command.TakeEarl site page claims))
+        → decided book (asked_by caller (command.TakeEarl site page claims)) (state_of t) ≡ Ok d
+        → All (FitsRequest book) requests → Runs book (after d.change (state_of t)) requests replies new from to
+        → NoneRenews site page requests replies
+        → AddsNothing (decided book (asked_by caller (command.TakeEarl site page claims)) new) }
 {}
 
 /// Laws of sites. It does nothing: the clauses are what it is for.

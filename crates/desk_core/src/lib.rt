@@ -1,5 +1,5 @@
 //! The machine of the desk: one request at a time, from what is kept to what is kept after it. Start with
-//! `handle`. Its commands are those on sites, members and pages: put, import, edit, judge, drop and get.
+//! `handle`. Its commands are those on sites, members and pages: put, import, edit, judge, take, drop and get.
 #![tactic(auto)]
 
 mod arrival;
@@ -23,6 +23,7 @@ mod look;
 mod members;
 mod members_told;
 mod memberships;
+mod more_judged;
 mod page_state;
 mod placed;
 mod put_page;
@@ -36,6 +37,7 @@ mod sent;
 mod sheets;
 mod store;
 mod summaries;
+mod take_earl;
 mod verdicts;
 
 pub use command::{Command, Entry};
@@ -43,8 +45,8 @@ pub use decided::Decided;
 pub use editions::{edition_of, refresh};
 pub use handling::handle;
 pub use laws::{
-    laws_of_refresh, laws_of_requests, laws_of_revisions, laws_of_sites, laws_of_soundness,
-    laws_of_views,
+    laws_of_claims, laws_of_refresh, laws_of_requests, laws_of_revisions, laws_of_sites,
+    laws_of_soundness, laws_of_views,
 };
 pub use limits::{MOST_BATCH, MOST_ENTRIES, MOST_NOTE, MOST_PAGES, laws_of_limits};
 pub use page_state::PageState;

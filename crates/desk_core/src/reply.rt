@@ -66,6 +66,13 @@ pub enum Reply {
         node: NodeId,
         outcome: Auto,
     },
+    /// How many claims were added as judgements, how many the page has already, and how many entries were
+    /// skipped.
+    Taken {
+        added: u32,
+        known: u32,
+        skipped: u32,
+    },
     Outcomes(SitePage),
     Report(SitePage),
     Earl(SitePage),

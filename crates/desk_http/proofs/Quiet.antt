@@ -50,6 +50,8 @@ use Rattle.desk_core.specs.Members.{put_member}
 use Rattle.desk_core.specs.Languages.{put_languages}
 use Rattle.desk_core.specs.Pages.{revision_in, due, judged, has_room, has_revisions, renewed, built, put_page, edited, edit_page, drop_page, stored}
 use Rattle.desk_core.specs.Imports.{puts, new_pages, first_stale, first_fault, import}
+use Rattle.earl_in.specs.declared.claim.Claim.{Claim}
+use Rattle.desk_core.specs.Claiming.{take_earl}
 use Rattle.desk_core.specs.Judging.{is_latest, added, judged_row, judge}
 use Rattle.desk_core.specs.Reading.{answered, site_page, sheet}
 use Rattle.desk_core.specs.Steps.{Request, site_of, read_page, read_site, decision, decided, stepped, step}
@@ -179,6 +181,9 @@ judged_row_quiet rows hand caller rule node seen next quiet = of (row_at rule no
         unless_quiet (not (bytes_eq caller hand)) refusal.SameHand _ (
         unless_quiet (bytes_eq seen (digest row.evidence)) (refusal.EvidenceMoved (digest row.evidence)) (next row) (quiet row)))
 
+take_earl_quiet : (book : Book) (site caller page : List ℕ) (claims : List (Option Claim)) (kept : PageState) → Quiet (take_earl book site caller page claims kept)
+take_earl_quiet book site caller page claims kept = unless_quiet (not (bytes_eq caller kept.page.head.hand)) refusal.SameHand _ (inr refl)
+
 read_page_quiet : (caller page : List ℕ) (kept : Option SiteState) (reply : PageState → Reply) → Quiet (read_page caller page kept reply)
 read_page_quiet caller page kept reply =
     entering_quiet needed.Reader caller kept (λ s. on_page page s (λ p. answered (reply p))) (λ s. on_page_quiet page s (λ p. answered (reply p)) (λ p. inl refl))
@@ -209,6 +214,9 @@ decision_quiet book caller (command.Judge site page rule node verdict seen note)
     entering_quiet needed.Judge caller kept (λ s. on_page page s (judge book site caller page rule node verdict seen note))
     (λ s. on_page_quiet page s (judge book site caller page rule node verdict seen note)
     (λ p. judged_row_quiet (outcomes book p.page.tree p.judgements) p.page.head.hand caller rule node seen (λ row. added book site page (said row) p) (λ row. added_quiet book site page (said row) p)))
+decision_quiet book caller (command.TakeEarl site page claims) kept own named fits =
+    entering_quiet needed.Judge caller kept (λ s. on_page page s (take_earl book site caller page claims))
+    (λ s. on_page_quiet page s (take_earl book site caller page claims) (λ p. take_earl_quiet book site caller page claims p))
 decision_quiet book caller (command.GetPage site page) kept own named fits = read_page_quiet caller page kept (λ p. reply.Page p.page)
 decision_quiet book caller (command.GetOutcomes site page) kept own named fits = read_page_quiet caller page kept (λ p. reply.Outcomes (site_page book p))
 decision_quiet book caller (command.GetReport site page) kept own named fits = read_page_quiet caller page kept (λ p. reply.Report (site_page book p))
@@ -231,9 +239,10 @@ pub unmade_keeps : (book : Book) (s t : State) (q : Request) (r : Reply) → Fit
 unmade_keeps book s t q r fits unmade is =
     stepped_calm s t r (decided book q s) (decision_quiet book q.caller q.command (site_at (site_of q.command) s) (memberships q.caller s) fits.site fits.parts) unmade is
 
--- the reply to a judgement is one to a change
+-- the reply to judgements is one to a change
 judged_made : (r : Reply) → IsJudged r → is_made r ≡ false → ⊥
 judged_made (reply.Judged rule node outcome) judged unmade = true≢false unmade
+judged_made (reply.Taken added known skipped) judged unmade = true≢false unmade
 judged_made other judged unmade = absurd judged
 
 -- and so is that to an edit

@@ -1,8 +1,10 @@
 pub mod Steps
+pub mod Straight
 pub mod Lists
 pub mod Rules
 pub mod RevisionFits
 pub mod EntryFits
 pub mod LanguageFits
 pub mod OpinionFits
+pub mod ClaimFits
 pub mod RequestFits

@@ -30,6 +30,9 @@ use Rattle.snap_tree.specs.Langs.{AreLangs}
 use Rattle.http_commands.proofs.LanguageFits.{languages_fit}
 use Rattle.http_commands.proofs.EntryFits.{FitAtWeb, read_entries_fit}
 use Rattle.http_commands.proofs.OpinionFits.{FitsBook, opinion_fits}
+use Rattle.http_commands.specs.Claims.{claims_in}
+use Rattle.earl_in.specs.Reading.{Fit}
+use Rattle.http_commands.proofs.ClaimFits.{claims_fit}
 
 -- the command fits, of this caller, where its pages are at web addresses
 abbrev FitsBy : Book → List ℕ → Command → Type 0
@@ -74,6 +77,11 @@ fits_command book h body (route.Judge site page) caller orderly names is =
     past P (json_in body) _ (λ d.
     after (FitsBook book.infos) P (opinion_in book.infos d) _ (opinion_fits book.infos d orderly) (λ o fit.
     λ web. record { caller = is; site = names.0; parts = record { named = names.1; atomic = fit.atomic; short = fit.short } }))
+fits_command book h body (route.TakeEarl site page) caller orderly names is =
+    let P = FitsBy book caller in
+    past P (json_in body) _ (λ d.
+    after (Fit book.infos) P (claims_in book.infos d) _ (claims_fit book.infos d orderly) (λ claims fit.
+    λ web. record { caller = is; site = names.0; parts = record { named = names.1; fit = fit } }))
 fits_command book h body (route.GetOutcomes site page) caller orderly names is = λ web. record { caller = is; site = names.0; parts = names.1 }
 fits_command book h body (route.GetReport site page) caller orderly names is = λ web. record { caller = is; site = names.0; parts = names.1 }
 fits_command book h body (route.GetEarl site page) caller orderly names is = λ web. record { caller = is; site = names.0; parts = names.1 }

@@ -1,6 +1,7 @@
 -- The command of a route, by the head and the body of the message. A body that is read is JSON, before anything
 -- else is asked of the message; of the gets, the put of a site and the delete no body is read.
 use Rattle.std.specs.Prelude.{ℕ, List, Result, Ok}
+use Rattle.snap_tree.specs.declared.row.Raw.{Raw}
 use Rattle.rule_core.specs.declared.info.RuleInfo.{RuleInfo}
 use Rattle.http_routes.specs.declared.fault.RequestFault.{RequestFault}
 use Rattle.http_messages.specs.declared.head.Head.{Head}
@@ -15,6 +16,7 @@ use Rattle.http_commands.specs.Languages.{languages_in}
 use Rattle.http_commands.specs.Entries.{entries_in}
 use Rattle.http_commands.specs.EditLists.{edits_in}
 use Rattle.http_commands.specs.Judging.{opinion_in}
+use Rattle.http_commands.specs.Claims.{claims_in}
 
 abbrev pub put_member : List ℕ → List ℕ → List ℕ → Result Command RequestFault
 put_member body site user = do
@@ -33,6 +35,12 @@ put_page h body site page = do
   d ← json_in body
   rev ← revision_in h
   raw ← snapshot_in d
+  Ok (command.PutPage site page rev raw)
+
+-- the same of a body that is known to be the snapshot of a page
+abbrev pub put_raw : Head → List ℕ → List ℕ → Raw → Result Command RequestFault
+put_raw h site page raw = do
+  rev ← revision_in h
   Ok (command.PutPage site page rev raw)
 
 abbrev pub drop_page : Head → List ℕ → List ℕ → Result Command RequestFault
@@ -59,6 +67,12 @@ judge infos body site page = do
   o ← opinion_in infos d
   Ok (command.Judge site page o.rule o.node o.verdict o.digest o.note)
 
+abbrev pub take_earl : List RuleInfo → List ℕ → List ℕ → List ℕ → Result Command RequestFault
+take_earl infos body site page = do
+  d ← json_in body
+  claims ← claims_in infos d
+  Ok (command.TakeEarl site page claims)
+
 -- the command of a route of the desk whose book has these rules
 abbrev pub command_of : List RuleInfo → Head → List ℕ → Route → Result Command RequestFault
 command_of infos h body (route.PutSite site) = Ok (command.PutSite site)
@@ -70,6 +84,7 @@ command_of infos h body (route.DropPage site page) = drop_page h site page
 command_of infos h body (route.Import site) = import body site
 command_of infos h body (route.EditPage site page) = edit_page h body site page
 command_of infos h body (route.Judge site page) = judge infos body site page
+command_of infos h body (route.TakeEarl site page) = take_earl infos body site page
 command_of infos h body (route.GetOutcomes site page) = Ok (command.GetOutcomes site page)
 command_of infos h body (route.GetReport site page) = Ok (command.GetReport site page)
 command_of infos h body (route.GetEarl site page) = Ok (command.GetEarl site page)

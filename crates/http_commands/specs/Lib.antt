@@ -6,6 +6,7 @@ pub mod Languages
 pub mod Edits
 pub mod EditLists
 pub mod Judging
+pub mod Claims
 pub mod Commands
 pub mod Fitting
 pub mod Requests

@@ -1,8 +1,10 @@
 ghost use Rattle.std.specs.Prelude.{IfOk};
+ghost use Rattle.web_address.specs.Address.{IsWebAddress};
 ghost use Rattle.http_commands.specs.Shapes.{Gives};
-ghost use Rattle.http_commands.specs.Commands.{put_member, put_languages, put_page, drop_page, import, edit_page, judge, command_of};
+ghost use Rattle.http_commands.specs.Commands.{put_member, put_languages, put_page, put_raw, drop_page, import, edit_page, judge, take_earl, command_of};
 ghost use Rattle.http_commands.specs.Fitting.{IsWeb};
 
+use crate::claims::claims_in;
 use crate::edits::edits_in;
 use crate::entries::entries_in;
 use crate::judging::{Opinion, opinion_in};
@@ -15,7 +17,8 @@ use desk_core::Command;
 use http_messages::Head;
 use http_routes::Route;
 use rule_core::RuleBook;
-use snap_tree::Text;
+use snap_json::{SnapFault, read_raw};
+use snap_tree::{Raw, Text};
 use std::alloc::Global;
 
 /// The command of a route, by the head and the body of the message.
@@ -39,6 +42,7 @@ pub(crate) fn command_of<B: RuleBook>(
         Route::Import { site } => import(alloc, body, site),
         Route::EditPage { site, page } => edit_page(alloc, head, body, site, page),
         Route::Judge { site, page } => judge(alloc, book, body, site, page),
+        Route::TakeEarl { site, page } => take_earl(alloc, book, body, site, page),
         Route::GetOutcomes { site, page } => Ok(Command::GetOutcomes { site, page }),
         Route::GetReport { site, page } => Ok(Command::GetReport { site, page }),
         Route::GetEarl { site, page } => Ok(Command::GetEarl { site, page }),
@@ -70,7 +74,38 @@ fn put_languages(alloc: Global, body: &[u8], site: Text) -> Result<Command, Unas
     Ok(Command::PutLanguages { site, languages })
 }
 
+// A body that is read straight as a snapshot is one; of any other the first refusal is told by the value that it is.
 fn put_page(
+    alloc: Global,
+    head: &Head,
+    body: &[u8],
+    site: Text,
+    page: Text,
+) -> Result<Command, Unasked>
+    ensures exact { Gives result (put_page head.now body.now site page) }
+    ensures web { IfOk result IsWeb }
+{
+    match read_raw(alloc, body) {
+        Ok(raw) => put_raw(head, site, page, raw),
+        Err(SnapFault::OutOfMemory) => Err(Unasked::OutOfMemory),
+        Err(_) => put_value(alloc, head, body, site, page),
+    }
+}
+
+fn put_raw(head: &Head, site: Text, page: Text, raw: Raw) -> Result<Command, Unasked>
+    ensures exact { Gives result (put_raw head.now site page raw) }
+    ensures web { IsWebAddress raw.address → IfOk result IsWeb }
+{
+    let rev = revision_in(head)?;
+    Ok(Command::PutPage {
+        site,
+        page,
+        rev,
+        raw,
+    })
+}
+
+fn put_value(
     alloc: Global,
     head: &Head,
     body: &[u8],
@@ -156,4 +191,19 @@ fn judge<B: RuleBook>(
         digest,
         note,
     })
+}
+
+fn take_earl<B: RuleBook>(
+    alloc: Global,
+    book: &B,
+    body: &[u8],
+    site: Text,
+    page: Text,
+) -> Result<Command, Unasked>
+    ensures exact { Gives result (take_earl B.book.infos body.now site page) }
+    ensures web { IfOk result IsWeb }
+{
+    let body = json_in(alloc, body)?;
+    let claims = claims_in(alloc, book, &body)?;
+    Ok(Command::TakeEarl { site, page, claims })
 }

@@ -8,6 +8,7 @@
 //! them.
 #![tactic(auto)]
 
+mod claims;
 mod command;
 mod edits;
 mod entries;

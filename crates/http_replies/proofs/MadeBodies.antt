@@ -12,7 +12,7 @@ use Rattle.desk_core.specs.declared.reply.Stored.{Stored}
 use Rattle.desk_core.specs.declared.reply.Reply.{Reply}
 use Rattle.desk_core.specs.declared.reply.Reply.TheVariants as reply
 use Rattle.keep_core.specs.declared.limits.TheConstants.{MOST_NAME}
-use Rattle.http_replies.specs.Made.{count_text, languages_text, after_comma, made_text, is_short, are_few, is_made}
+use Rattle.http_replies.specs.Made.{count_text, languages_text, taken_text, after_comma, made_text, is_short, are_few, is_made}
 use Rattle.http_replies.specs.Answers.{reply_body}
 
 pub made_is_body : (infos : List RuleInfo) (r : Reply) → is_made r ≡ true → made_text infos r ≡ reply_body infos r
@@ -23,6 +23,7 @@ made_is_body infos (reply.Stored s) made = refl
 made_is_body infos (reply.Dropped page) made = refl
 made_is_body infos (reply.Imported pages) made = refl
 made_is_body infos (reply.Judged rule node outcome) made = refl
+made_is_body infos (reply.Taken added known skipped) made = refl
 made_is_body infos (reply.Page p) made = absurd (cc)
 made_is_body infos (reply.Outcomes p) made = absurd (cc)
 made_is_body infos (reply.Report p) made = absurd (cc)
@@ -47,6 +48,19 @@ counts_printed old one two new languages pages first second third =
     let a = count_text (codes "{\"languages\":") languages in
     let b = count_text (codes ",\"pages\":") pages in
     third ∙ (ap (λ l. l ++ codes "}") (second ∙ ap (λ l. l ++ b) first) ∙ grouped old a b (codes "}"))
+
+grouped_more : (old a b d end : List ℕ) → (((old ++ a) ++ b) ++ d) ++ end ≡ old ++ (((a ++ b) ++ d) ++ end)
+grouped_more old a b d end = simp append_assoc
+
+-- the three counts were
+pub taken_printed : (old one two three new : List ℕ) (added known skipped : ℕ) → one ≡ old ++ count_text (codes "{\"added\":") added → two ≡ one ++ count_text (codes ",\"known\":") known
+    → three ≡ two ++ count_text (codes ",\"skipped\":") skipped → new ≡ three ++ codes "}" → new ≡ old ++ taken_text added known skipped
+unfolding taken_text
+taken_printed old one two three new added known skipped first second third fourth =
+    let a = count_text (codes "{\"added\":") added in
+    let b = count_text (codes ",\"known\":") known in
+    let d = count_text (codes ",\"skipped\":") skipped in
+    fourth ∙ (ap (λ l. l ++ codes "}") (third ∙ ap (λ l. l ++ d) (second ∙ ap (λ l. l ++ b) first)) ∙ grouped_more old a b d (codes "}"))
 
 pub few : (pages : List Stored) → are_few pages ≡ true → length pages ≤ MOST_ENTRIES
 few pages are =

@@ -1,5 +1,5 @@
 -- The status codes of answers have three digits, and phrases of at most 31 bytes.
-use Rattle.std.proofs.Common.{◌≡◌, ℕ, ◌≤◌, List, length, Bool, true, nat_le, nat_lt, ◌&&◌, refl, ap, ◌∙◌}
+use Rattle.std.proofs.Common.{◌≡◌, ℕ, ◌≤◌, length, Bool, true, nat_le, nat_lt, ◌&&◌, refl, ap, ◌∙◌}
 use Rattle.std.proofs.lemmas.Bool.{and_parts, leb-true, ltb-true}
 use Rattle.http.specs.StatusCode.{IsStatusCode}
 use Rattle.reply_frames.specs.Frames.{phrase}
@@ -62,6 +62,7 @@ of_reply (reply.Page p) = refl
 of_reply (reply.Dropped page) = refl
 of_reply (reply.Imported pages) = refl
 of_reply (reply.Judged rule node outcome) = refl
+of_reply (reply.Taken added known skipped) = refl
 of_reply (reply.Outcomes p) = refl
 of_reply (reply.Report p) = refl
 of_reply (reply.Earl p) = refl

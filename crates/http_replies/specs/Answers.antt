@@ -18,7 +18,7 @@ use Rattle.http_replies.specs.declared.answer.Answer.{Answer}
 use Rattle.http_replies.specs.declared.answer.Answer.TheVariants.{Misread, Misasked, Replied}
 use Rattle.http_replies.specs.Refusals as refused
 use Rattle.http_replies.specs.Refusals.{refusal_data, head_data, request_data}
-use Rattle.http_replies.specs.Made.{site_text, member_text, languages_text, stored_text, dropped_text, imported_text, judged_text, is_made}
+use Rattle.http_replies.specs.Made.{site_text, member_text, languages_text, stored_text, dropped_text, imported_text, judged_text, taken_text, is_made}
 use Rattle.http_replies.specs.declared.made.TheConstants.{MOST_BODY}
 use Rattle.http_replies.specs.NameList.{names_data}
 use Rattle.http_replies.specs.Shown.{page_text, outcomes_data}
@@ -35,6 +35,7 @@ reply_status (reply.Page p) = 200
 reply_status (reply.Dropped page) = 200
 reply_status (reply.Imported pages) = 200
 reply_status (reply.Judged rule node outcome) = 200
+reply_status (reply.Taken added known skipped) = 200
 reply_status (reply.Outcomes p) = 200
 reply_status (reply.Report p) = 200
 reply_status (reply.Earl p) = 200
@@ -67,6 +68,7 @@ reply_kind (reply.Page p) = kind.Json
 reply_kind (reply.Dropped page) = kind.Json
 reply_kind (reply.Imported pages) = kind.Json
 reply_kind (reply.Judged rule node outcome) = kind.Json
+reply_kind (reply.Taken added known skipped) = kind.Json
 reply_kind (reply.Outcomes p) = kind.Json
 reply_kind (reply.Names t) = kind.Json
 reply_kind (reply.Verdicts v) = kind.Json
@@ -88,6 +90,7 @@ reply_body infos (reply.Page p) = page_text p
 reply_body infos (reply.Dropped page) = dropped_text page
 reply_body infos (reply.Imported pages) = imported_text pages
 reply_body infos (reply.Judged rule node outcome) = judged_text infos rule node outcome
+reply_body infos (reply.Taken added known skipped) = taken_text added known skipped
 reply_body infos (reply.Outcomes p) = compact_text (outcomes_data infos p)
 reply_body infos (reply.Report p) = text_report p.address infos p.outcomes.rows
 reply_body infos (reply.Earl p) = earl infos (p ∷ [])

@@ -56,6 +56,10 @@ unfoldable pub judged_text : List RuleInfo → RuleNo → NodeId → Auto → Li
 judged_text infos rule node outcome =
     count_text (codes "{\"node\":") node.0 ++ codes ",\"outcome\":\"" ++ outcome_word outcome ++ codes "\",\"rule\":\"" ++ id_of infos rule ++ codes "\"}"
 
+unfoldable pub taken_text : ℕ → ℕ → ℕ → List ℕ
+taken_text added known skipped =
+    count_text (codes "{\"added\":") added ++ count_text (codes ",\"known\":") known ++ count_text (codes ",\"skipped\":") skipped ++ codes "}"
+
 -- what is printed for a reply to a change, and nothing for any other
 abbrev pub made_text : List RuleInfo → Reply → List ℕ
 made_text infos (reply.Site site) = site_text site
@@ -65,6 +69,7 @@ made_text infos (reply.Stored s) = stored_text s
 made_text infos (reply.Dropped page) = dropped_text page
 made_text infos (reply.Imported pages) = imported_text pages
 made_text infos (reply.Judged rule node outcome) = judged_text infos rule node outcome
+made_text infos (reply.Taken added known skipped) = taken_text added known skipped
 made_text infos (reply.Page p) = []
 made_text infos (reply.Outcomes p) = []
 made_text infos (reply.Report p) = []
@@ -95,6 +100,7 @@ is_made (reply.Stored s) = is_short s.page
 is_made (reply.Dropped page) = is_short page
 is_made (reply.Imported pages) = are_few pages
 is_made (reply.Judged rule node outcome) = true
+is_made (reply.Taken added known skipped) = true
 is_made (reply.Page p) = false
 is_made (reply.Outcomes p) = false
 is_made (reply.Report p) = false

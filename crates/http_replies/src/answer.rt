@@ -67,6 +67,7 @@ fn reply_kind(reply: &Reply) -> Kind
         | Reply::Dropped { .. }
         | Reply::Imported { .. }
         | Reply::Judged { .. }
+        | Reply::Taken { .. }
         | Reply::Outcomes(_)
         | Reply::Names(_)
         | Reply::Verdicts(_)
@@ -89,6 +90,7 @@ fn reply_status(reply: &Reply) -> u16
         | Reply::Dropped { .. }
         | Reply::Imported { .. }
         | Reply::Judged { .. }
+        | Reply::Taken { .. }
         | Reply::Outcomes(_)
         | Reply::Report(_)
         | Reply::Earl(_)

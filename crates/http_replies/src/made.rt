@@ -3,7 +3,7 @@ ghost use Rattle.std.specs.Vec.{vec_capacity};
 ghost use Rattle.std.specs.List.{flat_map, list_all};
 ghost use Rattle.reply_frames.specs.Pushing.{Fits};
 ghost use Rattle.http_replies.specs.Words.{id_of};
-ghost use Rattle.http_replies.specs.Made.{count_text, member_text, languages_text, summary_text, stored_text, after_comma, pages_text, imported_text, judged_text, made_text, is_short, are_few, is_made};
+ghost use Rattle.http_replies.specs.Made.{count_text, member_text, languages_text, summary_text, stored_text, after_comma, pages_text, imported_text, judged_text, made_text, is_short, are_few, is_made, taken_text};
 
 use crate::words::{role_word, rule_of};
 use desk_core::{MOST_ENTRIES, Reply, Stored, Summary};
@@ -30,7 +30,7 @@ pub fn is_made(reply: &Reply) -> bool
         Reply::Stored(stored) => is_short(&stored.page),
         Reply::Dropped { page } => is_short(page),
         Reply::Imported { pages } => are_few(pages.as_slice()),
-        Reply::Languages { .. } | Reply::Judged { .. } => true,
+        Reply::Languages { .. } | Reply::Judged { .. } | Reply::Taken { .. } => true,
         Reply::Page(_)
         | Reply::Outcomes(_)
         | Reply::Report(_)
@@ -87,6 +87,11 @@ pub(crate) fn push_made(
             node,
             outcome,
         } => push_judged(out, infos, *rule, *node, *outcome),
+        Reply::Taken {
+            added,
+            known,
+            skipped,
+        } => push_taken(out, *added, *known, *skipped),
         Reply::Page(_)
         | Reply::Outcomes(_)
         | Reply::Report(_)
@@ -245,6 +250,18 @@ fn push_judged(
     push(out, b"\",\"rule\":\"")?;
     push_id(out, infos, rule)?;
     push(out, b"\"}")?;
+    Ok(())
+}
+
+#[tactic(auto, unfolding(crate::specs::Made::taken_text))]
+fn push_taken(out: &mut Vec<u8>, added: u32, known: u32, skipped: u32) -> Result<(), OutOfMemory>
+    ensures pushed { OnOk result (out.new.items ≡ out.old.items ++ taken_text added known skipped) }
+    ensures fits { Fits MOST_BODY out.old.items (vec_capacity out.old) out.new.items (vec_capacity out.new) result }
+{
+    push_count(out, b"{\"added\":", u64::from(added))?;
+    push_count(out, b",\"known\":", u64::from(known))?;
+    push_count(out, b",\"skipped\":", u64::from(skipped))?;
+    push(out, b"}")?;
     Ok(())
 }
 

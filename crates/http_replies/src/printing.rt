@@ -129,6 +129,7 @@ fn other_body(alloc: Global, infos: &[RuleInfo], reply: &Reply) -> Result<Vec<u8
         | Reply::Stored(_)
         | Reply::Dropped { .. }
         | Reply::Imported { .. }
-        | Reply::Judged { .. } => Err(OutOfMemory),
+        | Reply::Judged { .. }
+        | Reply::Taken { .. } => Err(OutOfMemory),
     }
 }

@@ -61,6 +61,7 @@ names_of_route Judgements (Two site page) Post are = are
 names_of_route Outcomes (Two site page) Get are = are
 names_of_route PageReport (Two site page) Get are = are
 names_of_route PageEarl (Two site page) Get are = are
+names_of_route PageEarl (Two site page) Post are = are
 names_of_route PageNames (Two site page) Get are = are
 names_of_route SiteReport (One site) Get are = are
 names_of_route SiteEarl (One site) Get are = are

@@ -35,6 +35,7 @@ word (part.Snapshot field) = field_name field
 word part.Role = codes "role"
 word part.Languages = codes "languages"
 word part.Pages = codes "pages"
+word part.Graph = codes "@graph"
 word part.Edits = codes "edits"
 word part.Rule = codes "rule"
 word part.Node = codes "node"

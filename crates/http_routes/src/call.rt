@@ -40,6 +40,8 @@ pub enum Route {
     EditPage { site: Text, page: Text },
     /// `POST /sites/{site}/pages/{page}/judgements`
     Judge { site: Text, page: Text },
+    /// `POST /sites/{site}/pages/{page}/earl`
+    TakeEarl { site: Text, page: Text },
     /// `GET /sites/{site}/pages/{page}/outcomes`
     GetOutcomes { site: Text, page: Text },
     /// `GET /sites/{site}/pages/{page}/report`
@@ -175,6 +177,7 @@ fn below_site(place: Resource, site: Text, other: Text, method: Method) -> Optio
         (Resource::Outcomes, Method::Get) => Some(Route::GetOutcomes { site, page: other }),
         (Resource::PageReport, Method::Get) => Some(Route::GetReport { site, page: other }),
         (Resource::PageEarl, Method::Get) => Some(Route::GetEarl { site, page: other }),
+        (Resource::PageEarl, Method::Post) => Some(Route::TakeEarl { site, page: other }),
         (Resource::PageNames, Method::Get) => Some(Route::GetNames { site, page: other }),
         (Resource::PageVerdicts, Method::Get) => Some(Route::GetVerdicts { site, page: other }),
         _ => None,

@@ -38,7 +38,7 @@ const TELLS: &[Call] = &[Call::Site, Call::Load, Call::Judgements, Call::Outcome
 
 const SHOWS_SITE: &[Call] = &[Call::Site, Call::List, Call::Load, Call::Outcomes];
 
-static READINGS: [Reading; 19] = [
+static READINGS: [Reading; 20] = [
     ("ann", "PUT /sites/acme", CHANGES_MEMBERS),
     (
         "ann",
@@ -63,6 +63,11 @@ static READINGS: [Reading; 19] = [
     (
         "bob",
         "POST /sites/acme/pages/home/judgements\n{\"rule\":\"attr0a\",\"node\":1,\"verdict\":\"passed\",\"digest\":\"a1fce4363854ff888cff4b8e7875d600c2682390412a8cf79b37d0b11148b0fa\"}",
+        JUDGES,
+    ),
+    (
+        "bob",
+        "POST /sites/acme/pages/home/earl\n{\"@graph\":[{\"earl:subject\":\"https://example.org/\",\"earl:test\":\"urn:act-rule:attr0a\",\"earl:mode\":\"earl:manual\",\"earl:result\":{\"earl:outcome\":\"earl:failed\",\"earl:pointer\":\"node 1\",\"earl:info\":\"a1fce4363854ff888cff4b8e7875d600c2682390412a8cf79b37d0b11148b0fa\"}}]}",
         JUDGES,
     ),
     ("bob", "GET /sites/acme/pages/home", LOADS),

@@ -86,6 +86,15 @@ returns-in-Judge-clause-decided g c = decides_at c.in-Judge.is c.judge.ensures
 pub judge-requires : goal.judge-requires
 judge-requires g c = record { site = (fits_at c.in-Judge.is c.requires.fits).site; page = (fits_at c.in-Judge.is c.requires.fits).parts.named }
 
+pub returns-in-TakeEarl-clause-decided : goal.returns-in-TakeEarl-clause-decided
+returns-in-TakeEarl-clause-decided g c = decides_at c.in-TakeEarl.is (rw c.as_slice.ensures at c.take_earl.ensures)
+
+pub take_earl-requires-clause-names : goal.take_earl-requires-clause-names
+take_earl-requires-clause-names g c = record { site = (fits_at c.in-TakeEarl.is c.requires.fits).site; page = (fits_at c.in-TakeEarl.is c.requires.fits).parts.named }
+
+pub take_earl-requires-clause-few : goal.take_earl-requires-clause-few
+take_earl-requires-clause-few g c = rw c.as_slice.ensures ((fits_at c.in-TakeEarl.is c.requires.fits).parts.fit.within)
+
 pub returns-in-GetPage-clause-decided : goal.returns-in-GetPage-clause-decided
 returns-in-GetPage-clause-decided g c = decides_at c.in-GetPage.is (c.get_page.ensures _)
 

@@ -1,0 +1,12 @@
+pub mod Fronts
+pub mod Digits
+pub mod Answering
+pub mod Listed
+pub mod Held
+pub mod Rows
+pub mod Takes
+pub mod Effects
+pub mod Chosen
+pub mod SameRows
+pub mod Again
+pub mod Fits
