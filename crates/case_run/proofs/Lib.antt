@@ -5,5 +5,7 @@ pub mod News
 pub mod KeyOfList
 pub mod Snapped
 pub mod Together
+pub mod SnapValues
+pub mod Straightened
 pub mod Pairs
 pub mod Findings

@@ -3,6 +3,7 @@ pub mod Faults
 pub mod Snapshots
 pub mod Cases
 pub mod Apart
+pub mod Straight
 pub mod Grades
 pub mod Works
 pub mod Judged

@@ -8,6 +8,7 @@ ghost use Rattle.case_run.specs.Apart.{alone, AreAlone};
 use crate::case::Case;
 use crate::fault::CasesFault;
 use crate::members::case_at;
+use crate::straight::case_straight;
 use audit::share;
 use json_parts::read_part;
 use rule_core::RuleInfo;
@@ -93,8 +94,17 @@ fn bytes_in(parts: &[&[u8]]) -> usize {
     bytes
 }
 
-// The case that a text is by itself.
+// The case that a text is by itself: straight from the text where that is what cases mostly are, and else by its value.
 fn read_alone(alloc: Global, infos: &[RuleInfo], part: &[u8]) -> Result<Case, CasesFault>
+    ensures { Gives result (alone infos.now part.now) }
+{
+    match case_straight(alloc, infos, part)? {
+        Some(case) => Ok(case),
+        None => read_value(alloc, infos, part),
+    }
+}
+
+fn read_value(alloc: Global, infos: &[RuleInfo], part: &[u8]) -> Result<Case, CasesFault>
     ensures { Gives result (alone infos.now part.now) }
 {
     match read_part(alloc, part)? {

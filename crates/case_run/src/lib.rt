@@ -23,6 +23,7 @@ mod marks;
 mod members;
 mod reading;
 mod running;
+mod straight;
 
 pub use case::{Case, Expected};
 pub use fault::{CaseField, CasesFault, cases_line};

@@ -70,7 +70,8 @@ fn id_of(
     }
 }
 
-fn new_id(earlier: &[Case], id: Text) -> Option<Text>
+/// The id, where it is a name that no earlier case has.
+pub(crate) fn new_id(earlier: &[Case], id: Text) -> Option<Text>
     ensures { result ≡ new_id earlier.now id }
 {
     if is_name(&id) && is_new(earlier, &id) {
@@ -106,7 +107,8 @@ fn rule_of(infos: &[RuleInfo], member: Option<&Value>) -> Option<RuleNo>
     rule_named(infos, lent_text(member)?)
 }
 
-fn rule_named(infos: &[RuleInfo], id: &str) -> Option<RuleNo>
+/// The number of the rule of an id.
+pub(crate) fn rule_named(infos: &[RuleInfo], id: &str) -> Option<RuleNo>
     ensures { result ≡ rule_named infos.now id.now }
 {
     Some(info_of(infos, id)?.no)

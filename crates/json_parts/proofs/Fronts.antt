@@ -32,7 +32,7 @@ spaces P a b c d x = either _ _ (P x) (either _ _ (P x) (either _ _ (P x) (this_
 
 -- ---- what leads a text
 
-chained : (ls ms : List Lexeme) (a b c : List ℕ) → Leads ls a b → Leads ms b c → Leads (ls ++ ms) a c
+pub chained : (ls ms : List Lexeme) (a b c : List ℕ) → Leads ls a b → Leads ms b c → Leads (ls ++ ms) a c
 chained ls ms a b c p q = record { lexed = p.lexed ∙ ap (λ l. ls ++ l) q.lexed ∙ sym (append_assoc ls ms (lex between c)); utf8 = λ u. p.utf8 (q.utf8 u) }
 
 pub leads_itself : (text : List ℕ) → Leads [] text text
@@ -93,12 +93,19 @@ key_first key bytes text spaced quoted closing None plain_key same utf8 leads op
 key_first key bytes text spaced quoted closing (Some rest) plain_key same utf8 leads opened named closed =
     key_before key text spaced quoted closing rest.now plain_key (subst IsUtf8 same utf8) leads opened (named ∙ ap (λ k. k ++ closing) same) closed
 
+-- a text without escapes comes first, after white space, where its closing quote does
+pub text_before : (n : ℕ) (text spaced quoted inner found closing rest : List ℕ) → escape (take n quoted) ≡ take n quoted → inner ≡ take n quoted → found ≡ inner → IsUtf8 inner → Leads [] text spaced → spaced ≡ (34 ∷ []) ++ quoted
+    → quoted ≡ inner ++ closing → closing ≡ (34 ∷ []) ++ rest → Leads (token (string found) ∷ []) text rest
+text_before n text spaced quoted inner found closing rest plain_front front same utf8 leads opened named closed =
+    let is : found ≡ take n quoted = same ∙ front in
+    key_before found text spaced quoted closing rest (ap escape is ∙ plain_front ∙ sym is) (subst IsUtf8 (sym same) utf8) leads opened (named ∙ ap (λ l. l ++ closing) (sym same)) closed
+
 pub stripped : (text bytes : List ℕ) → bytes_eq (take (length bytes) text) bytes ≡ true → text ≡ bytes ++ drop (length bytes) text
 stripped text bytes h = sym (take-append-drop (length bytes) text) ∙ ap (λ l. l ++ drop (length bytes) text) ((bytes_eq-Decides (take (length bytes) text) bytes).0 h)
 
 -- ---- the list
 
-empty : (rest : List ℕ) → (length rest == 0) ≡ true → rest ≡ []
+pub empty : (rest : List ℕ) → (length rest == 0) ≡ true → rest ≡ []
 empty [] h = refl
 empty (x ∷ rest) h = absurd (omega (arith, eqb-true (length (x ∷ rest)) 0 h))
 

@@ -3,7 +3,10 @@ pub mod Words
 pub mod Lexing
 pub mod Places
 pub mod Trees
+pub mod Values
 pub mod Wholes
+pub mod Objects
+pub mod Plain
 pub mod Fronts
 pub mod Cuts
 pub mod Read

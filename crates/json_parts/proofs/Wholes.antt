@@ -1,74 +1,20 @@
 -- Where each part has a value, the whole is the object of their list.
-use Rattle.std.proofs.Common.{◌≡◌, ℕ, ◌<◌, ◌≤◌, Bool, true, false, ◌&&◌, if◌then◌else◌, List, [], ◌∷◌, ◌++◌, length, map, Option, Some, None, is_some, option_map, option_and_then, IsUtf8, refl, sym, ap, ◌∙◌, subst, arith, append_assoc, append-nil}
-use Rattle.std.proofs.lemmas.Bool.{false≢true, and_parts}
-use Rattle.std.proofs.lemmas.Str.{IsUtf8-append, IsUtf8-nil, IsUtf8-from_is_utf8}
-use Rattle.std.specs.Str.{is_utf8}
+use Rattle.std.proofs.Common.{◌≡◌, ℕ, ◌<◌, ◌≤◌, true, false, List, [], ◌∷◌, ◌++◌, length, map, Option, Some, None, is_some, option_map, option_and_then, IsUtf8, refl, sym, ap, ◌∙◌, subst, arith, append_assoc}
+use Rattle.std.proofs.lemmas.Bool.{false≢true}
+use Rattle.std.proofs.lemmas.Str.{IsUtf8-append, IsUtf8-nil}
 use Rattle.std.specs.Borrow.{Bor}
 use Rattle.json.specs.Token.{Token, begin_object, begin_array, end_array, key}
-use Rattle.json.specs.Lex.{fresh, after_value, between, lex, begins_colon, punctuate, tokens}
-use Rattle.json.specs.Word.{ends_word}
+use Rattle.json.specs.Lex.{fresh, after_value, between, lex, punctuate, tokens}
 use Rattle.json.specs.Json as json
-use Rattle.json.specs.Json.{Json, value, if_last}
-use Rattle.json.specs.Tree.{json_tokens, items_tokens, depth, items_depth}
-use Rattle.json.proofs.Printed.Trees.{value-json_tokens}
+use Rattle.json.specs.Json.{Json}
+use Rattle.json.specs.Tree.{json_tokens, items_tokens, items_depth}
 use Rattle.json.proofs.Printed.Utf8.{IsUtf8-are_ascii}
-use Rattle.json.proofs.Unique.Spelling.{value-json_tokens_back}
-use Rattle.json.proofs.Nesting.{value-depth}
 use Rattle.serde_json.specs.Data.{Data, array, object, Items, no_items, item, no_members, member}
 use Rattle.serde_json.specs.Read.{of_json, of_items, of_members, read}
-use Rattle.json_parts.specs.Parts.{joined, is_end, is_shallow, part_of, parts_of, AreParts}
+use Rattle.json_parts.specs.Parts.{joined, part_of, parts_of, AreParts}
 use Rattle.json_parts.specs.Lists.{Holds}
-use Rattle.json_parts.proofs.Lexing.{lex_more}
-use Rattle.json_parts.proofs.Places.{all_good, ended, starts, punctuate_more, after_a_comma, lexemes_good}
-use Rattle.json_parts.proofs.Trees.{value_good, value_ended}
-
--- ---- a part
-
--- the text is spelled by a JSON value nested at most 125 deep, which means this one
-record Means (part : List ℕ) (d : Data) : Type 0 where
-  j : Json
-  utf8 : IsUtf8 part
-  spelled : tokens part ≡ json_tokens j
-  shallow : depth j ≤ 125
-  means : of_json j ≡ Some d
-
--- what is read of the tokens of a value
-read_of : (text : List ℕ) (j : Json) → tokens text ≡ json_tokens j → depth j ≤ 127 → read text ≡ of_json j
-read_of text j is h =
-    ap (λ ts. option_and_then of_json (option_and_then (λ p. if_last p.0 p.1) (value 127 ts))) (is ∙ sym (append-nil (json_tokens j)))
-    ∙ ap (λ o. option_and_then of_json (option_and_then (λ p. if_last p.0 p.1) o)) (value-json_tokens j 127 [] h)
-
-of_value : (part : List ℕ) (d : Data) (o : Option (Json × List Token)) → IsUtf8 part → value 125 (tokens part) ≡ o → is_end (option_map (λ p. p.1) o) ≡ true → read part ≡ Some d → Means part d
-of_value part d None utf8 is end h = absurd (false≢true end)
-of_value part d (Some (j, u ∷ us)) utf8 is end h = absurd (false≢true end)
-of_value part d (Some (j, [])) utf8 is end h =
-    let spelled = value-json_tokens_back 125 (tokens part) [] j is ∙ append-nil (json_tokens j) in
-    let shallow = value-depth 125 (tokens part) [] j is in
-    record { j = j; utf8 = utf8; spelled = spelled; shallow = shallow; means = sym (read_of part j spelled (omega (arith, shallow))) ∙ h }
-
-shallow_end : (part : List ℕ) → is_shallow part ≡ true → is_end (option_map (λ p. p.1) (value 125 (tokens part))) ≡ true
-unfolding is_shallow
-shallow_end part h = h
-
-if_part : (part : List ℕ) (d : Data) (b : Bool) → (is_utf8 part && is_shallow part) ≡ b → (if b then read part else None) ≡ Some d → Means part d
-if_part part d false is h = absurd (false≢true (ap is_some h))
-if_part part d true is h =
-    let parts = and_parts (is_utf8 part) (is_shallow part) is in
-    of_value part d (value 125 (tokens part)) (IsUtf8-from_is_utf8 part parts.0) refl (shallow_end part parts.1) h
-
-of_part : (part : List ℕ) (d : Data) → part_of part ≡ Some d → Means part d
-unfolding part_of
-of_part part d h = if_part part d (is_utf8 part && is_shallow part) refl h
-
--- ---- a part before what follows it
-
-follows : (part u : List ℕ) (d : Data) (m : Means part d) → ends_word u ≡ true → begins_colon (lex between u) ≡ false
-    → punctuate fresh (lex between (part ++ u)) ≡ json_tokens m.j ++ punctuate after_value (lex between u)
-follows part u d m ended_there no_colon =
-    let good = subst (λ ts. all_good ts ≡ true) (sym m.spelled) (value_good m.j) in
-    let last = subst (λ ts. ended false ts ≡ true) (sym m.spelled) (value_ended m.j false) in
-    ap (punctuate fresh) (lex_more u ended_there part (lexemes_good (lex between part) fresh good))
-    ∙ punctuate_more (lex between u) no_colon (lex between part) fresh good last ∙ ap (λ ts. ts ++ punctuate after_value (lex between u)) m.spelled
+use Rattle.json_parts.proofs.Places.{starts, after_a_comma}
+use Rattle.json_parts.proofs.Values.{Means, read_of, of_text, follows, ascii_first}
 
 -- ---- the parts with commas between them, before the bracket that closes the list
 
@@ -88,10 +34,7 @@ item_begins (json.string s) us ts = refl
 item_begins (json.array js) us ts = refl
 item_begins (json.object ms) us ts = refl
 
-ascii_first : (x : ℕ) (xs : List ℕ) → IsUtf8 (x ∷ []) → IsUtf8 xs → IsUtf8 (x ∷ xs)
-ascii_first x xs one rest = IsUtf8-append (x ∷ []) xs one rest
-
-last_part : (part : List ℕ) (d : Data) → Means part d → Lists (part ∷ []) (item d no_items)
+last_part : (part : List ℕ) (d : Data) → Means 125 part d → Lists (part ∷ []) (item d no_items)
 unfolding lex punctuate
 last_part part d m =
     record {
@@ -100,10 +43,10 @@ last_part part d m =
       means = ap (option_and_then (λ v. option_map (item v) (Some no_items))) m.means;
       utf8 = m.utf8;
       begins = λ ts. item_begins m.j (end_array ∷ []) ts;
-      spelled = λ end. follows part (93 ∷ end) d m refl refl ∙ sym (append_assoc (json_tokens m.j) (end_array ∷ []) (punctuate after_value (lex between end)));
+      spelled = λ end. follows 125 part (93 ∷ end) d m refl refl ∙ sym (append_assoc (json_tokens m.j) (end_array ∷ []) (punctuate after_value (lex between end)));
     }
 
-one_more : (part other : List ℕ) (others : List (List ℕ)) (d : Data) (values : Items) → Means part d → Lists (other ∷ others) values → Lists (part ∷ other ∷ others) (item d values)
+one_more : (part other : List ℕ) (others : List (List ℕ)) (d : Data) (values : Items) → Means 125 part d → Lists (other ∷ others) values → Lists (part ∷ other ∷ others) (item d values)
 unfolding lex punctuate
 one_more part other others d values m later =
     let rest = joined (other ∷ others) in
@@ -116,7 +59,7 @@ one_more part other others d values m later =
       utf8 = IsUtf8-append part (44 ∷ rest) m.utf8 (ascii_first 44 rest (IsUtf8-are_ascii (44 ∷ []) refl) later.utf8);
       begins = λ ts. item_begins m.j (items_tokens later.js) ts;
       spelled = λ end.
-          ap (λ l. punctuate fresh (lex between l)) (append_assoc part (44 ∷ rest) (93 ∷ end)) ∙ follows part (44 ∷ (rest ++ 93 ∷ end)) d m refl refl
+          ap (λ l. punctuate fresh (lex between l)) (append_assoc part (44 ∷ rest) (93 ∷ end)) ∙ follows 125 part (44 ∷ (rest ++ 93 ∷ end)) d m refl refl
           ∙ ap (λ ts. json_tokens m.j ++ ts) (after end) ∙ sym (append_assoc (json_tokens m.j) (items_tokens later.js) (tail end));
     }
 
@@ -125,7 +68,7 @@ one_more part other others d values m later =
 record Splits (part : List ℕ) (parts : List (List ℕ)) (values : Items) : Type 0 where
   d : Data
   rest : Items
-  first : Means part d
+  first : Means 125 part d
   later : parts_of parts ≡ Some rest
   is : item d rest ≡ values
 
@@ -139,7 +82,7 @@ some_is x y h = ap (or_else x) h
 splits : (part : List ℕ) (parts : List (List ℕ)) (values : Items) (o : Option Data) (r : Option Items) → part_of part ≡ o → parts_of parts ≡ r → option_and_then (λ v. option_map (item v) r) o ≡ Some values → Splits part parts values
 splits part parts values None r is later h = absurd (false≢true (ap is_some h))
 splits part parts values (Some d) None is later h = absurd (false≢true (ap is_some h))
-splits part parts values (Some d) (Some rest) is later h = record { d = d; rest = rest; first = of_part part d is; later = later; is = some_is (item d rest) values h }
+splits part parts values (Some d) (Some rest) is later h = record { d = d; rest = rest; first = of_text 125 (omega arith) part d is; later = later; is = some_is (item d rest) values h }
 
 lists : (part : List ℕ) (parts : List (List ℕ)) (values : Items) → parts_of (part ∷ parts) ≡ Some values → Lists (part ∷ parts) values
 lists part [] values h =

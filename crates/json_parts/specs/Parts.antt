@@ -20,13 +20,17 @@ is_end None = false
 is_end (Some []) = true
 is_end (Some (t ∷ ts)) = false
 
--- a JSON text nested at most 125 deep, which may stand in a list within an object
-unfoldable pub is_shallow : List ℕ → Bool
-is_shallow text = is_end (skip_value 125 (tokens text))
+-- a JSON text nested at most so deep
+unfoldable pub is_shallow : ℕ → List ℕ → Bool
+is_shallow depth text = is_end (skip_value depth (tokens text))
 
 -- the value that bytes are, where they are such a text
-unfoldable pub part_of : List ℕ → Option Data
-part_of bytes = if is_utf8 bytes && is_shallow bytes then read bytes else None
+unfoldable pub value_of : ℕ → List ℕ → Option Data
+value_of depth bytes = if is_utf8 bytes && is_shallow depth bytes then read bytes else None
+
+-- the value of a text that stands in a list within an object
+abbrev pub part_of : List ℕ → Option Data
+part_of = value_of 125
 
 -- the values of parts, where each has one
 abbrev pub parts_of : List (List ℕ) → Option Items

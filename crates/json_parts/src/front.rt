@@ -15,13 +15,13 @@ pub(crate) fn list_in<'a>(key: &str, text: &'a [u8]) -> Option<&'a [u8]>
 {
     let members = after(b'{', text)?;
     let value = after(b':', after_key(key, members)?)?;
-    let (list, end) = around_last(after(b'[', value)?)?;
+    let (list, end) = around_last(b']', after(b'[', value)?)?;
     let rest = after_spaces(after(b'}', end)?);
     if rest.is_empty() { Some(list) } else { None }
 }
 
-// What follows an operator, before which there may be white space.
-fn after(byte: u8, text: &[u8]) -> Option<&[u8]>
+/// What follows an operator, before which there may be white space.
+pub(crate) fn after(byte: u8, text: &[u8]) -> Option<&[u8]>
     requires { is_operator byte ≡ true }
     ensures { IfSome result (λ rest. Leads (operator_lexeme byte ∷ []) text.now rest.now) }
 {
@@ -31,8 +31,8 @@ fn after(byte: u8, text: &[u8]) -> Option<&[u8]>
     }
 }
 
-// What follows a key, before which there may be white space.
-fn after_key<'a>(key: &str, text: &'a [u8]) -> Option<&'a [u8]>
+/// What follows a key, before which there may be white space.
+pub(crate) fn after_key<'a>(key: &str, text: &'a [u8]) -> Option<&'a [u8]>
     requires { escape key.now ≡ key.now }
     ensures { IfSome result (λ rest. Leads (token (string key.now) ∷ []) text.now rest.now) }
 {
@@ -42,14 +42,14 @@ fn after_key<'a>(key: &str, text: &'a [u8]) -> Option<&'a [u8]>
 }
 
 #[tactic(auto, using(crate::proofs::Fronts::stripped))]
-fn after_bytes<'a>(bytes: &[u8], text: &'a [u8]) -> Option<&'a [u8]>
+pub(crate) fn after_bytes<'a>(bytes: &[u8], text: &'a [u8]) -> Option<&'a [u8]>
     ensures { IfSome result (λ rest. text.now ≡ bytes.now ++ rest.now) }
 {
     text.strip_prefix(bytes)
 }
 
 #[tactic(auto, using(crate::proofs::Fronts::leads_itself))]
-fn after_spaces(text: &[u8]) -> &[u8]
+pub(crate) fn after_spaces(text: &[u8]) -> &[u8]
     ensures { Leads [] text.now result.now }
 {
     let mut rest = text;
@@ -68,20 +68,20 @@ fn is_space(byte: u8) -> bool
     byte == b' ' || byte == b'\t' || byte == b'\n' || byte == b'\r'
 }
 
-// What stands before the last closing bracket, and after it.
-fn around_last(text: &[u8]) -> Option<(&[u8], &[u8])>
-    ensures { IfSome result (λ r. text.now ≡ r.0.now ++ 93 ∷ r.1.now) }
+/// What stands before the last such byte, and after it.
+pub(crate) fn around_last(byte: u8, text: &[u8]) -> Option<(&[u8], &[u8])>
+    ensures { IfSome result (λ r. text.now ≡ r.0.now ++ byte ∷ r.1.now) }
 {
-    around(b']', last_bracket(text), text)
+    around(byte, last_place(byte, text), text)
 }
 
-// The place of the last closing bracket, or 0 where there is none.
-fn last_bracket(text: &[u8]) -> usize
+// The place of the last such byte, or 0 where there is none.
+fn last_place(byte: u8, text: &[u8]) -> usize
     ensures { result ≤ length text.now }
 {
     let mut front = text;
     while let Some((last, before)) = front.split_last() {
-        if *last == b']' {
+        if *last == byte {
             return before.len();
         }
         front = before;
