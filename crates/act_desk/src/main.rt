@@ -11,14 +11,13 @@ use desk_run::{
     BookName, Found, MadeBook, StorePlace, Task, made_books, read_arguments, run, tell,
 };
 use keep_core::MemoryKeeper;
-use keep_sql::SqlKeeper;
 use links::Door;
 use rule_book::Thirty;
 use snap_tree::{List, Text};
-use sqlite::{Connection, Error, ErrorCode, File, FileStore};
+use sqlite::Unknown;
 use std::process::ExitCode;
 use std::thread::Threads;
-use store_run::run_store;
+use store_run::run_file;
 use streams::{Reader, Writer};
 use tcp_door::{Patience, TcpDoor};
 
@@ -37,7 +36,7 @@ fn main(rt: HostRuntime) -> ExitCode {
     }
 }
 
-// Does a task by the books of one type, and gives the status that `run` or `run_store` ends with, or what is found before.
+// Does a task by the books of one type, and gives the status that `run` or `run_file` ends with, or what is found before.
 fn done_by<B: MadeBook, R: Threads + Sync, D: Door>(
     system: &HostRuntime,
     threads: &R,
@@ -61,12 +60,18 @@ fn done_by<B: MadeBook, R: Threads + Sync, D: Door>(
                 threads, alloc, words, &mut input, &mut out, &mut err, &mut kept, door, &mut books,
             ))
         }
-        StorePlace::File { path } => {
-            let mut kept = opened(system, path.as_str())?;
-            Ok(run_store(
-                threads, alloc, words, &mut input, &mut out, &mut err, &mut kept, door, &mut books,
-            ))
-        }
+        StorePlace::File { path } => Ok(run_file(
+            system,
+            threads,
+            Unknown,
+            path.as_str(),
+            words,
+            &mut input,
+            &mut out,
+            &mut err,
+            door,
+            &mut books,
+        )),
     }
 }
 
@@ -75,13 +80,4 @@ fn ending(rt: &HostRuntime, found: &Found) -> ExitCode {
     let mut out = Writer::new(rt.stdout());
     let mut err = Writer::new(rt.stderr());
     ExitCode::from(tell(&mut out, &mut err, found).number())
-}
-
-// A keeper over the file of this name, which is made where there is none.
-fn opened(rt: &HostRuntime, path: &str) -> Result<SqlKeeper<FileStore<File>>, Found> {
-    match Connection::open(rt, path) {
-        Ok(conn) => Ok(SqlKeeper::new(conn)),
-        Err(Error::SqliteFailure(ErrorCode::OutOfMemory)) => Err(Found::NoMemory),
-        Err(_) => Err(Found::StoreFault),
-    }
 }
