@@ -1,5 +1,5 @@
 -- The tags that roles, names and rules know.
-use Rattle.std.specs.Prelude.{ℕ, Bool, false, ◌==◌, List, [], ◌∷◌, codes, Option, Some, None, option_and_then}
+use Rattle.std.specs.Prelude.{ℕ, Bool, false, ◌==◌, ◌&&◌, List, [], ◌∷◌, length, codes, Option, Some, None, option_and_then}
 use Rattle.std.specs.List.{find}
 use Rattle.snap_tree.specs.declared.row.Space.{Space}
 use Rattle.snap_tree.specs.declared.row.Space.TheVariants.{Html, Svg, Other}
@@ -112,10 +112,10 @@ all_tags =
     tag.Summary ∷ tag.Sup ∷ tag.Table ∷ tag.Tbody ∷ tag.Td ∷ tag.Textarea ∷ tag.Tfoot ∷ tag.Th ∷
     tag.Thead ∷ tag.Time ∷ tag.Title ∷ tag.Tr ∷ tag.U ∷ tag.Ul ∷ tag.Var ∷ []
 
--- whether a word begins with this letter
-abbrev pub begins : ℕ → List ℕ → Bool
-begins letter [] = false
-begins letter (b ∷ word) = b == letter
+-- whether a word begins with this letter and has this length
+abbrev pub is_of : ℕ → ℕ → List ℕ → Bool
+is_of letter len [] = false
+is_of letter len (b ∷ word) = b == letter && length (b ∷ word) == len
 
 -- the tag of this word, which compares with ASCII letters in lower case; none where it isn't known
 abbrev pub tag_among : List ℕ → List Tag → Option Tag

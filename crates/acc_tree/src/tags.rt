@@ -1,6 +1,6 @@
 ghost use Rattle.std.specs.Prelude.{◌≡◌, filter};
 ghost use Rattle.texts.specs.Words.{same_folded};
-ghost use Rattle.acc_tree.specs.Tags.{tag_word, all_tags, begins, tag_among, known_tag, space_in, any_tag, in_html, html_tag};
+ghost use Rattle.acc_tree.specs.Tags.{tag_word, all_tags, is_of, tag_among, known_tag, space_in, any_tag, in_html, html_tag};
 ghost use Rattle.acc_tree.specs.Seen.{seen_row};
 
 use snap_tree::{Body, Row, Space, same_folded};
@@ -192,102 +192,142 @@ impl Tag {
     }
 }
 
-// The tags whose words begin with this letter.
-fn tags_of_letter(letter: u8) -> &'static [Tag]
-    ensures { result.now ≡ filter (λ t. begins letter (tag_word t)) all_tags }
+// The tags whose words begin with this letter and have this length.
+#[tactic(auto, using(crate::proofs::Tagging::tags_at), unfolding(crate::specs::Tags::tag_word))]
+fn tags_of(letter: u8, len: usize) -> &'static [Tag]
+    ensures { result.now ≡ filter (λ t. is_of letter len (tag_word t)) all_tags }
 {
     match letter {
-        b'a' => &[
-            Tag::A,
-            Tag::Abbr,
-            Tag::Address,
-            Tag::Area,
-            Tag::Article,
-            Tag::Aside,
-        ],
-        b'b' => &[
-            Tag::B,
-            Tag::Bdi,
-            Tag::Bdo,
-            Tag::Blockquote,
-            Tag::BodyTag,
-            Tag::Button,
-        ],
-        b'c' => &[Tag::Caption, Tag::Cite, Tag::Code],
-        b'd' => &[
-            Tag::Datalist,
-            Tag::Dd,
-            Tag::Del,
-            Tag::Details,
-            Tag::Dfn,
-            Tag::Dialog,
-            Tag::Div,
-            Tag::Dt,
-        ],
-        b'e' => &[Tag::Em],
-        b'f' => &[
-            Tag::Fieldset,
-            Tag::Figcaption,
-            Tag::Figure,
-            Tag::Footer,
-            Tag::Form,
-        ],
-        b'h' => &[
-            Tag::H1,
-            Tag::H2,
-            Tag::H3,
-            Tag::H4,
-            Tag::H5,
-            Tag::H6,
-            Tag::Header,
-            Tag::Hr,
-            Tag::Html,
-        ],
-        b'i' => &[Tag::I, Tag::Iframe, Tag::Img, Tag::Input, Tag::Ins],
-        b'k' => &[Tag::Kbd],
-        b'l' => &[Tag::Label, Tag::Legend, Tag::Li],
-        b'm' => &[Tag::Main, Tag::Mark, Tag::Menu, Tag::Meta, Tag::Meter],
-        b'n' => &[Tag::Nav],
-        b'o' => &[Tag::Ol, Tag::Optgroup, Tag::OptionTag, Tag::Output],
-        b'p' => &[Tag::P, Tag::Pre, Tag::Progress],
-        b'q' => &[Tag::Q],
-        b's' => &[
-            Tag::S,
-            Tag::Samp,
-            Tag::Search,
-            Tag::Section,
-            Tag::Select,
-            Tag::Small,
-            Tag::Span,
-            Tag::Strong,
-            Tag::Sub,
-            Tag::Summary,
-            Tag::Sup,
-        ],
-        b't' => &[
-            Tag::Table,
-            Tag::Tbody,
-            Tag::Td,
-            Tag::Textarea,
-            Tag::Tfoot,
-            Tag::Th,
-            Tag::Thead,
-            Tag::Time,
-            Tag::Title,
-            Tag::Tr,
-        ],
-        b'u' => &[Tag::U, Tag::Ul],
-        b'v' => &[Tag::Var],
+        b'a' => match len {
+            1 => &[Tag::A],
+            4 => &[Tag::Abbr, Tag::Area],
+            5 => &[Tag::Aside],
+            7 => &[Tag::Address, Tag::Article],
+            _ => &[],
+        },
+        b'b' => match len {
+            1 => &[Tag::B],
+            3 => &[Tag::Bdi, Tag::Bdo],
+            4 => &[Tag::BodyTag],
+            6 => &[Tag::Button],
+            10 => &[Tag::Blockquote],
+            _ => &[],
+        },
+        b'c' => match len {
+            4 => &[Tag::Cite, Tag::Code],
+            7 => &[Tag::Caption],
+            _ => &[],
+        },
+        b'd' => match len {
+            2 => &[Tag::Dd, Tag::Dt],
+            3 => &[Tag::Del, Tag::Dfn, Tag::Div],
+            6 => &[Tag::Dialog],
+            7 => &[Tag::Details],
+            8 => &[Tag::Datalist],
+            _ => &[],
+        },
+        b'e' => match len {
+            2 => &[Tag::Em],
+            _ => &[],
+        },
+        b'f' => match len {
+            4 => &[Tag::Form],
+            6 => &[Tag::Figure, Tag::Footer],
+            8 => &[Tag::Fieldset],
+            10 => &[Tag::Figcaption],
+            _ => &[],
+        },
+        b'h' => match len {
+            2 => &[
+                Tag::H1,
+                Tag::H2,
+                Tag::H3,
+                Tag::H4,
+                Tag::H5,
+                Tag::H6,
+                Tag::Hr,
+            ],
+            4 => &[Tag::Html],
+            6 => &[Tag::Header],
+            _ => &[],
+        },
+        b'i' => match len {
+            1 => &[Tag::I],
+            3 => &[Tag::Img, Tag::Ins],
+            5 => &[Tag::Input],
+            6 => &[Tag::Iframe],
+            _ => &[],
+        },
+        b'k' => match len {
+            3 => &[Tag::Kbd],
+            _ => &[],
+        },
+        b'l' => match len {
+            2 => &[Tag::Li],
+            5 => &[Tag::Label],
+            6 => &[Tag::Legend],
+            _ => &[],
+        },
+        b'm' => match len {
+            4 => &[Tag::Main, Tag::Mark, Tag::Menu, Tag::Meta],
+            5 => &[Tag::Meter],
+            _ => &[],
+        },
+        b'n' => match len {
+            3 => &[Tag::Nav],
+            _ => &[],
+        },
+        b'o' => match len {
+            2 => &[Tag::Ol],
+            6 => &[Tag::OptionTag, Tag::Output],
+            8 => &[Tag::Optgroup],
+            _ => &[],
+        },
+        b'p' => match len {
+            1 => &[Tag::P],
+            3 => &[Tag::Pre],
+            8 => &[Tag::Progress],
+            _ => &[],
+        },
+        b'q' => match len {
+            1 => &[Tag::Q],
+            _ => &[],
+        },
+        b's' => match len {
+            1 => &[Tag::S],
+            3 => &[Tag::Sub, Tag::Sup],
+            4 => &[Tag::Samp, Tag::Span],
+            5 => &[Tag::Small],
+            6 => &[Tag::Search, Tag::Select, Tag::Strong],
+            7 => &[Tag::Section, Tag::Summary],
+            _ => &[],
+        },
+        b't' => match len {
+            2 => &[Tag::Td, Tag::Th, Tag::Tr],
+            4 => &[Tag::Time],
+            5 => &[Tag::Table, Tag::Tbody, Tag::Tfoot, Tag::Thead, Tag::Title],
+            8 => &[Tag::Textarea],
+            _ => &[],
+        },
+        b'u' => match len {
+            1 => &[Tag::U],
+            2 => &[Tag::Ul],
+            _ => &[],
+        },
+        b'v' => match len {
+            3 => &[Tag::Var],
+            _ => &[],
+        },
         _ => &[],
     }
 }
 
-// Most tags are told apart by their lengths.
+// Most words are in lower case, where one comparison of whole words is enough.
 fn is_tag(text: &str, tag: Tag) -> bool
     ensures { result ≡ same_folded text.now (tag_word tag) }
 {
     let word = tag.word();
-    text.len() == word.len() && same_folded(text, word)
+    text == word || same_folded(text, word)
 }
 
 fn tag_among(text: &str, tags: &[Tag]) -> Option<Tag>
@@ -297,12 +337,12 @@ fn tag_among(text: &str, tags: &[Tag]) -> Option<Tag>
 }
 
 /// The tag of a word, which compares ASCII case-insensitively; None where it isn't known. A word is
-/// compared with the tags of its first letter alone.
+/// compared with the tags of its first letter and its length alone.
 pub fn known_tag(text: &str) -> Option<Tag>
     ensures { result ≡ known_tag text.now }
 {
     match text.as_bytes().first() {
-        Some(first) => tag_among(text, tags_of_letter(first.to_ascii_lowercase())),
+        Some(first) => tag_among(text, tags_of(first.to_ascii_lowercase(), text.len())),
         None => None,
     }
 }
