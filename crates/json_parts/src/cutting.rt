@@ -5,7 +5,7 @@ ghost use Rattle.json.specs.Print.{escape};
 ghost use Rattle.json_parts.specs.Parts.{joined, AreParts};
 
 use crate::front::{around, list_in};
-use crate::scan::first_comma;
+use crate::scan::{alike_comma, first_comma};
 use std::alloc::Global;
 use texts::OutOfMemory;
 
@@ -26,20 +26,36 @@ pub fn cut<'a>(
     }
 }
 
-// The texts between the commas of a list.
+// By how many bytes it is known that objects of a list begin alike.
+const ALIKE: usize = 6;
+
+// The texts between the commas of a list. Where its items are objects that begin alike, they are found by that, which is quicker
+// than to look at each byte.
 #[tactic(auto, using(crate::proofs::Cuts::shorter))]
 fn items_of<'a>(alloc: Global, list: &'a [u8]) -> Result<Vec<&'a [u8]>, OutOfMemory>
     ensures joined { IfOk result (λ parts. joined (map (λ p. p.now) parts.items) ≡ list.now) }
     ensures some { IfOk result (λ parts. 0 < length parts.items) }
 {
+    let (front, _) = list.split_at(list.len().min(ALIKE));
     let mut parts = Vec::new(alloc);
     let mut rest = list;
+    'alike: while let Some((part, later)) = alike_item(front, rest) {
+        parts.push(part)?;
+        rest = later;
+    }
     while let Some((part, later)) = first_item(rest) {
         parts.push(part)?;
         rest = later;
     }
     parts.push(rest)?;
     Ok(parts)
+}
+
+// The text before the first comma that stands between objects and before this front, and the text after it; None where there is none.
+fn alike_item<'a>(front: &[u8], list: &'a [u8]) -> Option<(&'a [u8], &'a [u8])>
+    ensures { IfSome result (λ r. list.now ≡ r.0.now ++ 44 ∷ r.1.now) }
+{
+    around(b',', alike_comma(front, list), list)
 }
 
 // The text before the first comma between items, and the text after it; None where there is none.

@@ -8,3 +8,9 @@ invariant-loop-part l = joined (map shown l.parts.items ++ l.rest ∷ []) ≡ l.
 
 abbrev pub decreases-loop-part : goal.decreases-loop-part
 decreases-loop-part l = length l.rest
+
+abbrev pub invariant-alike : goal.invariant-alike
+invariant-alike l = joined (map shown l.parts.items ++ l.rest ∷ []) ≡ l.list
+
+abbrev pub decreases-alike : goal.decreases-alike
+decreases-alike l = length l.rest
