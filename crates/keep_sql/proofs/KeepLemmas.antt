@@ -48,7 +48,7 @@ told_is s t is = by s.is_clean refl s.is_open refl is
 pub told_by : (s : State) (t : Tables) → IsTold s t → told s ≡ Some t
 told_by s t h = told_rows s h.clean h.is_open ∙ h.gives
 
-clean_before : (a b : ℕ) → a ≤ b → b ≡ 0 → a ≡ 0
+pub clean_before : (a b : ℕ) → a ≤ b → b ≡ 0 → a ≡ 0
 clean_before a b le zero = omega (arith, le, zero)
 
 module _ (old new : State) (clean : doubt old.is_clean ≤ doubt new.is_clean) where

@@ -1,5 +1,6 @@
 pub mod Ready
 pub mod Checking
+pub mod Remembering
 pub mod Stepping
 pub mod Wholes
 pub mod Changed

@@ -1,5 +1,6 @@
 pub mod Reading
 pub mod Writing
+pub mod Remembering
 pub mod Keeper
 pub mod Fitting
 pub mod Preparing

@@ -14,7 +14,7 @@ use crate::calls::{
     read_edition, read_heads, read_judgements, read_memberships, read_names, read_outcomes,
     read_page, read_site,
 };
-use crate::known::Known;
+use crate::known::{Known, copy_of, put_by};
 use crate::{changes, preparing};
 use counts::next;
 use judge_core::{Judgement, Outcomes};
@@ -45,7 +45,7 @@ pub struct SqlKeeper<S: Alter> {
     shut: Option<S>,
     faults: u64,
     memo: Memo,
-    // What the last call answered, where that was `outcomes`.
+    // The outcomes of the page that were read or put last, until another change.
     known: Option<Known>,
 }
 
@@ -201,7 +201,6 @@ impl<S: Alter> Keeper for SqlKeeper<S> {
         ensures waits { WaitsFailing self.old self.new result }
         ensures crash { Across S.Store LeavesAll self.old.ready self.new.ready }
     {
-        self.known = None;
         let Some(conn) = &mut self.ready else {
             return Err(refused(&mut self.faults));
         };
@@ -218,7 +217,6 @@ impl<S: Alter> Keeper for SqlKeeper<S> {
         ensures waits { WaitsFailing self.old self.new result }
         ensures crash { Across S.Store LeavesAll self.old.ready self.new.ready }
     {
-        self.known = None;
         let Some(conn) = &mut self.ready else {
             return Err(refused(&mut self.faults));
         };
@@ -235,7 +233,6 @@ impl<S: Alter> Keeper for SqlKeeper<S> {
         ensures waits { WaitsFailing self.old self.new result }
         ensures crash { Across S.Store LeavesAll self.old.ready self.new.ready }
     {
-        self.known = None;
         let Some(conn) = &mut self.ready else {
             return Err(refused(&mut self.faults));
         };
@@ -251,7 +248,6 @@ impl<S: Alter> Keeper for SqlKeeper<S> {
         ensures waits { WaitsFailing self.old self.new result }
         ensures crash { Across S.Store LeavesAll self.old.ready self.new.ready }
     {
-        self.known = None;
         let Some(conn) = &mut self.ready else {
             return Err(refused(&mut self.faults));
         };
@@ -268,7 +264,6 @@ impl<S: Alter> Keeper for SqlKeeper<S> {
         ensures waits { WaitsFailing self.old self.new result }
         ensures crash { Across S.Store LeavesAll self.old.ready self.new.ready }
     {
-        self.known = None;
         let Some(conn) = &mut self.ready else {
             return Err(refused(&mut self.faults));
         };
@@ -285,7 +280,6 @@ impl<S: Alter> Keeper for SqlKeeper<S> {
         ensures waits { WaitsFailing self.old self.new result }
         ensures crash { Across S.Store LeavesAll self.old.ready self.new.ready }
     {
-        self.known = None;
         let Some(conn) = &mut self.ready else {
             return Err(refused(&mut self.faults));
         };
@@ -306,7 +300,6 @@ impl<S: Alter> Keeper for SqlKeeper<S> {
         ensures waits { WaitsFailing self.old self.new result }
         ensures crash { Across S.Store LeavesAll self.old.ready self.new.ready }
     {
-        self.known = None;
         let Some(conn) = &mut self.ready else {
             return Err(refused(&mut self.faults));
         };
@@ -322,10 +315,12 @@ impl<S: Alter> Keeper for SqlKeeper<S> {
         ensures waits { WaitsFailing self.old self.new result }
         ensures crash { Across S.Store LeavesAll self.old.ready self.new.ready }
     {
-        self.known = None;
         let Some(conn) = &mut self.ready else {
             return Err(refused(&mut self.faults));
         };
+        if let Some(outcomes) = copy_of(alloc, &self.known, site, page)? {
+            return Ok(outcomes);
+        }
         match read_outcomes(alloc, conn, site, page) {
             Ok(outcomes) => {
                 self.known = Known::of(alloc, site, page, &outcomes);
@@ -350,7 +345,10 @@ impl<S: Alter> Keeper for SqlKeeper<S> {
         };
         see_numbers(&batch.change);
         match changes::make(alloc, &mut self.memo, conn, &batch.change, known) {
-            Ok(()) => Ok(()),
+            Ok(()) => {
+                self.known = put_by(alloc, &batch.change);
+                Ok(())
+            }
             Err(fault) => Err(fault_of(fault, &mut self.faults)),
         }
     }

@@ -26,8 +26,8 @@ use snap_tree::Text;
 use sqlite::{Alter, Transaction};
 use std::alloc::Global;
 use store_statements::{
-    add_edition, add_judgement, add_language, add_member, drop_editions, drop_languages,
-    drop_members, drop_outcomes, put_outcome, put_page, put_site,
+    add_edition, add_judgement, add_language, add_member, add_outcome, drop_editions,
+    drop_languages, drop_members, drop_outcomes, put_outcome, put_page, put_site,
 };
 use store_tables::{
     Memo, PageValues, StoreFault, column_number, judgement_row, outcome_row, page_values,
@@ -230,6 +230,22 @@ fn write_outcome<S: Alter>(
     Ok(())
 }
 
+// Adds an outcome at a place that none has.
+fn add_one<S: Alter>(
+    tx: &mut Transaction<'_, S>,
+    site: &str,
+    page: &str,
+    place: u64,
+    outcome: &OutRow,
+) -> Result<(), StoreFault>
+    ensures steps { Steps S.Store tx.old.conn tx.new.conn result }
+    ensures makes { MakesInside S.Store (ChangesOutcomes site.now page.now (put_row (name_at 2) (outcome_cells site.now page.now place outcome.now))) tx.old.conn tx.new.conn result }
+{
+    let row = outcome_row(place, outcome)?;
+    add_outcome(tx, site, page, &row)?;
+    Ok(())
+}
+
 // The place after so many more.
 fn place_after(place: u64, count: usize) -> Result<u64, StoreFault>
     ensures { IfOk result (λ next. next ≡ place + count) }
@@ -240,7 +256,7 @@ fn place_after(place: u64, count: usize) -> Result<u64, StoreFault>
     }
 }
 
-// In halves, so that many rows nest few calls.
+// Adds outcomes at places that none has. In halves, so that many rows nest few calls.
 fn add_outcomes<S: Alter>(
     tx: &mut Transaction<'_, S>,
     site: &str,
@@ -253,7 +269,7 @@ fn add_outcomes<S: Alter>(
 {
     if outcomes.len() < 2 {
         return match outcomes.first() {
-            Some(outcome) => write_outcome(tx, site, page, place, outcome),
+            Some(outcome) => add_one(tx, site, page, place, outcome),
             None => Ok(()),
         };
     }

@@ -3,7 +3,7 @@ use Rattle.std.proofs.Common.{◌≡◌, inl, inr, ℕ, List, [], ◌∷◌, cod
 use Rattle.sqlite_value.specs.declared.value.Value.TheVariants.{Null, Text}
 use Rattle.sqlite_value.specs.Order.{Row}
 use Rattle.sqlite_sql.specs.Term.{Term, lit, col}
-use Rattle.sqlite_schema.specs.declared.command.Command.TheVariants.{InsertOr, Delete, Select}
+use Rattle.sqlite_schema.specs.declared.command.Command.TheVariants.{Insert, InsertOr, Delete, Select}
 use Rattle.sqlite_schema.specs.declared.command.Conflict.TheVariants.{Replace}
 use Rattle.sqlite_schema.specs.declared.command.Source.TheVariants.{Values}
 use Rattle.sqlite.specs.Listing.{understood, reads_listing}
@@ -14,7 +14,7 @@ use Rattle.sql_rows.specs.Keyed.{KeyKind, IsKeyed, text, number}
 use Rattle.sql_rows.specs.Queries.{simple, wheres, shows, sorts}
 use Rattle.sql_rows.proofs.Canon.{name_same}
 use Rattle.sql_rows.proofs.Reading.{shows_group}
-use Rattle.sql_rows.proofs.Writing.{puts, drops}
+use Rattle.sql_rows.proofs.Writing.{puts, puts_more, drops}
 use Rattle.store_statements.specs.Schema.{the_schema, key_index, outcomes_table}
 use Rattle.store_statements.specs.Stored.{stored, outcomes_at}
 use Rattle.store_statements.specs.Changes.{IsReady, Makes, DropsOutcomes, PutsOutcome, outcome_cells}
@@ -74,6 +74,17 @@ put_outcome_plain : IsPlain (understood the_schema put_outcome_text)
 unfolding understood everything
 put_outcome_plain = (refl, refl)
 
+abbrev add_outcome_text : List ℕ
+add_outcome_text = codes "INSERT INTO outcomes (site, page, seq, rule, node, auto, reason, evidence, last, hand) VALUES (?1, ?2, ?3, ?4, ?5, ?6, ?7, ?8, ?9, ?10)"
+
+add_outcome_is : command_of (understood the_schema add_outcome_text) ≡ Insert 4 (Values put_outcome_terms 11)
+unfolding understood everything
+add_outcome_is = refl
+
+add_outcome_plain : IsPlain (understood the_schema add_outcome_text)
+unfolding understood everything
+add_outcome_plain = (refl, refl)
+
 module _ (old new : State) (ready : IsReady old) where
   pub shows_page_outcomes : (site page : List ℕ) → (rows : List Row) → Shown page_outcomes_text (Text site ∷ Text page ∷ []) old new rows → (rows ≡ outcomes_at site page (stored old.now.trees)) × IsUnchanged old new
   shows_page_outcomes site page rows h =
@@ -86,3 +97,7 @@ module _ (old new : State) (ready : IsReady old) where
   pub puts_outcome : (site page : List ℕ) (row : OutcomeRow) (count : ℕ) → ExecutesInside 0 put_outcome_text (outcome_cells site page row) old new (Ok count) → Makes (PutsOutcome site page row) old new
   puts_outcome site page row count h =
       made_outcomes site page _ old new (puts the_schema outcomes_table kinds keyed old new ready (outcome_cells site page row) (site ∷ page ∷ []) tt (rw (name_same site site refl, name_same page page refl) refl) (refl, (refl, (refl, tt))) put_outcome_text (outcome_cells site page row) count 4 11 put_outcome_terms refl put_outcome_is put_outcome_plain refl refl h)
+
+  pub adds_outcome : (site page : List ℕ) (row : OutcomeRow) (count : ℕ) → ExecutesInside 0 add_outcome_text (outcome_cells site page row) old new (Ok count) → Makes (PutsOutcome site page row) old new
+  adds_outcome site page row count h =
+      made_outcomes site page _ old new (puts_more the_schema outcomes_table kinds keyed old new ready (outcome_cells site page row) (site ∷ page ∷ []) (rw (name_same site site refl, name_same page page refl) refl) add_outcome_text (outcome_cells site page row) count 4 11 put_outcome_terms refl add_outcome_is add_outcome_plain refl refl h)

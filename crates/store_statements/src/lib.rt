@@ -25,6 +25,8 @@ pub use making::{make_last, make_tables};
 pub use members::{add_member, drop_members, make_members, site_members, user_sites};
 pub use opening::reopen;
 pub use ours::{is_older, is_ours};
-pub use outcomes::{OutcomeRow, drop_outcomes, make_outcomes, page_outcomes, put_outcome};
+pub use outcomes::{
+    OutcomeRow, add_outcome, drop_outcomes, make_outcomes, page_outcomes, put_outcome,
+};
 pub use pages::{drop_page, heads, make_pages, page_row, put_page};
 pub use sites::{make_sites, put_site, site_names, site_row};

@@ -139,3 +139,35 @@ pub fn put_outcome<S: Alter>(
         ],
     )
 }
+
+/// Adds an outcome of a page whose `seq` none has.
+///
+/// # Errors
+///
+/// Those of a statement of `sqlite`, after which the transaction may have been rolled back; a constraint where one has its
+/// `seq`.
+pub fn add_outcome<S: Alter>(
+    tx: &mut Transaction<'_, S>,
+    site: &str,
+    page: &str,
+    row: &OutcomeRow<'_>,
+) -> Result<usize, Error>
+    ensures steps { Steps S.Store tx.old.conn tx.new.conn result }
+    ensures makes { MakesInside S.Store (PutsOutcome site.now page.now row.now) tx.old.conn tx.new.conn result }
+{
+    tx.execute(
+        "INSERT INTO outcomes (site, page, seq, rule, node, auto, reason, evidence, last, hand) VALUES (?1, ?2, ?3, ?4, ?5, ?6, ?7, ?8, ?9, ?10)",
+        params![
+            site,
+            page,
+            row.seq,
+            row.rule,
+            row.node,
+            row.auto,
+            row.reason,
+            row.evidence,
+            row.last,
+            row.hand
+        ],
+    )
+}

@@ -6,10 +6,10 @@ use Rattle.keep_sql.proofs.writes.+add_outcomes.Goals as goal
 
 pub returns-in-Some-clause-makes : goal.returns-in-Some-clause-makes
 returns-in-Some-clause-makes g t c clean ready =
-    onward c.write_outcome.result
-    (one_outcome c.args.site.now c.args.page.now c.args.place c.args.outcomes.now c.in-Some.outcome.now (state g.S.Store c.args.tx.now.conn.now) (state g.S.Store c.write_outcome.new.tx.conn.now)
+    onward c.add_one.result
+    (one_outcome c.args.site.now c.args.page.now c.args.place c.args.outcomes.now c.in-Some.outcome.now (state g.S.Store c.args.tx.now.conn.now) (state g.S.Store c.add_one.new.tx.conn.now)
     (single c.args.outcomes.now c.in-Some.outcome.now c.in-Some.ensures.value c.if-outcomes-lt2.true))
-    (c.write_outcome.ensures.makes clean ready)
+    (c.add_one.ensures.makes clean ready)
 
 pub returns-clause-makes : goal.returns-clause-makes
 returns-clause-makes g t c clean ready =
